@@ -1,8 +1,8 @@
 #!/usr/bin/env python3
 """The bytes of trees with each byte changed in turn, and each front of them: changed_bytes.py PROGRAM
 
-`load` takes bytes exactly where they are those of a tree. For three trees each byte is changed to each of eight other
-values, and the end is left out from each byte on. The program has to answer as plain_pieces.py tells, and what it takes
+`load` takes bytes exactly if they are those of a tree. For three trees each byte is changed to each of eight other
+values, and the end is left out from each byte on. The program has to answer as plain_pieces.py does, and what it takes
 it has to save as just those bytes. A line is printed for each tree: `ok NAME`, or `FAILED NAME: WHY`.
 """
 import subprocess

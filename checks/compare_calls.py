@@ -3,9 +3,9 @@
 
 PROGRAM is `app_console`, and a CRATE is a folder with its source, or a file. Each call of a macro that the same file defines before it, or that one
 file of the crate alone defines, is given to `arms`, and to rustc with `stringify!` round the template of each rule; the number of the
-rule stands in front of each template. So what is compared is which rule answers, and the tokens that it writes. Of each definition so
+rule is in front of each template. So what is compared is which rule answers, and the tokens that it writes. Of each definition as
 many calls as `--most` says are taken. It prints how many definitions are read, how many calls are of each class, and a line for each
-call of a class in which WORD stands. No part of the gate: it needs rustc.
+call of a class whose name has WORD in it. No part of the gate: it needs rustc.
 """
 import argparse
 import collections
@@ -44,7 +44,7 @@ def comment_end(text, start):
 
 
 def documenting(comment):
-    """The tokens that stand for a comment, if it documents something."""
+    """The tokens that rustc makes of a comment, if it documents something."""
     found = re.match(r"//(/(?!/)|!)(.*)$|/\*(\*(?![*/])|!)(.*)\*/$", comment, re.S)
     if not found:
         return []
@@ -109,7 +109,7 @@ class File:
             at += step
 
     def arms(self, at, end):
-        """The arms that stand there: each pattern with its brackets, and what its template holds. None where they are no arms."""
+        """The arms at the front: each pattern with its brackets, and what its template holds. None if the trees are no arms."""
         arms = []
         while at < end:
             close = self.ends.get(at)
@@ -199,7 +199,7 @@ def told_by_program(program, calls):
 
 
 def crate_of(calls, numbers):
-    """The lines of a crate whose main prints what comes of these calls: two for each."""
+    """The lines of a crate whose main prints what these calls become: two for each."""
     lines = []
     for number in numbers:
         arms, given, _ = calls[number]

@@ -2,11 +2,11 @@
 """Texts whose macros are expanded, beside rustc: compare_expansions.py PROGRAM [--crates FOLDER..] [--made N] [--first SEED]
 
 PROGRAM is `cuvolemin`. Each file of a crate in a FOLDER, which needs no other crate, is expanded by it, and put back in a copy of
-the crate. What rustc then expands that copy to is compared with what it expands the crate to, token by token, as PROGRAM tells
+the crate. What rustc then expands that copy to is compared with what it expands the crate to, token by token, as PROGRAM prints
 tokens. The same is done with N files that are made by chance, each a crate of its own; these are run too, as they are and
 expanded, and what they print is compared. It prints how many files agree, how many do but for parentheses, how many are refused
-or have calls that are left, by what is told first, and each file that differs. No part of the gate: it needs rustc (--rustc tells
-which).
+or have calls that are left, by the first diagnostic, and each file that differs. No part of the gate: it needs rustc (--rustc gives
+its path).
 """
 import argparse
 import collections
@@ -25,7 +25,7 @@ NO_TOKENS = ("Whitespace", "LineComment { doc_style: None }", "BlockComment { do
 
 
 def output_of(*words, given=None):
-    """What a run wrote and told, and its status."""
+    """The bytes that a run wrote, its diagnostics, and its status."""
     done = subprocess.run(words, input=given, capture_output=True, check=False)
     return done.returncode, done.stdout, done.stderr
 
@@ -37,7 +37,7 @@ class Compiler:
         self.rustc = rustc
 
     def expands(self, root, edition):
-        """What a crate is expanded to, and the errors that are told."""
+        """What a crate is expanded to, and the errors that rustc reports."""
         status, written, told = output_of(
             "env", "RUSTC_BOOTSTRAP=1", self.rustc, "--edition", edition, "--crate-type", "lib", "--crate-name", "made",
             "--cap-lints", "allow", "--error-format", "json", "-Zunpretty=expanded", str(root),
@@ -46,7 +46,7 @@ class Compiler:
         return status, written, [it for it in messages if it.get("level") == "error" and it.get("spans")]
 
     def runs(self, text, room):
-        """What a program prints; None where it is not compiled."""
+        """What a program prints; None if it is not compiled."""
         source, program = Path(room) / "main.rs", Path(room) / "main"
         source.write_bytes(text)
         status, _, told = output_of(self.rustc, "--edition", "2024", "-Awarnings", "-o", str(program), str(source))
@@ -66,7 +66,7 @@ def tokens_of(program, text):
 
 
 def documented(tokens):
-    """The tokens, where what documents is one, as a comment or as an attribute: to the compiler they are the same."""
+    """The tokens, in which a doc comment and its attribute are the same one token, as they are to the compiler."""
     found, n = [], 0
     while n < len(tokens):
         text = re.fullmatch(r'r(#*)\\"(.*)\\"\1', tokens[n + 4]) if tokens[n : n + 4] == ["#", "[", "doc", "="] and len(tokens) > n + 5 else None
@@ -85,12 +85,12 @@ def without_second(tokens):
 
 
 def without_parentheses(tokens):
-    """The tokens that are none, and without those in texts, where an assertion tells its expression."""
+    """The tokens without parentheses, also in the texts of assertions, which show their expressions."""
     return [re.sub("[()]", "", it) for it in tokens if it not in ("(", ")")]
 
 
 def without_braces(tokens):
-    """The tokens that are none: under a condition an expression among statements stands in braces."""
+    """The tokens without braces: under a condition, an expression among statements is in braces."""
     return without_second([it for it in tokens if it not in ("{", "}")])
 
 
@@ -112,7 +112,7 @@ def class_of(program, ours, theirs):
 
 
 def first_message(told):
-    """What is told first, names put aside."""
+    """The first line of the diagnostics, without names."""
     return re.sub(r"`[^`]*`", "`..`", told.decode().splitlines()[0]) if told else ""
 
 

@@ -2,10 +2,10 @@
 """How far fragments of Rust's grammar reach, beside rustc: compare_fragments.py PROGRAM [--texts N] [--first SEED] [--table N]
 
 Short texts are made by chance from the table of docs/GRAMMAR.md, and half of them changed by a unit that is removed, doubled, put in
-place of another or swapped with the next; behind most stands `=>`, which no fragment takes. For each, rustc is given a macro
-`($f:FRAGMENT) => {}`: where the fragment ends before the end of the text, the compiler tells an error at the token behind it. Any other
-error is one of its own for the text. PROGRAM, `app_console`, tells how many trees it takes; for the first N texts plain_grammar.py is asked
-too, and must tell the same. Where the numbers differ and rustc tells no error of its own, words are taken out of the text as long as
+place of another or swapped with the next; behind most comes `=>`, which no fragment takes. For each, rustc is given a macro
+`($f:FRAGMENT) => {}`: if the fragment ends before the end of the text, the compiler reports an error at the token behind it. Any other
+error is one of its own for the text. PROGRAM, `app_console`, answers how many trees it takes; for the first N texts plain_grammar.py
+has to give the same answer. If the numbers differ and rustc reports no error of its own, words are taken out of the text as long as
 that stays so. It prints how many texts are of each class, with the shortest of each, and the texts that such cuts lead to, with how
 many lead there. No part of the gate: it needs rustc (--rustc).
 """
@@ -29,12 +29,11 @@ FRONT = "m! { "
 ERROR = re.compile(r"main\.rs:(\d+):(\d+): error(?:\[(\w+)\])?: (.*)")
 # Classes of texts that were cut short, each by what such a text looks like behind the name of its fragment.
 KNOWN = (
-    ("`use<..>` alone as a type", r".*\buse <"),
+    ("a `match` behind a point where a statement begins", r"stmt .*\. match \{"),
     ("`::{` and `::*` where a statement begins", r"stmt .*:: (\{|\*)"),
-    ("fields named by keywords", r".* \. (?!self|await)[a-z]+$"),
-    ("parameters behind `unsafe` in a type", r".*\bunsafe <"),
-    ("`const` blocks as items", r"item .*\bconst \{"),
-    ("a bound alone as a type", r".*( as| ->|[&*<:=]|const|mut)( '\w \+| [~?]| const| async)"),
+    ("two `where` without a `=` between them", r".*\bwhere where\b"),
+    ("closures with `gen`, and blocks with `use`", r".*\bgen (use \{|\|)"),
+    ("`safe fn` as a type", r".*\bsafe (extern )?fn \("),
     ("an operator behind a range that has no end", r"(?!stmt .*\}).* \.\. ([-+*/%^|&<>=!]+|as) "),
     ("a block behind an operator where a statement begins", r"stmt (.* )?(&&?|[-*!]|const|mut|\.\.=?) (# \[\w*\] )*.*\}( [^.?].*)?$"),
 )
@@ -50,7 +49,7 @@ def trees_of(word):
 
 
 def place_at(words, column):
-    """How many trees stand before a column of the text."""
+    """How many trees are before a column of the text."""
     place = start = 0
     for word in words:
         if column < start + len(word) and len(trees_of(word)) == len(word):
@@ -77,7 +76,7 @@ def errors_of(rustc, room, fragment, texts):
 
 
 def told_by(rustc, room, fragment, texts):
-    """What rustc tells of each text: how many trees it takes, or None, and its first error of its own, with its place."""
+    """What rustc answers for each text: how many trees it takes, or None, and its first error of its own, with its place."""
     told = [[None, None] for _ in texts]
     begin = last = 0
     while begin < len(texts):
@@ -106,7 +105,7 @@ def plain_message(message):
 
 
 def asked(program, fragment, texts):
-    """What the program tells of each text: how many trees it takes."""
+    """What the program answers for each text: how many trees it takes."""
     script = [f"read 0 ($f:{fragment} $($t:tt)*) => {{$($t)*}}", "read 2 a"]
     for words in texts:
         script += [f"read 1 {' '.join(words)}", "arms 0 1 2", "flat 2"]
@@ -123,7 +122,7 @@ def asked(program, fragment, texts):
 
 
 def siblings_in(lines):
-    """How many trees stand right below the top, of the lines of a flat list."""
+    """How many trees are right below the top, by the lines of a flat list."""
     count, at = 0, 1
     while at < len(lines):
         count += 1
@@ -132,7 +131,7 @@ def siblings_in(lines):
 
 
 def class_of(ours, told):
-    """How what the table takes compares with what rustc tells."""
+    """How what the table takes compares with what rustc answers."""
     theirs, error = told
     if theirs is not None and error:
         return f"taken with an error, {'the same' if ours == theirs else 'DIFFER'}: {error[0]}"
@@ -161,11 +160,11 @@ class Judge:
         self.cut = collections.defaultdict(collections.Counter)
 
     def compare(self, fragment, texts):
-        """What both tell of the texts."""
+        """What both answer for the texts."""
         return asked(self.program, fragment, texts), told_by(self.rustc, self.room, fragment, texts)
 
     def judge(self, fragment, texts):
-        """Counts these texts, and cuts short those that differ. What the program tells of each is handed back."""
+        """Counts these texts, and cuts short those that differ. Returns what the program answers for each."""
         ours, theirs = self.compare(fragment, texts)
         different = []
         for words, taken, told in zip(texts, ours, theirs):

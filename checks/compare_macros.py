@@ -3,8 +3,8 @@
 
 PROGRAM is `bench_texts`. Each macro is given to rustc with `stringify!` round the templates of its arms, and what that prints is
 compared with what `show` does, spaces put aside. It prints how many agree by what came of them, how many rustc refuses as a local
-ambiguity where the program goes on, and each macro that is answered otherwise, or told to stop at another token. Fragments that rustc parses (`block`) and those behind
-which it lets only some tokens stand (`vis`) are left out. No part of the gate: it needs rustc.
+ambiguity while the program goes on, and each macro for which the answers differ, or the tokens at which a fault shows. Fragments that
+rustc parses (`block`) and those after which it allows only some tokens (`vis`) are left out. No part of the gate: it needs rustc.
 """
 import argparse
 import collections
@@ -19,7 +19,7 @@ import random_macros
 
 random_macros.FRAGMENTS = ["tt", "tt", "ident", "literal", "lifetime"]
 BATCH = 400
-# What rustc says where the program says that.
+# What rustc says if the program says that.
 SAME = [("no match", ["no rules expected", "unexpected end"]), ("lengths", ["repeats"]), ("no round", ["must repeat at least once"])]
 AMBIGUITY = "rustc: local ambiguity, where the program goes on"
 MINUS = "rustc: `-` and a literal that is no number"
@@ -27,7 +27,7 @@ LESS_FAR = "rustc: an arm that comes less far, where another takes a subtree by 
 NO_LITERAL = "rustc: an error of its own, where `-` and no literal stands"
 
 
-# The lines of a crate whose main prints what comes of each of these, by the number of its macro.
+# The lines of a crate whose main prints what each of these becomes, by the number of its macro.
 def crate_of(made):
     lines = ["#![allow(unused_macros, unused_macro_rules)]"]
     for number, (arms, given, _) in made.items():
@@ -44,7 +44,7 @@ def told(arms):
     return re.sub(r"\) => \{(.*?)\}(?= ; \(|$)", lambda m: f") => {{ stringify!({m.group(1)}) }}", arms)
 
 
-# How many tokens of an input stand before a column of its text; its tokens and brackets stand between spaces.
+# How many tokens of an input are before a column of its text; there are spaces between its tokens and brackets.
 def place_at(given, column):
     place = start = 0
     for word in given.split(" "):
@@ -58,7 +58,7 @@ def place_at(given, column):
     return place
 
 
-# The numbers of macros in which rustc finds something wrong, what, and how many tokens of the input stand before it.
+# The numbers of macros in which rustc finds something wrong, what, and how many tokens of the input are before it.
 def errors_of(rustc, room, made):
     source, program = room / "main.rs", room / "main"
     lines = crate_of(made)
@@ -102,7 +102,7 @@ def is_minus(arms, given):
     return "literal" in arms and re.search(r'- (true|")', given) is not None
 
 
-# How the two stand to each other.
+# How the two compare.
 def kind(arms, given, wanted, got):
     if got[0] == "tree":
         printed = re.sub(r"[\s)\]}]", "", got[1])

@@ -1,15 +1,15 @@
 #!/usr/bin/env python3
-"""Compares the tokens of syntax_lex with those that rustc's own lexer tells, field by field, and times both.
+"""Compares the tokens of syntax_lex with those of rustc's own lexer, field by field, and times both.
 
-    compare_tokens.py PROGRAM files PATH..          each file `*.rs` under the paths, judged where it lies
+    compare_tokens.py PROGRAM files PATH..          each file `*.rs` under the paths, judged in place
     compare_tokens.py PROGRAM chance COUNT [SEED]   texts made by chance of the characters that matter
     compare_tokens.py PROGRAM characters            each character alone, and behind a letter
     compare_tokens.py PROGRAM time PATH..           processor time a byte of both, over all files under the paths in one text
 
 PROGRAM is the built bench_texts (crates/bench_texts/out/bench_texts). rustc of 1.95 or later is to be on PATH: the step
 of its lexer is exported by the compiler's own library, and a small program that calls it is compiled in a temporary folder.
-It is no stable interface, so a rustc whose tokens have other fields does not link, or tells nonsense. This script is no part
-of ./test. The last line tells how many texts and tokens agree; the status is 1 where any text differs.
+It is no stable interface, so a rustc whose tokens have other fields does not link, or prints nonsense. This script is no part
+of ./test. The last line says how many texts and tokens agree; the status is 1 if any text differs.
 """
 
 import os
@@ -182,7 +182,7 @@ class Judge:
 
 
 def read(path):
-    """The text of a file; None where it is no UTF-8, or holds what parts texts."""
+    """The text of a file; None if it is no UTF-8, or holds what parts texts."""
     try:
         text = path.read_bytes().decode("utf-8")
     except (UnicodeDecodeError, OSError):

@@ -1,14 +1,14 @@
 #!/usr/bin/env python3
 """Compares the trees of syntax_parse with the token trees that rustc makes of the same texts.
 
-    compare_trees.py PROGRAM files PATH..           each file `*.rs` under the paths, judged where it lies
+    compare_trees.py PROGRAM files PATH..           each file `*.rs` under the paths, judged in place
     compare_trees.py PROGRAM chance COUNT [SEED]    texts made by chance of the characters that matter
     compare_trees.py PROGRAM lines FILE             each line of a file
 
 PROGRAM is the built bench_texts (crates/bench_texts/out/bench_texts). rustc of 1.95 or later is to be on PATH: a
 procedural macro that is compiled in a temporary folder parses each text, and prints leaves, groups and spacing; a text is
-refused where that fails or tells an error. Texts that both take are then given to it once more as its input, for the bytes
-of each token. This script is no part of ./test. The last line tells how many texts and tokens agree; the status is 1 where
+refused if that fails or reports an error. Texts that both take are then given to it once more as its input, for the bytes
+of each token. This script is no part of ./test. The last line says how many texts and tokens agree; the status is 1 if
 any text differs.
 """
 
@@ -155,7 +155,7 @@ class Rustc:
         )
 
     def compile(self, source):
-        """Compiles a program that calls the macros, and gives what they wrote for each text, and what the compiler told."""
+        """Compiles a program that calls the macros. Returns what they wrote for each text, and what the compiler reported."""
         (self.folder / "shown").write_text("", encoding="utf-8")
         (self.folder / "user.rs").write_bytes(source)
         done = self.rustc("--emit=metadata", "-L", ".", "--extern", "oracle=liboracle.so", "user.rs")
@@ -198,7 +198,7 @@ ROUND = {
 
 def as_rustc(tree):
     """Our lines, with literals as they are written, and spans as their bytes alone. A punct right before a lifetime is joint
-    here; the compiler has it so too, but tells a procedural macro that it is alone."""
+    here; the compiler has it so too, but shows it to a procedural macro as alone."""
     tree = re.sub(r"0:0@(\d+\.\.\d+)#0", r"\1", tree)
     tree = re.sub(r"\[joint\]( \d+\.\.\d+\n *PUNCH   ' \[joint\])", r"[alone]\1", tree)
 

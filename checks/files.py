@@ -31,7 +31,7 @@ def without_spans(lines):
 # ---- the examples
 
 def try_tokens(files, example):
-    """Its tokens are those that stand beside it, from a file and from standard input."""
+    """Its tokens are those in the file beside it, from a file and from standard input."""
     expected = example.with_suffix(".tokens").read_bytes()
     files.gives(expected, "tokens", str(example))
     files.gives(expected, "tokens", "-", given=example.read_bytes())
@@ -270,7 +270,7 @@ def try_deep(files):
     files.gives(text + b"\n", "unpack", piece)
     line = "(" * DEPTH + ")" * (DEPTH - 1)
     files.tells(
-        f"error: unclosed '('\n --> <stdin>:1:1\n  |\n1 | {line}\n  | ^\n", "tree", given=line.encode()
+        f"error: unclosed '('\n --> <stdin>:1:1\n  |\n1 | {line[:160]}..\n  | ^\n", "tree", given=line.encode()
     )
 
 

@@ -2,7 +2,7 @@
 """Runs over input that is no command, and over reads and writes that are short or fail: hostile_runs.py PROGRAM LIBRARY
 
 PROGRAM answers commands, and LIBRARY is checks/short.c. A line is printed for each thing that is tried, `ok NAME` or
-`FAILED NAME: WHY`; the status is 1 where one failed.
+`FAILED NAME: WHY`; the status is 1 if one failed.
 """
 import itertools
 import os
@@ -23,7 +23,7 @@ COMMANDS = (
     " ids rewrite expand arms read text show pretty debug flat siblings walk glue split bytes parts symbols equal save load"
 ).split()
 
-# Their answers end with a line `end`, where the slot is not empty; all others are one line.
+# Their answers end with a line `end`, if the slot is not empty; all others are one line.
 LONG_ANSWERS = ("debug", "flat", "siblings", "walk", "parts", "symbols")
 
 
@@ -101,7 +101,7 @@ def reads_of_one_byte(name):
 
 
 def failing_writes(name):
-    """The script with each write failing: what was written before stands, and nothing is said of it."""
+    """The script with each write failing: what was written before stays, and no answer reports the failure."""
     def tried(program, library):
         script = Script(name)
         for write in itertools.count(1):

@@ -22,7 +22,7 @@ TESTS = {"IDENT": "Name", "SEGMENT": "PathSegment", "BOOL": "TruthValue", "LITER
 SUBTREES = {"PAREN": "Parenthesis", "BRACK": "Bracket", "BRACE": "Brace"}
 # The names whose places the code names: those of fragments, and that of a file.
 NAMED = ["expression", "expression_2021_fragment", "type", "pattern_fragment", "pattern_param_fragment", "type_path", "statement",
-         "item", "meta", "items"]
+         "item", "meta", "items", "statements"]
 # Parts that have no parts.
 LEAVES = ("unit", "front", "test", "holds", "name", "empty")
 

@@ -1,7 +1,7 @@
 """Judges the library for other languages: by a program in C, the tests of the crate in rust/ and those of the module in python/, by bytes that
 are cut and changed, by several threads, and by README's example in each of the three languages. The first argument is lib/build.
 
-It prints a line for each thing that it tries. One that begins with `skipped` tells that something for it is missing here."""
+It prints a line for each thing that it tries. One that begins with `skipped` says that something for it is missing here."""
 
 import concurrent.futures
 import os
@@ -16,9 +16,11 @@ import tempfile
 ROOT = pathlib.Path(__file__).resolve().parent.parent
 LIBRARIES = ROOT / "lib" / "out"
 SECONDS = 600
-# How long the library may take to be proved and built, where nothing of that is kept.
+# How long the library may take to be proved and built, if nothing of that is kept.
 BUILD_SECONDS = 7200
 THREADS = 8
+# Lines of a long text.
+LINES = 160_000
 DEPTH = 300000
 
 sys.path.insert(0, str(ROOT / "python"))
@@ -59,7 +61,7 @@ def compiler():
 
 
 def cargo(room, *words, **more):
-    """What cargo prints, where it builds in a folder of its own and asks no network."""
+    """What cargo prints if it builds in a folder of its own and asks no network."""
     if not shutil.which("cargo"):
         raise Missing("cargo is not on PATH")
     environment = {**os.environ, "CARGO_TARGET_DIR": str(room / "target"), "CUVOLEMIN_LIB_DIR": str(LIBRARIES)}
@@ -256,13 +258,13 @@ def try_threads(_room):
 
 
 def example():
-    """README's example: a text, and what comes of it."""
+    """README's example: a text, and what it becomes."""
     section = (ROOT / "README.md").read_text().split("## From C, Rust and Python\n")[1].split("\n## ")[0]
     return re.findall(r"^```rust\n(.*?)^```", section, re.MULTILINE | re.DOTALL)
 
 
 def expects_example(written):
-    """What was written of README's example is what stands there."""
+    """What was written for README's example is what README shows."""
     if written != example()[1]:
         raise Wrong(f"README's example becomes {written}")
 
@@ -271,6 +273,37 @@ def try_readme_c(room):
     """README's example in C."""
     expects_example(subprocess.run([c_program(room, "examples/embedding/expand.c")], input=example()[0], capture_output=True, text=True,
                                    timeout=SECONDS, check=True).stdout)
+
+
+def try_long_c(room):
+    """A text of some 3 MB in C, all of which is read."""
+    define = "macro_rules! m { () => { 1 } }\n"
+    made = subprocess.run([c_program(room, "examples/embedding/expand.c")], input=define + "const A: u8 = m!();\n" * LINES,
+                          capture_output=True, text=True, timeout=SECONDS, check=True).stdout
+    if made != define + "const A: u8 = 1;\n" * LINES:
+        raise Wrong(f"a text of {LINES} lines becomes one of {made.count(chr(10))}")
+
+
+def try_stack(room):
+    """As many expansions inside one another as are allowed, on the stack that the header says."""
+    made = c_program(room, "checks/stack.c")
+    for depth, size in ((127, 512), (0, 32)):
+        done = subprocess.run([made, str(depth), str(size << 10)], capture_output=True, text=True, timeout=SECONDS, check=False)
+        if (done.returncode, done.stdout) != (0, "0\n"):
+            raise Wrong(f"{depth} calls inside one another on {size} KiB: status {done.returncode}, {done.stdout!r}")
+
+
+def try_no_text(_room):
+    """What is neither a str nor bytes is refused."""
+    import cuvolemin
+
+    for call in (cuvolemin.parse, cuvolemin.expand):
+        for value in (5, None, [1]):
+            try:
+                call(value)
+            except TypeError:
+                continue
+            raise Wrong(f"{call.__name__}({value}) is not refused")
 
 
 def try_valgrind(room):
@@ -305,9 +338,12 @@ TRIED = {
     "Rust": try_rust,
     "Python": try_python,
     "README's example in C": try_readme_c,
+    "C: a long text": try_long_c,
+    "C: a small stack": try_stack,
     "C under valgrind": try_valgrind,
     "README's example in Rust": try_readme_rust,
     "README's example in Python": try_readme_python,
+    "Python: what is no text": try_no_text,
     "tables of faults": try_tables,
     "Python: bytes that are cut": try_cut_bytes,
     "Python: bytes that are changed": try_changed_bytes,

@@ -2,7 +2,7 @@
 """Long runs of the program, judged by counts and sums: long_runs.py PROGRAM
 
 Each run is a script that is made here, and what it must answer is worked out here too, from how the script was made:
-no answers are stored. A line is printed for each run, `ok NAME` or `FAILED NAME: WHY`; the status is 1 where one failed.
+no answers are stored. A line is printed for each run, `ok NAME` or `FAILED NAME: WHY`; the status is 1 if one failed.
 """
 import subprocess
 import sys
@@ -180,7 +180,7 @@ def all_slots(program):
     commands += ["build 0", "show 0", "flat 0"]
     answers = iter(answers_of(program, commands))
     wants("answers", [next(answers) for _ in commands[:-2]], ["ok"] * (len(commands) - 2))
-    # Joint puncts let no space follow, and what stands before a closing text has none in any case.
+    # No space follows a joint punct, and none is before a closing text in any case.
     once = [f"({'+' * (slot + 1)})" for slot in range(SLOTS)]
     wants("show", next(answers), "{" + " ".join(text for one in once for text in (one, one)) + "}")
     puncts = [line for line in until_end(answers) if line.startswith("punct")]
@@ -224,7 +224,7 @@ class Held:
         self.mark = None
 
     def restore(self, number):
-        """Back to a point; answers whether it stands."""
+        """Goes back to a point; returns whether it is valid."""
         if number not in self.points:
             return "no"
         held, depth = self.points[number]
@@ -327,13 +327,13 @@ def deep_rule(program):
 
 
 def many_points(program):
-    """Points that stand until one before them is restored."""
+    """Points that are valid until one before them is restored."""
     commands, expected = [f"new brace {ZERO} {ZERO}"], ["ok"]
     for number in range(POINTS):
         commands += ["point", f"push ident plain {ZERO} a{number}"]
         expected += [f"point {number}", "ok"]
     half = POINTS // 2
-    # A point, whether it stands, and how many tokens are held then.
+    # A point, whether it is valid, and how many tokens are held then.
     for number, stands, held in (
         (POINTS - 1, "yes", POINTS - 1), (half, "yes", half), (half, "yes", half), (half + 1, "no", half),
         (POINTS, "no", half), (half - 1, "yes", half - 1), (half, "no", half - 1),

@@ -1,6 +1,6 @@
 """The commands `expand` and `check` of `cuvolemin` over files; files.py runs them.
 
-Beside a text of examples/rust with macros stands what `expand` must write of it (`.expanded`), and what it must tell
+Beside a text of examples/rust with macros is what `expand` must write for it (`.expanded`), and which diagnostics it must report
 (`.messages`). The file small.cases there has one text after the other, each with a name, options, and both.
 """
 import os
@@ -12,6 +12,8 @@ from program_files import SECONDS, Wrong, wants
 LINES = 100_000
 DEPTH = 100_000
 CALLS = 10_000
+# Diagnostics of a file that are shown.
+SHOWN = 100
 MOST_LIMIT = 1000
 MISSING = "error: couldn't read /no/file: No such file or directory (os error 2)\n"
 ONE_ERROR = "\nerror: found 1 error\n"
@@ -23,8 +25,8 @@ KEYWORDS = """as async await break const continue crate dyn else enum extern fal
 ref return self Self static struct super trait true type unsafe use where while abstract become box do final macro override priv try
 typeof unsized virtual yield _""".split()
 
-# An option of `expand` that `check` does not have.
-DROP_RULES = "--drop-rules"
+# Options of `expand` that `check` does not have.
+DROPS = ("--drop-rules", "--drop-exported")
 
 
 # The diagnostic of a syntax error, in front of all others, and the line that counts errors and warnings.
@@ -50,19 +52,19 @@ def without_syntax_error(status, written, told):
 
 
 def judge(files, written, told, *words, given=b"", is_file=True):
-    """Refuses a run of `expand` or `check` that does not write and tell that; None is a text that has an error."""
+    """Refuses a run of `expand` or `check` that does not write and report that; None is a text that has an error."""
     options, names = words[:-1], words[-1]
     status = int(written is None)
     found = files.run("expand", *options, names, given=given)
     wants("what is expanded", found, (status, written or b"", told.encode()))
-    found = files.run("check", *(it for it in options if it != DROP_RULES), names, given=given)
+    found = files.run("check", *(it for it in options if it not in DROPS), names, given=given)
     wants("what is checked", found if is_file else without_syntax_error(*found), (status, b"", told.encode()))
 
 
 # ---- the examples
 
 def try_expanded(files, example):
-    """What it becomes, and what is told, stand beside it: of a file, and of standard input."""
+    """The files beside it have its expansion and its diagnostics: from a file, and from standard input."""
     written, told = None, ""
     if example.with_suffix(".expanded").exists():
         written = example.with_suffix(".expanded").read_bytes()
@@ -80,7 +82,7 @@ def tried_example(files, example):
 
 
 def parts_of(case):
-    """The name, the options, the text, and what is written and told of a case: its lines by their first characters."""
+    """The name, the options, the text, the expansion and the diagnostics of a case: its lines by their first characters."""
     lines = {sign: [] for sign in "#$<>!"}
     for line in case.split("\n"):
         if line[:2].rstrip() not in lines:
@@ -167,6 +169,55 @@ def try_bytes_stay(files):
     judge(files, None, told, wrong, is_file=False)
 
 
+def try_first_line(files):
+    """A first line that names a program stays as it is, also behind a mark of the order of bytes, and no place shifts."""
+    line = "#!/usr/bin/env it's\n"
+    for mark in ("", "\ufeff"):
+        text = f"{mark}{line}{DEFINITION.decode()}const A: u8 = m!(1, 2);"
+        name = files.made("script", text.encode())
+        judge(files, text.replace("m!(1, 2)", "(1 + 2)").encode(), "", name)
+    wrong = files.made("wrong", f"{line}{DEFINITION.decode()}m!(1)".encode())
+    told = (
+        f"error: no rule of `m` matches this\n --> {wrong}:3:5\n  |\n3 | m!(1)\n  |     ^\n"
+        f"note: `m` is defined here\n --> {wrong}:2:14\n  |\n2 | {DEFINITION.decode()}  |              ^\n{ONE_ERROR}"
+    )
+    judge(files, None, told, wrong, is_file=False)
+    only = f"{line}a".encode()
+    judge(files, only, "", "-", given=only, is_file=False)
+    judge(files, line.encode(), "", "-", given=line.encode())
+    files.gives(line.strip().encode(), "expand", "-", given=line.strip().encode())
+
+
+def try_cut_lines(files):
+    """Of a long line at most 160 characters are shown, from 60 before the mark on, and two points where characters are left out."""
+    const = "const A: u8 = 1; "
+    for front, behind in ((0, 0), (0, 20), (3, 20), (4, 20), (20, 0), (20, 20)):
+        line = const * front + "m!(1); " + const.replace("A", "\u00c9") * behind
+        mark = len(const) * front + len("m!(1")
+        cut = max(mark - 60, 0) if len(line) > 160 else 0
+        part = line[cut : cut + 160] if len(line) > 160 else line
+        shown = ".." * (cut > 0) + part + ".." * (cut + len(part) < len(line))
+        under = " " * (2 * (cut > 0) + mark - cut)
+        wrong = files.made(f"line{front}-{behind}", DEFINITION + line.encode())
+        told = (
+            f"error: no rule of `m` matches this\n --> {wrong}:2:{mark + 1}\n  |\n2 | {shown}\n  | {under}^\n"
+            f"note: `m` is defined here\n --> {wrong}:1:14\n  |\n1 | {DEFINITION.decode()}  |              ^\n{ONE_ERROR}"
+        )
+        judge(files, None, told, wrong)
+
+
+def try_only(files):
+    """A note says that no macro has the name of `--only`, or that calls are left; white space, comments and rules of macros do not count."""
+    text = b"macro_rules! m { () => { 1 }; (a) => { m!() } } macro_rules ! /* k */ r#k { () => { m!() } } n!(m!(), m !{}, r#m![], m != a)"
+    none = b"note: <stdin> defines no macro `a`\n"
+    wants("a name without macro", files.run("expand", "--only", "a", "-", given=text), (0, text, none))
+    left = b"note: calls of `m` that are left: 3; --everywhere expands those in the brackets of other calls\n"
+    wants("calls that are left", files.run("expand", "--only", "m", "-", given=text), (0, text, left))
+    wants("a macro that is not called", files.run("expand", "--only", "k", "-", given=text), (0, text, b""))
+    done = text.replace(b"m!(), m !{}, r#m![]", b"1, 1, 1")
+    wants("calls everywhere", files.run("expand", "--only", "m", "--everywhere", "-", given=text), (0, done, b""))
+
+
 def try_options(files):
     """Values that options have not."""
     for words in (("--limit", "0"), ("--limit", str(MOST_LIMIT + 1)), ("--limit", "x"), ("--limit=-1",), ("--limit",)):
@@ -175,9 +226,10 @@ def try_options(files):
         if b"--limit" not in told:
             raise Wrong(f"it is told: {told[:200]}")
     for option in ("--crate", "--only"):
-        for value in ("", "a b", "1", "a-b", "r#a", "é "):
-            shown = f'error: "{value}" is no name, as {option} wants one\n'
-            wants("the run", files.run("expand", option, value), (2, b"", shown.encode()))
+        for value in ("", "a b", "1", "a-b", "r#a", "r#", "r#r#a", "é "):
+            if (option, value) != ("--only", "r#a"):
+                shown = f'error: "{value}" is no name, as {option} wants one\n'
+                wants("the run", files.run("expand", option, value), (2, b"", shown.encode()))
 
 
 def try_keywords(files):
@@ -204,7 +256,7 @@ def try_deep(files):
 
 
 def try_forever(files):
-    """A macro that calls itself forever ends where it comes too deep, also where each call makes two or whose limit is high."""
+    """A macro that calls itself forever ends when it comes too deep, also if each call makes two or its limit is high."""
     for options in ((), ("--limit", str(MOST_LIMIT))):
         text = b"macro_rules! m { ($($a:tt)*) => { m!($($a)* a) + m!() }; } m!()"
         status, written, told = files.run("expand", *options, given=text)
@@ -223,20 +275,21 @@ def try_long(files):
     status, written, told = files.run("check", name)
     wants("the run", (status, written), (1, b""))
     wants("the count", told.split(b"\n")[-2], f"error: found {CALLS} errors".encode())
-    wants("the places", told.count(b"error: no rule"), CALLS)
-    last = f"{' ' * len(str(CALLS + 1))}--> {name}:{CALLS + 1}:5"
-    wants("the last place", told.split(b"\n\n")[-2].split(b"\n")[1], last.encode())
+    wants("the places", told.count(b"error: no rule"), SHOWN)
+    wants("how many are not shown", told.split(b"\n\n")[-2], f"warning: {CALLS - SHOWN} more diagnostics are not shown".encode())
+    last = f"{' ' * len(str(SHOWN + 1))}--> {name}:{SHOWN + 1}:5"
+    wants("the last place", told.split(b"\n\n")[-3].split(b"\n")[1], last.encode())
 
 
 def try_closed_pipe(files):
-    """Who closes the pipe has read enough: nothing is told."""
+    """A reader that closes the pipe has read enough: there is no diagnostic."""
     first, told = files.reads_some("expand", given=DEFINITION + b"m!(1, 2);\n" * LINES)
     wants("what is read", first, (DEFINITION + b"1 + 2\n" * LINES)[: len(first)])
     wants("what is told", told, b"")
 
 
 def told_on_terminal(files, *words, given, **environment):
-    """What a run tells where standard error is a terminal."""
+    """The diagnostics of a run if standard error is a terminal."""
     ours, theirs = pty.openpty()
     run = files.started(*words, stderr=theirs, environment=environment)
     os.close(theirs)
@@ -252,7 +305,7 @@ def told_on_terminal(files, *words, given, **environment):
 
 
 def try_colours(files):
-    """Colours stand on a terminal, and there alone, and not where they are not wanted."""
+    """A terminal shows colours if they are wanted, and no other file has them."""
     text = DEFINITION + b"m!(1);"
     plain = files.run("check", "-", given=text)[2]
     coloured = told_on_terminal(files, "check", "-", given=text)
@@ -267,7 +320,7 @@ def tried(files, examples):
     """Each thing that is tried, by its name."""
     yield from tried_cases(files, examples / "small.cases")
     for try_one in (
-        try_missing, try_several, try_empty, try_no_utf8, try_bytes_stay, try_options, try_keywords, try_seams, try_deep, try_forever,
+        try_missing, try_several, try_empty, try_no_utf8, try_bytes_stay, try_first_line, try_cut_lines, try_only, try_options, try_keywords, try_seams, try_deep, try_forever,
         try_long,
         try_closed_pipe, try_colours,
     ):

@@ -8,7 +8,7 @@ from plain_text import tree_of_text
 from plain_trees import Ident, Literal, Punct, Subtree
 from random_macros import Maker, macro, macro_text, units_text
 
-# Words that mostly make a fault where they stand among those of a macro.
+# Words that mostly make a fault among those of a macro.
 WORDS = (
     "$", "$x", "$v1", "$v2", "$v1 : tt", "$v2:exp", "$v3:pat_", "$v1:what", "$_:tt", "$r#v1:tt", "$v1:r#vis", "$_", "$crate",
     "$crate:tt", "$v1::tt", "$(a),?", "$(a)=?", "$(a)?", "$($w:vis)*", "$($(a)*)+", "$($($w:vis)+)?", "$()*", "$(a)$*", "$(b)**",
@@ -76,7 +76,7 @@ class Arms(Values):
     """Macros and inputs."""
 
     def macro(self):
-        """The texts of a macro and of an input that one of its arms may take; nothing where that is too long."""
+        """The texts of a macro and of an input that one of its arms may take; nothing if that is too long."""
         if self.happens(0.25):
             return self.pick(MACROS)
         arms, units = macro(self.pick((Maker, GrammarMaker))(self.chance))
@@ -96,7 +96,7 @@ class Arms(Values):
         return " ".join(words)
 
     def squeezed(self, text):
-        """The text with few blanks between its signs and what stands beside them."""
+        """The text with few blanks between its signs and the words beside them."""
         first, *words = text.split(" ")
         for word in words:
             touches = first[-1:] in SIGNS and word[:1] in SIGNS and self.happens(0.7)
@@ -104,7 +104,7 @@ class Arms(Values):
         return first
 
     def changed(self, tree, chance):
-        """The tree with other spans, and by that chance with another spacing or kind, or raw where it was not."""
+        """The tree with other spans, and by that chance with another spacing or kind, or raw if it was not."""
         if isinstance(tree, Subtree):
             kind = self.pick(("invisible", "opaque", tree.kind, self.delimiter_kind())) if self.happens(chance) else tree.kind
             return Subtree(kind, self.span(), self.span(), tuple(self.changed(child, chance) for child in tree.children))
@@ -128,7 +128,7 @@ class Arms(Values):
         return [self.subtree(pattern), *self.puncts("=>"), self.subtree(template)]
 
     def crate_arm(self):
-        """An arm in which `crate` stands behind a `$`, raw or not, once before a fragment."""
+        """An arm with `crate` behind a `$`, raw or not, once before a fragment."""
         names = [Ident(self.pick(("plain", "raw")), self.span(), "crate") for _ in range(2)]
         variable = [*self.puncts("$"), names[0], *self.puncts(":"), Ident("plain", self.span(), "tt")]
         return self.arm_of(variable, [*self.puncts("$"), names[1]])
@@ -138,7 +138,7 @@ class Arms(Values):
         return literal._replace(kind=self.pick(LITERAL_KINDS))
 
     def changed_suffix(self, literal):
-        """The literal whose suffix is its last character, or none where it has one."""
+        """The literal whose suffix is its last character, or none if it has one."""
         return Literal(literal.kind, 0 if literal.suffix_len else len(literal.text[-1:].encode()), *literal[2:])
 
     def changed_trees(self, text):

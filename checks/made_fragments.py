@@ -5,7 +5,7 @@ DEPTH = 9
 LONGEST = 14
 # What no fragment takes.
 END = "=>"
-# What stands for a test of the table; for brackets by the name in which it stands, and else by `None`.
+# The words for a test of the table; for brackets by the name that has them, and otherwise by `None`.
 WORDS = {
     "IDENT": "a a a b b c r#fn raw auto union default safe".split(),
     "SEGMENT": "a a b c self Self super crate".split(),
@@ -23,9 +23,10 @@ INSIDE = {
         None: ["()", "(a)", "(a, b)"], "visibility": ["(crate)", "(super)", "(in a)"], "function": ["()", "(a: u8)", "(self)"],
         "function_type": ["()", "(u8)"], "structure": ["()", "(u8)"], "bound": ["(a)"], "meta": ["(a)"], "type_path_segment": ["()", "(a)"],
     },
-    "BRACK": {None: ["[a]", "[]"], "plain_type": ["[u8]", "[u8; 2]"], "attribute": ["[a]"], "bound": ["[const]"], "postfix": ["[a]"]},
+    "BRACK": {None: ["[a]", "[]"], "plain_type": ["[u8]", "[u8; 2]"], "attribute": ["[a]"], "trait_bound": ["[const]"], "postfix": ["[a]"]},
     "BRACE": {None: ["{}"], "use_tree": ["{a}", "{}"], "primary": ["{}", "{a}"], "macro_rules": ["{() => {}}"]},
 }
+WRONG = {"PAREN": ["(a b)", "(1 +)", "((a b))", "(,)"], "BRACK": ["[a b]", "[1 +]", "[(,)]"], "BRACE": ["{a b}", "{1 +}", "{(= a)}"]}
 OTHERS = (
     "a b 1 \"s\" 'a self Self crate super _ true as async await break const continue dyn else enum extern fn for if impl in let loop match "
     "mod move mut pub ref return static struct trait type unsafe use where while box do yield try gen macro auto union default safe raw "
@@ -35,7 +36,7 @@ OTHERS = (
 
 
 def height(part, heights):
-    """How deep an expression goes at least, where that is known of names."""
+    """How deep an expression goes at least, by the known heights of names."""
     kind, inner = part
     if kind == "name":
         return 1 + heights.get(inner, DEPTH * DEPTH)
@@ -43,7 +44,9 @@ def height(part, heights):
         return min(height(it, heights) for it in inner)
     if kind == "sequence":
         return max(height(it, heights) for it in inner)
-    return height(inner, heights) if kind == "+" else DEPTH * DEPTH if inner == "OPAQUE" else 0
+    if kind == "+":
+        return height(inner, heights)
+    return DEPTH * DEPTH if inner == "OPAQUE" or kind == "held" and inner[0] == "OPAQUE" else 0
 
 
 def heights_of_names():
@@ -56,7 +59,7 @@ def heights_of_names():
 
 
 HEIGHTS = heights_of_names()
-# What is told of a choice, by the choice itself: of each alternative how deep it goes at least, and how likely it is.
+# By the choice: for each alternative how deep it goes at least, and how likely it is.
 CHOICES = {}
 
 
@@ -78,7 +81,7 @@ class Maker:
         self.longest = longest
 
     def words(self, name, depth=0):
-        """The words of what a name stands for."""
+        """The words for a name."""
         return self.part(plain_grammar.NAMES[name], name, depth)
 
     def part(self, part, name, depth):
@@ -99,8 +102,12 @@ class Maker:
         return [self.word(kind, inner, name)] if inner not in ("EMPTY", "END") else []
 
     def word(self, kind, wanted, name):
-        """A unit."""
-        if kind != "test":
+        """A unit. One subtree of twelve contains what most names do not take."""
+        if kind == "held":
+            wanted = wanted[0]
+            if self.chance.random() < 1 / 12:
+                return self.chance.choice(WRONG[wanted])
+        elif kind != "test":
             return wanted
         if wanted == "DELIM":
             wanted = self.chance.choice(list(INSIDE))

@@ -2,7 +2,7 @@
 
 A program prints the values that its macros write. Its macros write expressions, statements, items and macros; they have
 repetitions, several rules, and call themselves and each other; they are defined at the top, in modules and in functions.
-Some of their calls stand under conditions.
+Some of their calls are under conditions.
 """
 import random
 
@@ -78,7 +78,7 @@ class Maker:
         return call
 
     def choosing(self):
-        """One of several rules, which words tell apart."""
+        """One of several rules, which differ by words."""
         name, words = self.name("choose"), ("add", "negate", "first", "both")
         self.lines.append(
             f"macro_rules! {name} {{ (add $a:tt $b:tt) => {{ $a {self.operator()} $b }}; (negate $a:literal) => {{ -$a }}; "

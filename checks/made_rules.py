@@ -16,7 +16,7 @@ class Rules(Values):
         return Ident(self.pick(("plain", "plain", "raw")), self.span(), "_" if self.happens(0.3) else self.pick(NAMES))
 
     def keyword(self):
-        """An ident that stands for itself."""
+        """An ident that matches itself."""
         return Ident("plain", self.span(), "k")
 
     def sign(self, char):
@@ -91,7 +91,7 @@ class Rules(Values):
         return literal._replace(kind=self.pick(LITERAL_KINDS))
 
     def other_suffix(self, literal):
-        """The literal whose suffix is its last character, or none where it has one."""
+        """The literal whose suffix is its last character, or none if it has one."""
         return literal._replace(suffix_len=0 if literal.suffix_len else len(literal.text[-1:].encode()))
 
     def other_delimiter(self, kind):

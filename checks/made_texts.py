@@ -1,7 +1,7 @@
 """Rust texts of one line, made by chance (docs/CONSOLE.md)."""
 from plain_text import WrongText, tree_of_text
 
-# Tokens, some of which read otherwise where no blank stands behind them.
+# Tokens, some of which read otherwise if no blank is behind them.
 TOKENS = (
     "a", "r", "b", "c", "br", "e1", "_", "_x", "fn", "日", "r#a", "r#_", "r#1", "'a", "'_", "'r#a", "'1", "'r", "'a'",
     "'日'", "'1'", "'", "'\\n'", "'\\x7f'", "'\\x80'", "'\\u{1F_980}'", "'\\u{d800}'", "'\\q'", "'ab'", "''", "'\\''",
@@ -37,7 +37,7 @@ class Texts:
     """Texts made by chance; `pick`, `below` and `happens` are those of the values."""
 
     def token_text(self):
-        """A token, mostly one that is read where it stands alone."""
+        """A token, mostly one that can be read alone."""
         return self.pick(self.pick((TOKENS, FINE, FINE, FINE, FINE, PUNCTS, PUNCTS, PUNCTS)))
 
     def rust_text(self, most):

@@ -23,7 +23,7 @@ MANY_SYMBOLS = (62, 63, 64, 65, 66)
 CHARS = "$:;,=<>.&|-!+*/^%'#@~?→é\x7f\x80"
 GLUED = "<>=.:&|-!"
 CUTS = ";,=é$ "
-# Puncts that do not stand as one: as two, and as three.
+# Puncts that are no operator: two, and three.
 NO_TWOS = "++ -- <> =< .= =- '= := ~= =! >- ?? $$".split()
 NO_THREES = "=== =>> &&= ||= ::= >>> <<< ->> ..< .==".split()
 RUNS = sorted(THREE | TWO) + NO_TWOS + NO_THREES
@@ -35,7 +35,7 @@ LITERAL_KINDS = (
 
 
 class Values:
-    """Values made by chance. What is drawn first tells how many different spans and texts there are, and how wide trees."""
+    """Values made by chance. The first draws decide how many different spans and texts there are, and how wide trees are."""
 
     def __init__(self, seed):
         self.chance = random.Random(seed)
@@ -57,7 +57,7 @@ class Values:
         return self.pick(DELIMITER_KINDS)
 
     def span(self):
-        """A span; where they are wide, one near the end of a form at times."""
+        """A span; if they are wide, one near the end of a form at times."""
         start, length = self.below(self.starts), self.pick((0, 1, 1, 1, 1, 2, 5))
         if self.is_wide and self.happens(0.2):
             start, length = self.pick((*STARTS, self.below(MOST))), self.pick((*LENGTHS, self.below(2**20)))
@@ -71,11 +71,11 @@ class Values:
         return f"s{self.below(self.texts)}"
 
     def punct(self):
-        """A punct, mostly one that may stand with others as one."""
+        """A punct, mostly one that may be part of an operator."""
         return Punct(self.pick((*SPACINGS, "joint")), self.span(), self.pick(CHARS if self.happens(0.4) else GLUED))
 
     def run(self):
-        """Puncts that mostly stand as one."""
+        """Puncts that are mostly one operator."""
         return [Punct(self.pick((*SPACINGS, *["joint"] * 6)), self.span(), char) for char in self.pick(RUNS)]
 
     def literal(self):
@@ -121,7 +121,7 @@ class Values:
         return trees
 
     def near(self, file=0):
-        """A span that takes four bytes where its part is one of the first sixteen."""
+        """A span that takes four bytes if its part is one of the first sixteen."""
         start = self.below(100_000)
         return Span(file, 0, start, start + self.pick((0, 1, 1, 255)), 0)
 

@@ -1,11 +1,11 @@
 #!/usr/bin/env python3
 """Which definitions of the plain machine the scripts made by chance pin: mutants.py [JOBS] [--scripts N] [--only WORD]
 
-Each definition that mutants_of_*.py name is turned in one way, in a copy. One is noticed where the turned machine answers
+Each definition that mutants_of_*.py name is turned in one way, in a copy. One is noticed if the turned machine answers
 a script of random_scripts.py otherwise than the plain machine does: so a program that has the turned definition would be
 found out. The program is not asked, and nothing has to be built. A line `NOT NOTICED FILE: WHAT` is printed for each
-definition that no script notices, and at the end how many are noticed; the status is 1 where one is not. It takes a
-minute or two: run it where plain_*.py, made_*.py or script_maker.py change. `--only` tries those whose names have the word.
+definition that no script notices, and at the end how many are noticed; the status is 1 if one is not. It takes a
+minute or two: run it when plain_*.py, made_*.py or script_maker.py change. `--only` tries those whose names have the word.
 The definitions of plain_macros.py are turned too, and are to be noticed by the macros of random_macros.py.
 """
 import argparse
@@ -31,13 +31,13 @@ from random_scripts import SCRIPTS, expected_answers
 from script_maker import Script
 
 HERE = Path(__file__).parent
-# The files of the plain machine, those first that others stand on.
+# The files of the plain machine; each one comes after those that it uses.
 TABLES = {
     "plain_trees": mutants_of_trees, "plain_lists": mutants_of_lists, "plain_stored": mutants_of_stored,
     "plain_pieces": mutants_of_pieces, "plain_text": mutants_of_texts, "plain_written": mutants_of_written, "plain_rules": mutants_of_rules,
     "plain_grammar": mutants_of_grammar, "plain_arms": mutants_of_arms, "plain_machine": mutants_of_machine,
 }
-# What stands for an answer that a turned machine does not give.
+# The place of an answer that a turned machine does not give.
 NO_ANSWER = ["no answer"]
 # The scripts, in a process that judges mutants.
 kept = []
@@ -78,7 +78,7 @@ def answer_of(machine, command):
 def is_noticed(new_machine, script):
     """Whether the machine answers the script otherwise."""
     machine = new_machine()
-    # The values of the script become those of the modules that stand behind the machine.
+    # The values of the script become those of the modules that the machine uses.
     return any(answer_of(machine, command) != answer for command, answer in pickle.loads(script))
 
 

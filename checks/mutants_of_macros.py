@@ -8,6 +8,7 @@ MUTANTS = [
     ("_ is an ident", 'first[0] == "ident" and first[1].strip() != "_"', 'first[0] == "ident"'),
     ("a lifetime is any unit", 'behind(units, at) if first[0] == "life" else None', "behind(units, at)"),
     ("a block is any subtree", 'first[0] == "sub" and first[1] == "{"', 'first[0] == "sub"'),
+    ("a block contains anything", ' and plain_grammar.is_whole("statements", trees_in(first))', ""),
     ("truth is no literal", 'or first[0] == "ident" and first[1].strip() in ("true", "false")', ""),
     ("a minus before any literal", ' and number[1][0].isdigit()', ""),
     ("no minus before a number", "        return behind(units, end)\n    return None", "        return None\n    return None"),

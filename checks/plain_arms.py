@@ -1,7 +1,7 @@
 """Macros of several arms on plain trees (docs/CONSOLE.md, "Macros of several arms").
 
-Trees are read as units, patterns and templates as parts of plain_macros.py, which tells what comes of an input; that is then
-trees again. How far a fragment of Rust's grammar reaches is told by plain_grammar.py.
+Trees are read as units, patterns and templates as parts of plain_macros.py, which answers what a macro makes of an input; that is then
+trees again. plain_grammar.py answers how far a fragment of Rust's grammar reaches.
 """
 import plain_grammar
 import plain_macros
@@ -14,7 +14,7 @@ BRACKETS = {"paren": "(", "brace": "{", "bracket": "[", "invisible": "invisible"
 RAW = "\n"
 NUMBERS = ("int", "float")
 FRAGMENTS = ("ident", "literal", "lifetime", "block", "vis", "tt", *plain_grammar.FRAGMENTS)
-# What these took comes as one opaque subtree, where it is more than one token or subtree.
+# What these took comes as one opaque subtree, if it is more than one token or subtree.
 GROUPED = ("expr", "expr_2021", "ty", "pat", "pat_param")
 # The numbers of what may be wrong with an arm.
 NO_PATTERN, BEGINS_NOTHING, UNKNOWN_FRAGMENT, NAME_TWICE, NEEDLESS_SEPARATOR = 1, 2, 3, 5, 6
@@ -39,7 +39,7 @@ class Unit(tuple):
 
 
 class Input:
-    """The units of an input. Places are those of its trees, so that a fragment may end within puncts that stand as one."""
+    """The units of an input. Places are those of its trees, so that a fragment may end within puncts of one operator."""
 
     def __init__(self, trees):
         self.trees = trees
@@ -58,7 +58,7 @@ class Input:
         return at + unit_size(self.trees[at:])
 
     def reached(self, fragment, at):
-        """Where what a fragment of Rust's grammar takes ends; None where it takes nothing."""
+        """The end of what a fragment of Rust's grammar takes; None if it takes nothing."""
         count = plain_grammar.reach(fragment, self.trees[at:])
         return at + count if count else None
 
@@ -84,29 +84,29 @@ def last_span(tree):
 
 
 def is_punct(trees, chars):
-    """Whether a punct of one of those characters stands first."""
+    """Whether a punct of one of those characters is first."""
     return bool(trees) and isinstance(trees[0], Punct) and trees[0].char in chars
 
 
 def is_ident(trees):
-    """Whether an ident stands first."""
+    """Whether an ident is first."""
     return bool(trees) and isinstance(trees[0], Ident)
 
 
 def unit_size(trees):
-    """How many trees stand as one at the front."""
+    """How many trees at the front are one unit."""
     if is_punct(trees, "'"):
         return 2 if is_ident(trees[1:]) else 1
     return glued_front(trees) if isinstance(trees[0], Punct) else 1
 
 
 def word(ident):
-    """What tells an ident from others."""
+    """What makes an ident differ from others."""
     return (RAW if ident.raw == "raw" else "") + ident.text
 
 
 def unit_of(trees, held=None):
-    """The unit that these trees are; what a subtree holds is told by `held`, or as units."""
+    """The unit that these trees are; `held` reads what a subtree holds, otherwise that is units."""
     first = trees[0]
     if isinstance(first, Subtree):
         return Unit(("sub", BRACKETS[first.kind], (held or units_of)(first.children)), trees)
@@ -136,12 +136,12 @@ def unit_count(units):
 
 
 def is_operator(trees):
-    """Whether the operator of a repetition stands first."""
+    """Whether the operator of a repetition is first."""
     return is_punct(trees, "*+?") and unit_size(trees) == 1
 
 
 def tail(trees):
-    """The trees of the separator and the operator of a repetition, where they stand first."""
+    """The trees of the separator and the operator of a repetition, if they are first."""
     if is_operator(trees):
         return trees[:0], trees[0].char
     if not trees or isinstance(trees[0], Subtree) or is_punct(trees, "$"):
@@ -151,7 +151,7 @@ def tail(trees):
 
 
 def repetition(trees):
-    """What a repetition holds, the trees of its separator, and its operator, where that stands behind a `$`."""
+    """What a repetition holds, the trees of its separator, and its operator, if a repetition is behind a `$`."""
     if not trees or not isinstance(trees[0], Subtree) or trees[0].kind != "paren":
         return None
     behind = tail(trees[1:])
@@ -159,12 +159,12 @@ def repetition(trees):
 
 
 def is_crate(trees):
-    """Whether `crate` stands first."""
+    """Whether `crate` is first."""
     return is_ident(trees) and word(trees[0]) == "crate"
 
 
 def pattern_part(trees):
-    """The part of a pattern that stands first, and how many trees it is. ("wrong", NUMBER) is a `$` that begins nothing."""
+    """The first part of a pattern, and how many trees it is. ("wrong", NUMBER) is a `$` that begins nothing."""
     behind = trees[1:]
     if isinstance(trees[0], Subtree):
         return ("sub", BRACKETS[trees[0].kind], pattern_of(trees[0].children)), 1
@@ -203,7 +203,7 @@ def may_take_nothing(part):
 
 
 def pattern_fault(parts, names):
-    """The first fault of a pattern in reading order, where variables before it have those names; its own are added."""
+    """The first fault of a pattern in reading order, if variables before it have those names; its own are added."""
     for part in parts:
         fault = None
         if part[0] == "wrong":
@@ -228,7 +228,7 @@ def repetition_fault(part):
 
 
 def nests_of(parts, depth=0):
-    """In how many repetitions each variable stands, by its name."""
+    """In how many repetitions each variable is, by its name."""
     nests = {}
     for part in parts:
         if part[0] == "var" and part[1] != "_":
@@ -241,7 +241,7 @@ def nests_of(parts, depth=0):
 
 
 def template_part(trees, nests):
-    """The part of a template that stands first, and how many trees it is. A subtree has itself as its bracket."""
+    """The first part of a template, and how many trees it is. A subtree has itself as its bracket."""
     first, behind = trees[0], trees[1:]
     if isinstance(first, Subtree):
         return ("sub", first, template_of(first.children, nests)), 1
@@ -258,7 +258,7 @@ def template_part(trees, nests):
 
 
 def template_of(trees, nests):
-    """The parts of a template, where the pattern has those variables."""
+    """The parts of a template, if the pattern has those variables."""
     parts = []
     while trees:
         part, count = template_part(trees, nests)
@@ -268,7 +268,7 @@ def template_of(trees, nests):
 
 
 def template_fault(parts, nests, depth=0):
-    """The first fault of a template in reading order, where so many repetitions stand round it."""
+    """The first fault of a template in reading order, if that many repetitions are around it."""
     for part in parts:
         fault = None
         if part[0] == "use":
@@ -284,12 +284,12 @@ def template_fault(parts, nests, depth=0):
 
 
 def is_arrow(trees):
-    """Whether `=>` stands first, as one token."""
+    """Whether `=>` is first, as one token."""
     return is_punct(trees, "=") and unit_size(trees) == 2 and trees[1].char == ">"
 
 
 def arm_at(trees, number):
-    """The arm of that number, which stands first: its pattern, its template, and the trees behind it and its `;`."""
+    """The arm of that number, which is first: its pattern, its template, and the trees behind it and its `;`."""
     if not trees or not isinstance(trees[0], Subtree):
         raise ArmFault(number, NO_PATTERN)
     pattern = pattern_of(trees[0].children)
@@ -333,7 +333,7 @@ def trees_of(units):
 
 
 def made_by_arms(arms, trees):
-    """What the macro that trees spell makes of others: a tree, or the answer that tells why there is none."""
+    """What the macro that trees spell makes of others: a tree, or the answer why there is none."""
     arms = arms_of(arms)
     if unit_count(units_of(trees)) > MOST_UNITS:
         raise TooManyUnits

@@ -1,6 +1,6 @@
-"""How far a fragment of Rust's grammar reaches, by the table of docs/GRAMMAR.md, which is read here and gone through as it stands.
+"""How far a fragment of Rust's grammar reaches, by the table of docs/GRAMMAR.md, which is read here line by line.
 
-Of trees (plain_trees.py) only the siblings matter: a subtree is one unit, whatever it holds.
+A subtree is one unit among its siblings (plain_trees.py). Its contents are read behind that, by the name that its bracket has in the table.
 """
 import pathlib
 import re
@@ -24,17 +24,17 @@ BEGIN_SIGNS = set("! - * | || & && .. ... ..= < << :: #".split())
 TEXTS = {"str", "rstr"}
 NUMBERS = {"int", "float"}
 BRACKETS = {"PAREN": {"paren"}, "BRACK": {"bracket"}, "BRACE": {"brace"}, "DELIM": {"paren", "bracket", "brace"}, "OPAQUE": {"opaque", "invisible"}}
-FAILS = -1
+FAILS = None
 
 
 class Reader:
-    """An expression of the table, read from its words and signs, without what subtrees contain."""
+    """An expression of the table, read from its words and signs."""
 
     def __init__(self, text):
-        self.words = re.findall(r"\^?'[^']+'|\w+|[()/*+?&!]", re.sub(r"(PAREN|BRACK|BRACE|OPAQUE)\(\w+\)", r"\1", text))
+        self.words = re.findall(r"\^?'[^']+'|(?:PAREN|BRACK|BRACE|OPAQUE)\(\w+\)|\w+|[()/*+?&!]", text)
 
     def next_is(self, signs):
-        """Whether one of these stands next."""
+        """Whether one of these is next."""
         return bool(self.words) and self.words[0] in signs
 
     def choice(self):
@@ -53,7 +53,7 @@ class Reader:
         return parts[0] if len(parts) == 1 else ("sequence", parts)
 
     def counted(self):
-        """A part with what stands before it or behind it."""
+        """A part with the signs before it or behind it."""
         if self.next_is("&!"):
             return self.words.pop(0), self.counted()
         part = self.part()
@@ -62,12 +62,14 @@ class Reader:
         return part
 
     def part(self):
-        """A unit, a name, or what stands in parentheses."""
+        """A unit, a name, or an expression in parentheses. `held` is a subtree with the name of its contents."""
         word = self.words.pop(0)
         if word == "(":
             part = self.choice()
             self.words.pop(0)
             return part
+        if word[-1] == ")":
+            return "held", tuple(word[:-1].split("("))
         if word[0] == "'":
             return "unit", word[1:-1]
         if word[0] == "^":
@@ -76,7 +78,7 @@ class Reader:
 
 
 def table():
-    """What each name of the page stands for, and the name of each fragment."""
+    """The expression of each name of the page, and the name of each fragment."""
     page = PAGE.read_text(encoding="utf-8")
     names = {}
     for block in re.findall(r"```text\n(.*?)```", page, re.S):
@@ -133,7 +135,7 @@ def begins_expression(kind, text):
 
 
 class Parse:
-    """What the table's names take at the places of some trees. What was found is kept."""
+    """What the table's names take of some trees: where that ends, and the subtrees whose contents have a name, each by its place."""
 
     def __init__(self, names, trees):
         self.names = names
@@ -142,7 +144,7 @@ class Parse:
         self.kept = {}
 
     def name(self, name, at):
-        """Where what the name stands for ends that begins at that place; FAILS where it takes nothing and fails."""
+        """The end and the subtrees of a name that begins at that place, or FAILS. Each is worked out once."""
         if (name, at) not in self.kept:
             self.kept[name, at] = self.part(self.names[name], at)
         return self.kept[name, at]
@@ -151,48 +153,69 @@ class Parse:
         """The same of an expression."""
         kind, inner = part
         if kind == "choice":
-            return next((end for it in inner if (end := self.part(it, at)) != FAILS), FAILS)
+            return next((found for it in inner if (found := self.part(it, at)) is not FAILS), FAILS)
         if kind == "sequence":
-            for it in inner:
-                at = self.part(it, at)
-                if at == FAILS:
-                    break
-            return at
+            return self.sequence(inner, at)
         if kind == "name":
             return self.name(inner, at)
-        if kind in ("unit", "front", "test"):
+        if kind in ("unit", "front", "test", "held"):
             return self.unit(kind, inner, at)
         if kind in "&!":
-            return at if (self.part(inner, at) != FAILS) == (kind == "&") else FAILS
+            return (at, ()) if (self.part(inner, at) is not FAILS) == (kind == "&") else FAILS
         return self.repeated(kind, inner, at)
 
+    def sequence(self, parts, at):
+        """The same of expressions one behind another."""
+        held = ()
+        for it in parts:
+            found = self.part(it, at)
+            if found is FAILS:
+                return FAILS
+            at, held = found[0], held + found[1]
+        return at, held
+
     def repeated(self, kind, inner, at):
-        """What stands as often as it goes, or once or not at all."""
-        end = self.part(inner, at)
-        if end == FAILS:
-            return FAILS if kind == "+" else at
-        while kind != "?" and end != FAILS:
-            at, end = end, self.part(inner, end)
-        return at if end == FAILS else end
+        """The same of an expression that comes once or not at all, or as often as possible."""
+        found, held = self.part(inner, at), ()
+        if found is FAILS:
+            return FAILS if kind == "+" else (at, ())
+        while found is not FAILS:
+            at, held = found[0], held + found[1]
+            found = self.part(inner, at) if kind != "?" else FAILS
+        return at, held
 
     def unit(self, kind, wanted, at):
-        """A unit, or the punct in front of one."""
+        """The same of a unit, or of the punct in front of one."""
         if wanted == "EMPTY":
-            return at
+            return at, ()
         if at == len(self.trees) or wanted == "END":
-            return at if at == len(self.trees) and wanted == "END" else FAILS
+            return (at, ()) if at == len(self.trees) and wanted == "END" else FAILS
         if kind == "front":
             tree = self.trees[at]
-            return at + 1 if isinstance(tree, Punct) and tree.char == wanted else FAILS
+            return (at + 1, ()) if isinstance(tree, Punct) and tree.char == wanted else FAILS
         found, text, size = self.units[at]
         if kind == "unit":
-            return at + size if found in ("word", "sign") and text == wanted else FAILS
-        return at + size if passes(wanted, found, text) else FAILS
+            return (at + size, ()) if found in ("word", "sign") and text == wanted else FAILS
+        if not passes(wanted[0] if kind == "held" else wanted, found, text):
+            return FAILS
+        return at + size, ((at, wanted[1]),) if kind == "held" else ()
+
+
+def are_held(trees, held):
+    """Whether each of these subtrees contains what its name says."""
+    return all(is_whole(name, trees[at].children) for at, name in held)
+
+
+def is_whole(name, trees):
+    """Whether the trees are that name: it takes all of them, and each subtree among them contains what it must."""
+    found = Parse(NAMES, tuple(trees)).name(name, 0)
+    return found is not FAILS and found[0] == len(trees) and are_held(trees, found[1])
 
 
 NAMES, FRAGMENTS = table()
 
 
 def reach(fragment, trees):
-    """How many of the trees the fragment takes; 0 where it takes none."""
-    return max(0, Parse(NAMES, tuple(trees)).name(FRAGMENTS[fragment], 0))
+    """How many of the trees the fragment takes, if each subtree among them contains what it must; else 0."""
+    found = Parse(NAMES, tuple(trees)).name(FRAGMENTS[fragment], 0)
+    return found[0] if found is not FAILS and are_held(trees, found[1]) else 0

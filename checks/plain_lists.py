@@ -27,7 +27,7 @@ def trees_of(items):
 
 
 def one_subtree(trees):
-    """The trees, where they are one subtree."""
+    """The trees, if they are one subtree."""
     if len(trees) != 1 or not isinstance(trees[0], Subtree):
         raise NotOneSubtree
     return trees[0]

@@ -60,7 +60,7 @@ class Builder:
         return self.taken - 1
 
     def restore(self, number):
-        """Goes back to a point. Whether it stands."""
+        """Goes back to a point. Returns whether it is valid."""
         if number not in self.points:
             return False
         held, headers, levels = self.points[number]
@@ -219,7 +219,7 @@ class Machine:
             return ["fault 2"]
 
     def rewritten(self, tree, actions):
-        """What comes of a tree."""
+        """What a tree becomes."""
         action = next(actions, "keep")
         if action == "remove":
             return ()

@@ -3,21 +3,27 @@ part after the other, and what they bind is a list of lists. Nothing here knows 
 
 A unit is one token as Rust sees it, or a subtree: ("ident", NAME), ("lit", TEXT), ("op", CHARS), ("life", NAME) or
 ("sub", BRACKET, UNITS). A part of a pattern is ("var", NAME, FRAGMENT), ("unit", UNIT), ("sub", BRACKET, PARTS) or
-("rep", PARTS, SEPARATOR or None, OPERATOR); a part of a template is ("use", NAME, PLACE), or one of the others, where a repetition has
+("rep", PARTS, SEPARATOR or None, OPERATOR); a part of a template is ("use", NAME, PLACE), or one of the others, in which a repetition has
 its flat place behind its operator.
 """
+
+
+import plain_grammar
+from plain_text import tree_of_text
+
+BRACKETS = {"(": ")", "[": "]", "{": "}"}
 
 
 class Stopped(Exception):
     """Why a template is not filled: `lengths` or `no round`, and the place of its repetition."""
 
 
-# Where the unit ends that begins at a place. Of units that tell that themselves, a part may end within another unit.
+# Where the unit ends that begins at a place. If the units answer that themselves, a part may end within another unit.
 def behind(units, at):
     return at + 1 if isinstance(units, list) else units.behind(at)
 
 
-# Where what a fragment takes at a place of the input ends; None where it takes nothing there and has to. White space may stand before
+# Where what a fragment takes at a place of the input ends; None if it takes nothing there and has to. White space may be before
 # the name of an ident, which marks a raw one.
 def taken(fragment, units, at):
     first = units[at] if at < len(units) else None
@@ -32,10 +38,24 @@ def taken(fragment, units, at):
     if fragment == "lifetime":
         return behind(units, at) if first[0] == "life" else None
     if fragment == "block":
-        return behind(units, at) if first[0] == "sub" and first[1] == "{" else None
+        return behind(units, at) if first[0] == "sub" and first[1] == "{" and plain_grammar.is_whole("statements", trees_in(first)) else None
     if fragment == "literal":
         return literal_end(first, units, at)
     return units.reached(fragment, at)
+
+
+# The trees in a subtree: it knows them itself, or they are those of its text.
+def trees_in(unit):
+    return unit.trees[0].children if hasattr(unit, "trees") else tree_of_text(" ".join(map(unit_text, unit[2]))).children
+
+
+# How a unit is written, with its tokens between spaces.
+def unit_text(unit):
+    if unit[0] == "sub":
+        return f"{unit[1]} {' '.join(unit_text(held) for held in unit[2])} {BRACKETS[unit[1]]}"
+    if unit[0] == "life":
+        return f"'{unit[1]}"
+    return unit[1]
 
 
 def visibility_end(first, units, at):
@@ -61,7 +81,7 @@ def literal_end(first, units, at):
     return None
 
 
-# What a variable took: the units, or one that stands for them.
+# What a variable took: the units, or one in their place.
 def bound_by(fragment, units, at, end):
     return units[at:end] if isinstance(units, list) else units.bound(fragment, at, end)
 

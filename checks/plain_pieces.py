@@ -17,7 +17,7 @@ class WrongBytes(Exception):
 
 
 class NoToken(Exception):
-    """No token stands here."""
+    """No token is here."""
 
 
 def piece(top):
@@ -116,7 +116,7 @@ class Tokens(Reader):
         return self.symbols[index], first & 1
 
     def plain(self, numbers):
-        """What stands behind a span without extra bits."""
+        """What follows a span without extra bits."""
         control = self.number(1)
         form, high = control % 8, control // 8
         if form in (0, 1, 2, 5):
@@ -167,7 +167,7 @@ class Tokens(Reader):
         return kind, self.span(part, start, length), self.span(close_part, start + distance, length), count
 
     def all(self):
-        """All tokens, up to where none stands."""
+        """All tokens, up to the first place without one."""
         tokens = []
         while not self.is_done():
             place = self.here()

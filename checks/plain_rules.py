@@ -14,7 +14,7 @@ def is_dollar(tree):
 
 
 def name_of(tree):
-    """What tells a name from others, or nothing where there is none."""
+    """What makes a name differ from others, or nothing if there is none."""
     return (tree.raw, tree.text) if isinstance(tree, Ident) and tree.text != "_" else None
 
 
@@ -81,7 +81,7 @@ def agree(leaf, other):
 
 
 def taken(pattern, trees):
-    """What each variable takes, by its name, or nothing where the trees are no instance."""
+    """What each variable takes, by its name, or nothing if the trees are no instance."""
     found = {}
     while pattern:
         if not trees:
@@ -123,7 +123,7 @@ def transcribed(template, found):
 
 
 def expanded(pattern, template, trees):
-    """What the rule makes of the trees, or nothing where they are no instance of the pattern."""
+    """What the rule makes of the trees, or nothing if they are no instance of the pattern."""
     judge_uses(template, names_in(pattern, frozenset()))
     found = taken(pattern, trees)
     return None if found is None else transcribed(template, found)

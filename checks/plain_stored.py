@@ -27,7 +27,7 @@ def symbols_used(trees):
 
 
 def table(used, most_by_first_use):
-    """Each value once: by first use, or where they are many, those used most in front."""
+    """Each value once: by first use, or if they are many, those used most in front."""
     counts = Counter(used)
     values = list(counts)
     if len(values) > most_by_first_use:

@@ -67,7 +67,7 @@ def digits_end(text, at, digits):
 
 
 def has_digit(text, at, end, digits):
-    """Whether a digit stands there, and not underscores alone."""
+    """Whether a digit is there, and not underscores alone."""
     return any(char in digits for char in text[at:end])
 
 
@@ -114,7 +114,7 @@ def unit_end(kind, inside, at):
 
 
 def check_inside(kind, inside):
-    """What stands between the quotes of a literal that is not raw and has no suffix."""
+    """The text between the quotes of a literal that is not raw and has no suffix."""
     at = count = 0
     while at < len(inside):
         at, count = unit_end(kind, inside, at), count + 1
@@ -123,7 +123,7 @@ def check_inside(kind, inside):
 
 
 def check_quoted(kind, inside):
-    """What stands between quotes."""
+    """The text between quotes."""
     if kind in ("byte", "bstr", "rbstr") and not inside.isascii():
         raise Wrong("character beyond ASCII")
     check_returns(inside)
@@ -174,7 +174,7 @@ def raw(span_of, text, start, kind, at):
 
 
 def exponent_end(text, at):
-    """Where the exponent ends whose `e` stands there."""
+    """The end of the exponent whose `e` is there."""
     digits = at + 2 if text[at + 1:at + 2] in ("+", "-") else at + 1
     end = digits_end(text, digits, DECIMAL)
     if not has_digit(text, digits, end, DECIMAL):
@@ -237,7 +237,7 @@ def lifetime(span_of, start, end, is_raw, text):
 
 
 def character(span_of, text, start, kind="char", opening=None):
-    """A literal of one character. It ends at a line feed and before a slash, where it is not closed."""
+    """A literal of one character. It ends at a line feed and before a slash, if it is not closed."""
     opening = start + 1 if opening is None else opening
     at = opening
     if text[at + 1:at + 2] == "'" and text[at] != "\\":

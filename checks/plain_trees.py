@@ -58,7 +58,7 @@ class Subtree(NamedTuple):
 
 # What opens a subtree in text, and what closes it.
 ENDS = {"paren": ("(", ")"), "brace": ("{", "}"), "bracket": ("[", "]"), "invisible": ("", ""), "opaque": ("", "")}
-# What stands in front of a literal's text in Display; with hashes where it is raw.
+# The text in front of a literal's text in Display; with hashes if it is raw.
 OPENING = {
     "int": "", "float": "", "err": "", "byte": "b'", "char": "'", "str": '"', "bstr": 'b"', "cstr": 'c"',
     "rstr": "r", "rbstr": "br", "rcstr": "cr",
@@ -161,7 +161,7 @@ def debug_lines(trees, depth=0):
 
 
 def walk(trees):
-    """The places of a walk: a token, or where a subtree is left."""
+    """The places of a walk: a token, or the end of a subtree."""
     for tree in trees:
         yield token_words(tree)
         if isinstance(tree, Subtree):
@@ -180,7 +180,7 @@ def alone(trees):
 
 
 def glued_front(trees):
-    """How many puncts at the front of the trees stand as one."""
+    """How many puncts at the front of the trees are one operator."""
     first, second, third = (trees + (None, None))[:3]
     if first.spacing == "alone" or not isinstance(second, Punct):
         return 1
@@ -190,7 +190,7 @@ def glued_front(trees):
 
 
 def glued_sizes(trees):
-    """How many puncts stand as one, one after another, and an x for each tree that is none."""
+    """How many puncts each operator has, one after another, and an x for each tree that is none."""
     while trees:
         count = glued_front(trees) if isinstance(trees[0], Punct) else 1
         yield str(count) if isinstance(trees[0], Punct) else "x"
@@ -198,7 +198,7 @@ def glued_sizes(trees):
 
 
 def piece_sizes(trees, char):
-    """How many tokens stand in each piece between puncts of that character."""
+    """How many tokens are in each piece between puncts of that character."""
     sizes = [0]
     for tree in trees:
         if isinstance(tree, Punct) and tree.char == char:

@@ -13,7 +13,7 @@ class NotWritable(Exception):
 
 
 def read_alone(text):
-    """The trees of a text that is one token; None where it is none."""
+    """The trees of a text that is one token; None if it is none."""
     try:
         end, trees = token(lambda start, end: None, text, 0) if text else (0, [])
     except Wrong:
@@ -66,7 +66,7 @@ def marks(trees, place):
 
 
 def may_follow(before, leaf):
-    """Whether the leaf may stand right behind that punct, with which it would be a comment, or no token."""
+    """Whether the leaf may be right behind that punct, with which it would be a comment, or no token."""
     if before.char == QUOTE:
         return is_lifetime(leaf)
     joined = before.char + leaf.char if isinstance(leaf, Punct) and before.spacing != "alone" else ""
@@ -74,7 +74,7 @@ def may_follow(before, leaf):
 
 
 def stands_apart(before, mark):
-    """Whether a space stands between two marks."""
+    """Whether a space is between two marks."""
     if before is None or before in ("(", "{", "[") or mark in (")", "}", "]"):
         return False
     if isinstance(before, Punct) and (before.char == QUOTE or before.spacing != "alone"):

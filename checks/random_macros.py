@@ -3,7 +3,7 @@
 
 PROGRAM is `bench_texts`, whose `show` has to answer as plain_macros.py does, which lists all readings and shares no code with it.
 A line is printed for each 250 macros, `ok NAME`, and one for each that was answered otherwise, `FAILED NAME: WHY`; the status is 1
-where there was one. The same seeds make the same macros.
+if there was one. The same seeds make the same macros.
 """
 import argparse
 import random
@@ -19,7 +19,6 @@ BATCH = 250
 MOST_UNITS = 12
 # What begins an answer that is no tree.
 STOPS = ("no", "ambiguous", "lengths")
-BRACKETS = {"(": ")", "[": "]", "{": "}"}
 OPERATORS = [",", ";", "=>", "+", "::", "-", "=="]
 UNITS = (
     [("ident", name) for name in ("a", "b", "pub", "in", "self", "true", "_")]
@@ -102,7 +101,7 @@ class Maker:
             return self.by.choice([[], [("ident", "pub")], [("ident", "pub"), ("sub", "(", held)]])
         return [self.unit(1)]
 
-    # A template of these variables, each with how many repetitions it stands in, where so many stand round it, of fewer parts than
+    # A template of these variables, each with how many repetitions it is in, if that many are around it, of fewer parts than
     # `most` at a level.
     def template(self, nests, depth, most=5):
         parts = []
@@ -151,15 +150,6 @@ def nests_of(parts, depth=0):
     return nests
 
 
-# How a unit is written, with its tokens between spaces.
-def unit_text(unit):
-    if unit[0] == "sub":
-        return f"{unit[1]} {' '.join(unit_text(held) for held in unit[2])} {BRACKETS[unit[1]]}"
-    if unit[0] == "life":
-        return f"'{unit[1]}"
-    return unit[1]
-
-
 def parts_text(parts):
     words = []
     for part in parts:
@@ -168,11 +158,11 @@ def parts_text(parts):
         elif part[0] == "use":
             words.append(f"${part[1]}")
         elif part[0] == "unit":
-            words.append(unit_text(part[1]))
+            words.append(plain_macros.unit_text(part[1]))
         elif part[0] == "sub":
-            words.append(f"{part[1]} {parts_text(part[2])} {BRACKETS[part[1]]}")
+            words.append(f"{part[1]} {parts_text(part[2])} {plain_macros.BRACKETS[part[1]]}")
         else:
-            separator = unit_text(part[2]) if part[2] is not None else ""
+            separator = plain_macros.unit_text(part[2]) if part[2] is not None else ""
             words.append(f"$({parts_text(part[1])}) {separator} {part[3]}")
     return " ".join(words)
 
@@ -235,10 +225,10 @@ def macro_text(arms):
 
 
 def units_text(units):
-    return " ".join(unit_text(unit) for unit in units)
+    return " ".join(plain_macros.unit_text(unit) for unit in units)
 
 
-# A macro and an input, as texts, and what comes of it; nothing where the input has too many units for brute force.
+# A macro and an input, as texts, and what the input becomes; nothing if the input has too many units for brute force.
 def example(seed):
     arms, units = macro(Maker(random.Random(seed)))
     if len(units) > MOST_UNITS:

@@ -1,9 +1,9 @@
 #!/usr/bin/env python3
-"""Scripts made by chance, of which a plain machine tells the answers: random_scripts.py PROGRAM [--first SEED] [--scripts N]
+"""Scripts made by chance, whose answers a plain machine knows: random_scripts.py PROGRAM [--first SEED] [--scripts N]
 
 The program has to answer as the machine of plain_machine.py does, which packs nothing and shares no code with it. A line
 is printed for each hundred scripts, `ok NAME`, and one for each script that was answered otherwise, `FAILED NAME: WHY`;
-the status is 1 where there was one. The same seeds make the same scripts.
+the status is 1 if there was one. The same seeds make the same scripts.
 """
 import argparse
 import subprocess
@@ -18,7 +18,7 @@ from script_maker import Script
 SCRIPTS = 500
 # Scripts to one line that is printed.
 BATCH = 100
-# A script ends where a tree or the builder has more tokens, or a macro takes an input that is too long for brute force.
+# A script ends when a tree or the builder has more tokens, or a macro takes an input that is too long for brute force.
 MOST_TOKENS = 4000
 
 

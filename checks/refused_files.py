@@ -3,8 +3,8 @@
 
 PROGRAM is `cuvolemin`, and LIBRARY is checks/refuse.c. The first, second, .. request of a run of `expand` is refused, until it
 makes no more of them. Each run ends: either as with ample memory, or with status 1, or 2 while the words of the command line
-are read, nothing written, and a last message that says that memory was wanting. A line is printed for each text, `ok NAME` or `FAILED NAME: WHY`; the status is 1 where one
-failed.
+are read, nothing written, and a last message that says that memory ran out. A line is printed for each text, `ok NAME` or
+`FAILED NAME: WHY`; the status is 1 if one failed.
 """
 import os
 import pathlib
@@ -13,10 +13,10 @@ import sys
 import tempfile
 
 EXAMPLES = pathlib.Path(__file__).resolve().parent.parent / "examples" / "rust"
-# One that is written, one of which warnings are told, one with errors, one with no tree.
+# One that is written, one with warnings, one with errors, one with no tree.
 NAMES = ("nested", "squared", "faults", "mismatched")
 SECONDS = 60
-# What is told where memory was wanting: by the program, or by the system when it asks for the arguments.
+# The diagnostics of a run that ran out of memory: by the program, or by the system when it asks for the arguments.
 WANTING = (b"out of memory", b"Cannot allocate memory", b"memory allocation failed")
 
 
@@ -25,7 +25,7 @@ class Wrong(Exception):
 
 
 def run(program, name, **environment):
-    """The status of a run, what it wrote, and what it told."""
+    """The status of a run, what it wrote, and its diagnostics."""
     done = subprocess.run(
         [program, "expand", str(EXAMPLES / f"{name}.rs")],
         stdin=subprocess.DEVNULL, capture_output=True, timeout=SECONDS, check=False, env={**os.environ, **environment},
@@ -34,7 +34,7 @@ def run(program, name, **environment):
 
 
 def expected(name):
-    """What a run over an example has to be with ample memory: what stands beside it."""
+    """What a run over an example has to be with enough memory: what the files beside it have."""
     path = EXAMPLES / f"{name}.rs"
     is_right = path.with_suffix(".expanded").exists()
     written = path.with_suffix(".expanded").read_bytes() if is_right else b""
@@ -55,6 +55,7 @@ def try_each(program, library, name):
     ample = expected(name)
     with tempfile.TemporaryDirectory() as room:
         refused = pathlib.Path(room) / "refused"
+        named = False
         for nth in range(1, sys.maxsize):
             ended = run(program, name, REFUSE=str(nth), REFUSED=str(refused), LD_PRELOAD=library)
             if not refused.exists():
@@ -62,8 +63,11 @@ def try_each(program, library, name):
             refused.unlink()
             if not is_refused_well(ended, ample):
                 raise Wrong(f"request {nth} refused: {str(ended)[:300]}")
+            named = named or f"error: {EXAMPLES / name}.rs: out of memory".encode() in ended[2]
         if ended != ample or nth == 1:
             raise Wrong(f"with none of {nth - 1} requests refused: {str(ended)[:300]}")
+        if not named:
+            raise Wrong("no diagnostic names the file")
 
 
 def main():

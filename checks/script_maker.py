@@ -99,7 +99,7 @@ class Script(Rules, Arms, Texts):
             self.add(verb, slot)
 
     def add_joined(self):
-        """A tree of puncts that stand as one."""
+        """A tree of puncts of one operator."""
         slot = self.slot()
         self.put(slot, [punct for _ in range(8) for punct in self.run()])
         self.add("glue", slot)

@@ -3,7 +3,7 @@
 
 PROGRAM is `test_sweep_trees` or `test_sweep_changes`, which make one call a run, and LIBRARY is checks/refuse.c. The first,
 second, .. request of the call is refused, until it makes no more of them. Behind each run as many blocks of memory live as
-in front of it. A line is printed for each call, `ok NAME` or `FAILED NAME: WHY`; the status is 1 where one failed. Calls that
+in front of it. A line is printed for each call, `ok NAME` or `FAILED NAME: WHY`; the status is 1 if one failed. Calls that
 are wrong are made too, and it has to be noticed.
 """
 import os

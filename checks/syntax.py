@@ -2,8 +2,9 @@
 """Whether texts are files of Rust, by the program `cuvolemin`: syntax.py PROGRAM
 
 Each row of syntax_rows.txt, which says how to read it, is a text. `tree --syntax` and `check` take it, and the derivation has the row's
-name; or both refuse it at the row's place. It prints a line for each row, `ok ROW` or `FAILED ROW: WHY`, and one for each name or bracket
-of docs/GRAMMAR.md that has no row; the status is 1 if one failed.
+name; or both refuse it at the row's place. Texts that repeat a piece which a table could read over and over are refused too, and soon. It
+prints a line for each, `ok ROW` or `FAILED ROW: WHY`, and one for each name or bracket of docs/GRAMMAR.md that has no row; the status is 1
+if one failed.
 """
 import collections
 import pathlib
@@ -12,6 +13,7 @@ import subprocess
 import sys
 import tempfile
 from concurrent.futures import ThreadPoolExecutor
+from functools import partial
 from typing import NamedTuple, Optional
 
 from program_files import Files, Wrong, wants
@@ -27,6 +29,18 @@ HEAD = re.compile(
 OF_FRAGMENTS = {"expression_2021_fragment", "pattern_fragment", "pattern_param_fragment", "statement"}
 # Runs at a time.
 RUNS = 4
+# How often a piece is repeated. A table that reads it twice at each place would read for ever.
+TIMES = 2000
+# Texts that are no file: what precedes the pieces, the piece, and what follows. The piece may begin an alternative that fails far behind.
+REPEATED = [
+    ("fn f() { ", "- while a ", "> b }"), ("fn f() { ", "- if a {} ", "=> }"), ("fn f() { if ", "- while a ", "}"),
+    ("fn f() { if ", "break ", "=> }"), ("fn f() { if a || ", "b < - while ", "}"), ("fn f() { if let a = ", "- while b ", "}"),
+    ("fn f() { match a { b if ", "- while c ", "} }"), ("fn f() { match a { b if let c = ", "- while d ", "} }"),
+    ("fn f() { ", "|a| ", "}"), ("fn f() { ", "& - ", "}"), ("fn f() { let ", "& ", "; }"), ("fn f() { a", ".. ", "=> }"),
+    ("fn f() { ", "<A as ", "}"), ("fn f() { for ", "<A as ", "}"), ("fn f() { a as ", "A<", "; }"), ("fn f() { ", "a::<", "}"),
+    ("type A = ", "B<", ";"), ("type A = ", "B<C = ", ";"), ("type A = ", "<B as ", ";"), ("type A = ", "for<'a> fn() -> ", ";"),
+    ("type A = ", "&dyn ", ";"), ("fn f() where ", "A<", "{}"), ("impl ", "A<", "{}"), ("impl<", "A: B<", "{}"), ("", "#[a] pub ", ""),
+]
 
 
 class Row(NamedTuple):
@@ -37,7 +51,7 @@ class Row(NamedTuple):
     verdict: str
     bracket: Optional[str]
     name: str
-    # where the table refuses it, and where the compiler does if that is another place
+    # the place at which the table refuses it, and that of the compiler if it is another one
     place: Optional[str]
     other: Optional[str]
     text: str
@@ -122,11 +136,19 @@ def try_refused(files, row, path):
             raise Wrong(f"the message of {words[0]} over {row.text!r}: {first}")
 
 
-def tried(files, row):
-    """Why a row failed; none if it did not."""
-    path = files.made(f"row{row.line}.rs", row.text.encode())
+def try_repeated(files, what, path):
+    """`check` refuses the text, in time."""
+    status, written, told = files.run("check", path)
+    wants(f"status and output of check over {what}", (status, written), (1, b""))
+    if b"error: " not in told:
+        raise Wrong(f"check over {what} reports no error: {told!r}")
+
+
+def tried(files, number, text):
+    """Why a text failed, the one of that number; none if it did not."""
+    try_one, what, code = text
     try:
-        (try_refused if row.verdict == "refuses" else try_file)(files, row, path)
+        try_one(files, what, files.made(f"text{number}.rs", code.encode()))
         return None
     except (Wrong, OSError, UnicodeDecodeError, subprocess.TimeoutExpired) as why:
         return str(why).replace("\n", " ")
@@ -140,8 +162,10 @@ def main():
         print(f"FAILED rows: {why}")
     with tempfile.TemporaryDirectory() as room, ThreadPoolExecutor(RUNS) as runs:
         files = Files(sys.argv[1], room)
-        for row, why in zip(rows, runs.map(lambda row: tried(files, row), rows)):
-            print(f"FAILED {row}: {why}" if why else f"ok {row}", flush=True)
+        texts = [(try_refused if row.verdict == "refuses" else try_file, row, row.text) for row in rows]
+        texts += [(try_repeated, f"{it[1]!r} over and over", it[0] + it[1] * TIMES + it[2]) for it in REPEATED]
+        for (_, what, _), why in zip(texts, runs.map(partial(tried, files), range(len(texts)), texts)):
+            print(f"FAILED {what}: {why}" if why else f"ok {what}", flush=True)
             failed += [why] if why else []
     return int(bool(failed))
 

@@ -29,8 +29,9 @@ uint32_t tt_text_to_bytes(const uint8_t *text, size_t text_len, uint8_t *out, si
 uint32_t tt_bytes_to_text(const uint8_t *bytes, size_t bytes_len, uint8_t *out, size_t out_len, size_t *written, size_t *at);
 
 /* A Rust text in which each call of a macro that is defined in it becomes what the macro makes of it. All else stays byte for byte. Up to
- * 128 expansions may be inside one another, for which 192 KiB of stack were enough when measured, and $crate becomes crate. A call under
- * #[cfg(..)] stays only if the condition cannot apply to each part of its expansion.
+ * 128 expansions may be inside one another, for which 512 KiB of stack were enough when measured, and $crate becomes crate. A call under
+ * #[cfg(..)] stays only if the condition cannot apply to each part of its expansion. A call of a macro whose last definition is under
+ * #[cfg(..)] stays if another definition of the name is in scope.
  * Faults: 1 to 44; 81 to 92 but for 84, of definitions; 100 to 106, of calls; and 5 to 9 of either. *at is a byte of the text; 0 for faults
  * 1, 2 and 4, and for 5 to 9 where the text itself is past the limit. */
 uint32_t tt_expand_text(const uint8_t *text, size_t text_len, uint8_t *out, size_t out_len, size_t *written, size_t *at);

@@ -169,13 +169,22 @@ class Tree:
         return Tree._of(_made(_LIBRARY.tt_expand_bytes, room, self._bytes, source._bytes))
 
 
+def _bytes_of(text):
+    """The bytes of a str or of bytes; a TypeError for anything else."""
+    if isinstance(text, str):
+        return text.encode()
+    if isinstance(text, (bytes, bytearray, memoryview)):
+        return bytes(text)
+    raise TypeError(f"a text is a str or bytes, not {type(text).__name__}")
+
+
 def parse(text):
     """The tree of a Rust text, a str or bytes."""
-    data = text.encode() if isinstance(text, str) else bytes(text)
+    data = _bytes_of(text)
     return Tree._of(_made(_LIBRARY.tt_text_to_bytes, 64 + 4 * len(data), data))
 
 
 def expand(text):
     """The Rust text in which each call of a macro that is defined in it becomes what the macro makes of it."""
-    data = text.encode() if isinstance(text, str) else bytes(text)
+    data = _bytes_of(text)
     return _made(_LIBRARY.tt_expand_text, 64 + 2 * len(data), data).decode()

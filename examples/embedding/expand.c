@@ -3,16 +3,37 @@
 #include <stdio.h>
 #include <stdlib.h>
 
-enum { MOST = 1 << 20 };
+// Reads all of a stream into `*text`. Returns its number of bytes; on failure it frees `*text` and sets it to NULL.
+static size_t read_all(FILE *stream, uint8_t **text) {
+    size_t len = 0, room = 1 << 16, got;
+    uint8_t *more;
+    *text = malloc(room);
+    while (*text && (got = fread(*text + len, 1, room - len, stream)) > 0) {
+        len += got;
+        if (len < room) {
+            continue;
+        }
+        room *= 2;
+        if (!(more = realloc(*text, room))) {
+            free(*text);
+        }
+        *text = more;
+    }
+    if (*text && ferror(stream)) {
+        free(*text);
+        *text = NULL;
+    }
+    return len;
+}
 
 int main(void) {
-    uint8_t *text = malloc(MOST), *out = NULL, *more;
-    size_t len, room = 0, written, at;
+    uint8_t *text, *out = NULL, *more;
+    size_t len = read_all(stdin, &text), room, written = 0, at;
     uint32_t answer;
     if (!text) {
+        fputs("standard input cannot be read\n", stderr);
         return 1;
     }
-    len = fread(text, 1, MOST, stdin);
     do {
         room = out ? written : 2 * len + 64;
         if (!(more = realloc(out, room))) {

@@ -21,7 +21,7 @@ pub record Gives (made before after : List ℕ) (written at result : ℕ) : Type
   pub answer : ((result ≡ 0) × IsWritten made before after) ⊎ ((result ≡ number_of NoRoom) × HasNoRoom made before after)
 
 -- the caller gets a fault and its place
-pub record Tells (failure : Failure) (written at result : ℕ) : Type 0 where
+pub record Reports (failure : Failure) (written at result : ℕ) : Type 0 where
   pub number : written ≡ 0
   pub place : at ≡ failure.at
   pub answer : result ≡ number_of failure.fault
@@ -30,4 +30,4 @@ pub record Tells (failure : Failure) (written at result : ℕ) : Type 0 where
 abbrev pub Answers : (IsMade : List ℕ → Type 0) → (IsFailure : Failure → Type 0) → (before after : List ℕ) → (written at result : ℕ) → Type 0
 Answers IsMade IsFailure before after written at result =
     ((made : List ℕ) × IsMade made × Gives made before after written at result)
-    ⊎ ((failure : Failure) × IsFailure failure × Tells failure written at result × (after ≡ before))
+    ⊎ ((failure : Failure) × IsFailure failure × Reports failure written at result × (after ≡ before))

@@ -24,7 +24,7 @@ text_part = record { anchor = record { file_id = record { 0 = 0 }; ast_id = reco
 -- the text is not UTF-8, with the byte
 pub record IsNoText (text : List ℕ) (failure : Failure) : Type 0 where
   pub none : IsUtf8 text → ⊥
-  pub told : failure ≡ at_place NotUtf8 (utf8_valid_len text)
+  pub failure_is : failure ≡ at_place NotUtf8 (utf8_valid_len text)
 
 -- the tree of a text
 pub record IsTreeOf (text : List ℕ) (root : Root) : Type 0 where

@@ -1,5 +1,5 @@
 //! What a call returns to its caller.
-ghost use Rattle.app_c.specs.Answers.{Gives, Tells};
+ghost use Rattle.app_c.specs.Answers.{Gives, Reports};
 
 use crate::failure::Failure;
 use crate::fault::Fault;
@@ -20,7 +20,7 @@ pub(crate) fn give(made: &[u8], out: &mut [u8], written: &mut usize, at: &mut us
 
 /// Reports a fault to the caller.
 pub(crate) fn tell(failure: Failure, written: &mut usize, at: &mut usize) -> u32
-    ensures { Tells failure written.new at.new result }
+    ensures { Reports failure written.new at.new result }
 {
     *written = 0;
     *at = failure.at;

@@ -1,2 +1,3 @@
--- What is left of a walk.
+-- What is left of a walk, and of diagnostics.
+pub mod MoreText
 pub mod TokensLeft

@@ -69,6 +69,8 @@ size_message name fault = about [] name (codes " is too large: " ++ fault_text f
 abbrev pub message : (name : List ℕ) → MacroFault → List ℕ
 message name (wrong.Definition error) = definition_message name error
 message name wrong.Left = about (codes "this call of ") name (codes " is left as it is")
+message name wrong.SeveralDefinitions =
+    about (codes "this call of ") name (codes " is left as it is: which of its definitions holds depends on `#[cfg(..)]`")
 message name wrong.Conditional =
     about (codes "this call of ") name (codes " is left as it is: `#[cfg(..)]` cannot apply to each part of its expansion")
 message name wrong.NoMatch = about (codes "no rule of ") name (codes " matches this")

@@ -1,6 +1,6 @@
 -- What the program writes of a text whose macros are expanded.
-use Rattle.std.specs.Prelude.{◌≡◌, ℕ, List, [], ◌∷◌, ◌++◌, map, nat_lt, codes, decimal, string_bytes, Option, None, Some, MatchOption, if◌then◌else◌}
-use Rattle.app_cli.specs.Counts.{counts_of, level_of, message_of}
+use Rattle.std.specs.Prelude.{◌≡◌, ◌-◌, ℕ, zero, suc, List, [], ◌∷◌, ◌++◌, length, take, map, nat_lt, codes, decimal, string_bytes, Option, None, Some, MatchOption, if◌then◌else◌}
+use Rattle.app_cli.specs.Counts.{counted, counts_of, level_of, message_of}
 use Rattle.app_cli.specs.Messages.{about, message}
 use Rattle.app_cli.specs.declared.counts.Counts.{Counts}
 use Rattle.app_cli.specs.declared.report.Report.{Report}
@@ -27,6 +27,7 @@ level_of_fault fault = if is_warning fault then Warning else Error
 abbrev pub notes_on : (limit : ℕ) → MacroFault → List (List ℕ)
 notes_on limit (wrong.Definition why) = []
 notes_on limit wrong.Left = []
+notes_on limit wrong.SeveralDefinitions = []
 notes_on limit wrong.Conditional = []
 notes_on limit wrong.NoMatch = []
 notes_on limit (wrong.Ambiguous arm) = []
@@ -80,8 +81,30 @@ pub record IsPlainText (style : Style) (level : Level) (message written : List �
 abbrev pub IsSummary : Style → Counts → List ℕ → Type 0
 IsSummary style counts written = MatchOption (level_of counts) (written ≡ []) (λ level. IsPlainText style level (message_of counts) written)
 
--- all findings are reported, and the expanded text is the output, unless a finding is an error
+-- at most so many findings of a text are shown
+abbrev pub most_shown : ℕ
+most_shown = 100
+
+-- how many diagnostics are not shown
+abbrev pub more_message : (more : ℕ) → List ℕ
+more_message more = counted more (codes "more diagnostic is not shown") (codes "more diagnostics are not shown")
+
+-- what follows the diagnostics: how many are not shown, if some are not
+abbrev pub IsMoreText : Style → (more : ℕ) → List ℕ → Type 0
+IsMoreText style zero written = written ≡ []
+IsMoreText style (suc more) written =
+    (line : List ℕ) × IsPlainText style Warning (more_message (suc more)) line × (written ≡ line ++ 10 ∷ [])
+
+-- the first findings are shown, and it is said how many others there are
+pub record AreShown (style : Style) (file text : List ℕ) (limit : ℕ) (findings : List Finding) (written : List ℕ) : Type 0 where
+  pub first : List ℕ
+  pub more : List ℕ
+  pub shown : AreDiagnosticTexts style file text limit (take most_shown findings) first
+  pub others : IsMoreText style (length findings - most_shown) more
+  pub is : written ≡ first ++ more
+
+-- the findings are shown, and the expanded text is the output, unless a finding is an error
 pub record IsReport (style : Style) (file text : List ℕ) (limit : ℕ) (found : Expanded) (report : Report) : Type 0 where
-  pub diagnostics : AreDiagnosticTexts style file text limit found.findings.items (string_bytes report.diagnostics)
+  pub diagnostics : AreShown style file text limit found.findings.items (string_bytes report.diagnostics)
   pub counts : report.counts ≡ counts_of found.findings.items
   pub output : report.output ≡ (if nat_lt 0 (counts_of found.findings.items).errors then None else Some found.text)

@@ -1,4 +1,5 @@
 //! The command line.
+use crate::dropping::Drops;
 use clap::builder::ValueParser;
 use clap::{Arg, ArgAction, ArgMatches, Command, Error};
 use expand_text::USUAL_LIMIT;
@@ -17,6 +18,8 @@ const ONLY: &str = "only";
 const LIMIT: &str = "limit";
 
 const DROP_RULES: &str = "drop-rules";
+
+const DROP_EXPORTED: &str = "drop-exported";
 
 const SYNTAX: &str = "syntax";
 
@@ -86,8 +89,15 @@ fn expand<'a>(alloc: Global) -> Result<Command<'a>, AllocError> {
         .long(DROP_RULES)
         .action(ArgAction::SetTrue)
         .help("Leaves out the definitions of macros that nothing in what is written needs");
+    let drops_exported = Arg::new(alloc, DROP_EXPORTED)
+        .long(DROP_EXPORTED)
+        .action(ArgAction::SetTrue)
+        .requires_arg(DROP_RULES)?
+        .help("Leaves out also those under #[macro_export], which other crates may use");
     let about = "Writes the text in which calls of its own macros are expanded";
-    expands(alloc, "expand", about, file(alloc))?.arg(drops)
+    expands(alloc, "expand", about, file(alloc))?
+        .arg(drops)?
+        .arg(drops_exported)
 }
 
 // Returns the command that reports errors.
@@ -165,9 +175,15 @@ pub fn is_everywhere(matches: &ArgMatches<'_>) -> bool {
     matches.get_flag(EVERYWHERE)
 }
 
-/// Returns whether definitions that nothing needs are left out.
-pub fn drops_rules(matches: &ArgMatches<'_>) -> bool {
-    matches.get_flag(DROP_RULES)
+/// Returns which definitions are left out.
+pub fn drops_of(matches: &ArgMatches<'_>) -> Drops {
+    if !matches.get_flag(DROP_RULES) {
+        Drops::Nothing
+    } else if matches.get_flag(DROP_EXPORTED) {
+        Drops::Unneeded
+    } else {
+        Drops::Unexported
+    }
 }
 
 /// Returns whether the derivation is written.

@@ -24,8 +24,8 @@ fn word<'x>(count: usize, one: &'x str, many: &'x str) -> &'x str
     if count == 1 { one } else { many }
 }
 
-// Returns the number and its word.
-fn counted(alloc: Global, count: usize, one: &str, many: &str) -> Result<String, AllocError>
+/// Returns the number and its word.
+pub fn counted(alloc: Global, count: usize, one: &str, many: &str) -> Result<String, AllocError>
     ensures { IfOk result (λ text. string_bytes text ≡ counted count one.now many.now) }
 {
     let mut text = count.to_string(alloc)?;

@@ -16,15 +16,27 @@ fn refused(rt: &HostRuntime, name: &str, error: DropRulesError) -> Failure {
     }
 }
 
-/// Returns the expanded text of that name without the definitions of macros that nothing in it needs. If `only` is given, only definitions
-/// of that name are dropped.
+/// Which definitions are left out of an expanded text.
+#[derive(Clone, Copy)]
+pub enum Drops {
+    /// None.
+    Nothing,
+    /// Those that nothing in it needs, but for exported ones.
+    Unexported,
+    /// All that nothing in it needs.
+    Unneeded,
+}
+
+/// Returns the expanded text of that name without the definitions of macros that nothing in it needs, the exported ones too if
+/// `drops_exported`. If `only` is given, only definitions of that name are dropped.
 pub fn without_definitions(
     rt: &HostRuntime,
     name: &str,
     text: &str,
     only: Option<&str>,
+    drops_exported: bool,
 ) -> Result<String, Failure> {
-    match without_rules(rt.alloc(), text, only) {
+    match without_rules(rt.alloc(), text, only, drops_exported) {
         Ok(written) => Ok(written),
         Err(error) => Err(refused(rt, name, error)),
     }

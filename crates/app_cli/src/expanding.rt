@@ -1,11 +1,13 @@
 //! The macros of texts: the expansions of calls, and the faults.
 use crate::counts::Counts;
 use crate::diagnostics::diagnostics_text;
-use crate::dropping::without_definitions;
+use crate::dropping::{Drops, without_definitions};
 use crate::failure::Failure;
 use crate::grammar_error::grammar_failure;
 use crate::input::Input;
+use crate::mentions::Mentions;
 use crate::report::{Report, report_on, summary};
+use crate::shebang::{shebang_of, without_shebang};
 use crate::style::style_of;
 use crate::syntax_error::syntax_failure;
 use crate::tree_lines::tree_of;
@@ -13,6 +15,7 @@ use expand_text::{ExpandOptions, ExpandTextError, expand_leniently};
 use mbe_grammar::{ParsedFile, parse_file};
 use std::io::{self, Write};
 use std::process::ExitCode;
+use syntax_lex::MOST_TEXT_BYTES;
 
 const BYTE_ORDER_MARK: &str = "\u{feff}";
 
@@ -22,6 +25,8 @@ struct Outcome {
     output: Option<String>,
     // whether the text begins with a byte order mark
     has_mark: bool,
+    // the first line, which the output has as spaces, if it names a program
+    shebang: String,
     counts: Counts,
 }
 
@@ -44,9 +49,14 @@ fn refused(
     }
 }
 
-// Reports the first syntax error of a text that has a tree, and returns its number of errors.
-fn syntax_counts(rt: &HostRuntime, name: &str, text: &str) -> Result<Counts, Failure> {
-    let tree = tree_of(rt, name, text)?;
+// Reports the first syntax error of a text, which has a tree without its first line, and returns its number of errors.
+fn syntax_counts(
+    rt: &HostRuntime,
+    name: &str,
+    text: &str,
+    source: &str,
+) -> Result<Counts, Failure> {
+    let tree = tree_of(rt, name, source)?;
     match parse_file(rt.alloc(), tree.token_trees())? {
         ParsedFile::Whole(_) => Ok(Counts::NONE),
         ParsedFile::Refused(error) => {
@@ -68,7 +78,12 @@ fn expanded(
     let text = input.text(rt, bytes.as_slice())?;
     let name = input.name();
     let limit = options.limit;
-    let found = match expand_leniently(rt.alloc(), text, options) {
+    let blank = without_shebang(rt.alloc(), text)?;
+    let source = match &blank {
+        Some(blank) => blank.as_str(),
+        None => text,
+    };
+    let found = match expand_leniently(rt.alloc(), source, options) {
         Ok(found) => found,
         Err(error) => return Err(refused(rt, name, text, limit, error)),
     };
@@ -78,7 +93,7 @@ fn expanded(
         counts,
     } = report_on(rt.alloc(), style_of(rt), name, text, limit, found)?;
     let syntax = if checks {
-        syntax_counts(rt, name, text)?
+        syntax_counts(rt, name, text, source)?
     } else {
         Counts::NONE
     };
@@ -86,6 +101,7 @@ fn expanded(
     Ok(Outcome {
         output,
         has_mark: text.len() < bytes.len(),
+        shebang: String::from_str(rt.alloc(), shebang_of(text))?,
         counts: syntax.plus(counts),
     })
 }
@@ -100,11 +116,12 @@ fn outcome_of(
     match expanded(rt, input, options, checks) {
         Ok(outcome) => outcome,
         Err(failure) => {
-            failure.report(rt);
+            failure.report_on(rt, input.name());
             let _ = eprintln!(rt; "");
             Outcome {
                 output: None,
                 has_mark: false,
+                shebang: String::new(rt.alloc()),
                 counts: Counts::ONE_ERROR,
             }
         }
@@ -118,37 +135,62 @@ fn write_summary(rt: &HostRuntime, counts: Counts) -> Result<(), Failure> {
     Ok(())
 }
 
-// Writes a text, behind a byte order mark if the source had one.
-fn write(rt: &HostRuntime, has_mark: bool, text: &str) -> io::Result<()> {
+// Writes a text, behind a byte order mark if the source had one, with the first line of the source in place of as many bytes.
+fn write(rt: &HostRuntime, has_mark: bool, shebang: &str, text: &str) -> io::Result<()> {
     if has_mark {
         rt.stdout().write_all(BYTE_ORDER_MARK.as_bytes())?;
     }
-    rt.stdout().write_all(text.as_bytes())
+    rt.stdout().write_all(shebang.as_bytes())?;
+    let rest = match text.split_at_checked(shebang.len()) {
+        Some((_, rest)) => rest,
+        None => text,
+    };
+    rt.stdout().write_all(rest.as_bytes())
 }
 
-/// Writes the text of an input in which calls are expanded. If definitions are to be dropped, those that nothing in it needs are left out.
-/// If the text has an error, it writes nothing.
+// Reports on standard error that the expanded text of that name defines no macro `only`, or has calls of it left.
+fn note_mentions(rt: &HostRuntime, name: &str, text: &str, only: &str, everywhere: bool) {
+    if text.len() > MOST_TEXT_BYTES {
+        return;
+    }
+    let Mentions { definitions, calls } = Mentions::of(text, only);
+    if definitions == 0 {
+        let _ = eprintln!(rt; "note: {name} defines no macro `{only}`");
+    } else if calls > 0 && !everywhere {
+        let _ = eprintln!(rt;
+            "note: calls of `{only}` that are left: {calls}; --everywhere expands those in the brackets of other calls"
+        );
+    }
+}
+
+/// Writes the text of an input in which calls are expanded, without the definitions that are to be dropped. If the text has an error, it
+/// writes nothing.
 pub fn expand(
     rt: &HostRuntime,
     input: Input<'_>,
     options: ExpandOptions<'_>,
-    drops_rules: bool,
+    drops: Drops,
 ) -> Result<ExitCode, Failure> {
     let name = input.name();
     let only = options.only;
+    let everywhere = options.everywhere;
     let Outcome {
         output,
         has_mark,
+        shebang,
         counts,
     } = outcome_of(rt, input, options, false);
     write_summary(rt, counts)?;
     if let Some(text) = output {
-        let text = if drops_rules {
-            without_definitions(rt, name, text.as_str(), only)?
-        } else {
-            text
+        if let Some(only) = only {
+            note_mentions(rt, name, text.as_str(), only, everywhere);
+        }
+        let text = match drops {
+            Drops::Nothing => text,
+            Drops::Unexported => without_definitions(rt, name, text.as_str(), only, false)?,
+            Drops::Unneeded => without_definitions(rt, name, text.as_str(), only, true)?,
         };
-        write(rt, has_mark, text.as_str())?;
+        write(rt, has_mark, shebang.as_str(), text.as_str())?;
     }
     Ok(counts.status())
 }

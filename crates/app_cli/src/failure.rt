@@ -68,6 +68,18 @@ impl Failure {
         }
     }
 
+    /// Prints the failure of a command over the file of that name on standard error.
+    pub fn report_on(&self, rt: &HostRuntime, name: &str) {
+        match self {
+            Failure::Memory => {
+                let _ = eprintln!(rt; "error: {name}: out of memory");
+            }
+            Failure::Diagnostic(_) | Failure::Usage(_) | Failure::Stream(_) => {
+                self.report(rt);
+            }
+        }
+    }
+
     /// Prints the failure on standard error, and returns the exit status. If standard output was closed, it prints nothing and returns
     /// success: the reader has read enough.
     pub fn report(&self, rt: &HostRuntime) -> ExitCode {

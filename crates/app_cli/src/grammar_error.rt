@@ -1,10 +1,11 @@
 //! The diagnostic of a text that is no file by Rust's grammar.
 use crate::failure::Failure;
 use crate::style::style_of;
+use crate::syntax_error::error_text_at;
 use crate::words::word_text;
 use mbe_grammar::{SyntaxError, Test, Unit, test_of};
 use std::alloc::{AllocError, Global};
-use syntax_diagnostic::{Diagnostic, Level, SourceFile, Style, diagnostic_text};
+use syntax_diagnostic::Style;
 use tt::{DelimiterKind, Span, TtElement, TtIter};
 
 // The longest text of a token that a message quotes.
@@ -161,8 +162,7 @@ fn first_bytes<'t>(trees: TtIter<'t>) -> Option<(usize, usize)> {
     Some((start, end))
 }
 
-// Returns how many trees a wanted test takes there; none if no test passes, which is so but where an expression ends without a look at
-// what follows.
+// Returns how many trees a wanted test takes there; none if no test passes. One passes only if a negation behind its unit fails.
 fn taken_there(units: &[usize], trees: TtIter<'_>) -> Option<usize> {
     let mut behind = trees.remaining().iter();
     let unit = Unit::take(&mut behind);
@@ -208,26 +208,6 @@ fn found_in(
     })
 }
 
-// Returns the diagnostic with that message at that byte.
-fn placed_text<'x>(
-    alloc: Global,
-    style: Style,
-    name: &'x str,
-    text: &'x str,
-    message: &'x str,
-    at: usize,
-) -> Result<String, AllocError> {
-    let source = SourceFile::new(alloc, name, text)?;
-    let diagnostic = Diagnostic {
-        level: Level::Error,
-        message,
-        spot: Some(source.spot(at)),
-        notes: Vec::new(alloc),
-        placed_note: None,
-    };
-    diagnostic_text(alloc, style, &diagnostic)
-}
-
 // Returns the diagnostic.
 fn error_text(
     alloc: Global,
@@ -244,7 +224,7 @@ fn error_text(
     };
     let found = found_in(alloc, text, trees, error.level.close)?;
     let message = message(alloc, &wanted, found.text.as_str())?;
-    placed_text(alloc, style, name, text, message.as_str(), found.at)
+    error_text_at(alloc, style, name, text, message.as_str(), found.at, None)
 }
 
 /// Returns the failure of a text of that name that is no file.

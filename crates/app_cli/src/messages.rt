@@ -120,6 +120,12 @@ pub fn message(alloc: Global, name: &str, fault: MacroFault) -> Result<String, A
     match fault {
         MacroFault::Definition(error) => definition_message(alloc, name, error),
         MacroFault::Left => about(alloc, "this call of ", name, " is left as it is"),
+        MacroFault::SeveralDefinitions => about(
+            alloc,
+            "this call of ",
+            name,
+            " is left as it is: which of its definitions holds depends on `#[cfg(..)]`",
+        ),
         MacroFault::Conditional => about(
             alloc,
             "this call of ",

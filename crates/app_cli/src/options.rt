@@ -14,13 +14,23 @@ fn is_name(text: &str) -> bool {
     token.kind == TokenKind::Ident && token.len as usize == text.len()
 }
 
-// Refuses a value of an option if it is no name.
-fn wants_name(rt: &HostRuntime, option: &str, value: &str) -> Result<(), Failure> {
-    if is_name(value) {
+// Refuses a value of an option if that name is none.
+fn wants_name(rt: &HostRuntime, option: &str, value: &str, name: &str) -> Result<(), Failure> {
+    if is_name(name) {
         return Ok(());
     }
     let message = format!(in rt.alloc(); "{value:?} is no name, as {option} wants one")?;
     Err(Failure::usage(rt, message.as_str()))
+}
+
+// Returns the only name whose macros are expanded, if one is given: a raw name is the same name.
+fn only<'a>(rt: &HostRuntime, matches: &ArgMatches<'a>) -> Result<Option<&'a str>, Failure> {
+    let Some(value) = only_of(matches) else {
+        return Ok(None);
+    };
+    let name = value.strip_prefix("r#").unwrap_or(value);
+    wants_name(rt, "--only", value, name)?;
+    Ok(Some(name))
 }
 
 /// Returns the options of an expansion; fails if an option that needs a name has none.
@@ -29,15 +39,11 @@ pub fn options_of<'a>(
     matches: &ArgMatches<'a>,
 ) -> Result<ExpandOptions<'a>, Failure> {
     let root = root_of(matches);
-    wants_name(rt, "--crate", root)?;
-    let only = only_of(matches);
-    if let Some(name) = only {
-        wants_name(rt, "--only", name)?;
-    }
+    wants_name(rt, "--crate", root, root)?;
     Ok(ExpandOptions {
         limit: limit_of(matches),
         root,
         everywhere: is_everywhere(matches),
-        only,
+        only: only(rt, matches)?,
     })
 }

@@ -1,11 +1,12 @@
 //! The commands of the program.
-use crate::arguments::{drops_rules, file_of, files_of, out_of, parse, shows_syntax};
+use crate::arguments::{drops_of, file_of, files_of, out_of, parse, shows_syntax};
 use crate::expanding::{check, expand};
 use crate::failure::Failure;
 use crate::grammar_error::grammar_failure;
 use crate::input::Input;
 use crate::options::options_of;
 use crate::packing::{pack, unpack};
+use crate::shebang::without_shebang;
 use crate::syntax_error::syntax_failure;
 use crate::syntax_lines::write_syntax;
 use crate::token_lines::write_tokens;
@@ -39,7 +40,7 @@ fn run_command(rt: &HostRuntime, matches: &ArgMatches<'_>) -> Result<ExitCode, F
     match name {
         "expand" => {
             let input = Input::new(file_of(given));
-            expand(rt, input, options_of(rt, given)?, drops_rules(given))
+            expand(rt, input, options_of(rt, given)?, drops_of(given))
         }
         "check" => match files_of(given) {
             Some(names) => check(rt, names, options_of(rt, given)?),
@@ -94,7 +95,12 @@ fn syntax(rt: &HostRuntime, input: Input<'_>) -> Result<(), Failure> {
     let alloc = rt.alloc();
     let bytes = input.bytes(rt)?;
     let text = input.text(rt, bytes.as_slice())?;
-    let tree = tree_of(rt, input.name(), text)?;
+    let blank = without_shebang(alloc, text)?;
+    let file = match &blank {
+        Some(blank) => blank.as_str(),
+        None => text,
+    };
+    let tree = tree_of(rt, input.name(), file)?;
     let events = match parse_file(alloc, tree.token_trees())? {
         ParsedFile::Whole(events) => events,
         ParsedFile::Refused(error) => {

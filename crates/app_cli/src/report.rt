@@ -1,22 +1,67 @@
 //! What the program writes of a text whose macros are expanded.
-ghost use Rattle.std.specs.Prelude.{IfOk, string_bytes};
-ghost use Rattle.app_cli.specs.Reports.{IsPlainText, IsReport, IsSummary};
+ghost use Rattle.std.specs.Prelude.{◌≡◌, IfOk, string_bytes, take};
+ghost use Rattle.app_cli.specs.Reports.{most_shown, AreShown, IsMoreText, IsPlainText, IsReport, IsSummary};
 
-use crate::counts::Counts;
+use crate::counts::{Counts, counted};
 use crate::diagnostics::diagnostics_text;
-use expand_text::Expanded;
+use expand_text::{Expanded, Finding};
 use std::alloc::{AllocError, Global};
 use syntax_diagnostic::{Diagnostic, Level, Style, diagnostic_text};
+
+/// How many diagnostics of a text are shown at most.
+const MOST_SHOWN: usize = 100;
 
 /// What the program writes of a text, and its number of errors and warnings.
 #[derive(Drop)]
 pub struct Report {
     /// For standard output: the expanded text, unless there is an error.
     pub output: Option<String>,
-    /// For standard error: a diagnostic for each finding.
+    /// For standard error: a diagnostic for each of the first 100 findings, and how many more there are.
     pub diagnostics: String,
     /// The number of errors and warnings.
     pub counts: Counts,
+}
+
+// Returns the first findings, as many as are shown.
+fn first_shown(findings: &[Finding]) -> &[Finding]
+    ensures { result.now ≡ take most_shown findings.now }
+{
+    if findings.len() <= MOST_SHOWN {
+        return findings;
+    }
+    &findings[..MOST_SHOWN]
+}
+
+// Returns how many diagnostics are not shown, as a text; an empty one if all are.
+fn more_text(alloc: Global, style: Style, more: usize) -> Result<String, AllocError>
+    ensures { IfOk result (λ text. IsMoreText style more (string_bytes text)) }
+{
+    if more == 0 {
+        return Ok(String::new(alloc));
+    }
+    let one = "more diagnostic is not shown";
+    let message = counted(alloc, more, one, "more diagnostics are not shown")?;
+    let mut text = plain_text(alloc, style, Level::Warning, message.as_str())?;
+    text.push_str("\n")?;
+    Ok(text)
+}
+
+// Returns the diagnostics of the first findings in a text of that name, and how many more there are.
+fn shown_text(
+    alloc: Global,
+    style: Style,
+    name: &str,
+    text: &str,
+    limit: usize,
+    findings: &[Finding],
+) -> Result<String, AllocError>
+    ensures { IfOk result (λ written. AreShown style name.now text.now limit findings.now (string_bytes written)) }
+{
+    let shown = first_shown(findings);
+    let mut written = diagnostics_text(alloc, style, name, text, limit, shown)?;
+    let more = more_text(alloc, style, findings.len().saturating_sub(MOST_SHOWN))?;
+    written.push_str(more.as_str())?;
+    Ok(written)
 }
 
 /// Returns the report on what the library found in a text of that name, with `limit` as the limit of nested expansions.
@@ -30,7 +75,7 @@ pub fn report_on(
 ) -> Result<Report, AllocError>
     ensures { IfOk result (IsReport style name.now text.now limit found) }
 {
-    let diagnostics = diagnostics_text(alloc, style, name, text, limit, &found.findings)?;
+    let diagnostics = shown_text(alloc, style, name, text, limit, &found.findings)?;
     let counts = Counts::of(&found.findings);
     let output = if counts.has_errors() {
         None

@@ -36,21 +36,26 @@ fn notes_of(
     Ok(notes)
 }
 
-// Returns the diagnostic of a fault in the text of that name, with a message.
-fn fault_text<'x>(
+/// Returns the diagnostic of an error at that byte of the text of that name, with the notes of the fault if there is one.
+pub fn error_text_at<'x>(
     alloc: Global,
     style: Style,
     name: &'x str,
     text: &'x str,
     message: &'x str,
-    fault: SyntaxFault,
+    at: usize,
+    fault: Option<SyntaxFault>,
 ) -> Result<String, AllocError> {
     let source = SourceFile::new(alloc, name, text)?;
+    let notes = match fault {
+        Some(fault) => notes_of(alloc, &source, fault)?,
+        None => Vec::new(alloc),
+    };
     let diagnostic = Diagnostic {
         level: Level::Error,
         message,
-        spot: Some(source.spot(byte_of(fault) as usize)),
-        notes: notes_of(alloc, &source, fault)?,
+        spot: Some(source.spot(at)),
+        notes,
         placed_note: None,
     };
     diagnostic_text(alloc, style, &diagnostic)
@@ -65,7 +70,8 @@ fn syntax_text(
     fault: SyntaxFault,
 ) -> Result<String, AllocError> {
     let message = message(alloc, fault)?;
-    fault_text(alloc, style, name, text, message.as_str(), fault)
+    let at = byte_of(fault) as usize;
+    error_text_at(alloc, style, name, text, message.as_str(), at, Some(fault))
 }
 
 // Returns the message of a fault.

@@ -23,16 +23,16 @@ AllZip-append R (x ∷ xs) ys (u ∷ us) vs p q = (p.0, AllZip-append R xs ys us
 
 -- no lines have no answers
 pub Answered-none : (state : State) → Answered state [] [] state
-Answered-none state = record { commands = []; answers = []; each = tt; run = refl; told = refl }
+Answered-none state = record { commands = []; answers = []; each = tt; run = refl; reported = refl }
 
 -- one line has the answer of one step
 pub Answered-one : (old new : State) (line : List ℕ) (command : Command) (answer : List ℕ) → StandsFor line command → Step old command answer new → Answered old (line ∷ []) answer new
-Answered-one old new line command answer stands step = record {
+Answered-one old new line command answer meant step = record {
   commands = command ∷ [];
   answers = answer ∷ [];
-  each = (stands, tt);
+  each = (meant, tt);
   run = (new, step, refl);
-  told = sym (append-nil answer);
+  reported = sym (append-nil answer);
 }
 
 -- some lines were answered, and then further lines
@@ -42,5 +42,5 @@ Answered-trans a b c lines more text next p q = record {
   answers = p.answers ++ q.answers;
   each = AllZip-append StandsFor lines more p.commands q.commands p.each q.each;
   run = Run-append a b c p.commands q.commands p.answers q.answers p.run q.run;
-  told = ap (λ x. x ++ next) p.told ∙ ap (λ x. concat p.answers ++ x) q.told ∙ sym (concat-append p.answers q.answers);
+  reported = ap (λ x. x ++ next) p.reported ∙ ap (λ x. concat p.answers ++ x) q.reported ∙ sym (concat-append p.answers q.answers);
 }

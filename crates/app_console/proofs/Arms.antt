@@ -18,4 +18,4 @@ module _ (old new : State) (arms_slot input_slot to : ℕ) (arms input : Root) (
   -- The expansion goes to its slot.
   pub made_comes : (tree : Root) → IsMadeByArms arms input tree → answer ≡ ok_line → new ≡ with_tree old to tree
       → Step old (command.Arms arms_slot input_slot to) answer new
-  made_comes tree made told put = inl (by_trees (inl (tree, made, told, put)))
+  made_comes tree made reported put = inl (by_trees (inl (tree, made, reported, put)))

@@ -52,12 +52,12 @@ kept_in f slot inside old b made answer new seen there none is limits why same k
 pub closed_in : {R : Type 0} (span : Span) (inside old : State) (b after : BuilderState) (done : Result R TtFault) (answer : List ℕ)
     → inside ≡ old → inside.builder ≡ Some b → IsOpen b → OnOk done (after ≡ closed span b) → OnErr done (after ≡ b) → IfErr done (λ fault. fault ≡ Memory)
     → MatchResult done (λ _. answer ≡ ok_line) (λ fault. answer ≡ fault_line fault) → Step old (command.Close span) answer (with_builder inside after)
-closed_in span inside old b after (Ok unit) answer seen there is ok err why told =
+closed_in span inside old b after (Ok unit) answer seen there is ok err why reported =
     inl (subst (λ s. OfBuilder (λ builder. Closes span builder builder.stack s answer (with_builder inside after)) s s.builder answer (with_builder inside after)) seen
     (of_builder (λ builder. Closes span builder builder.stack inside answer (with_builder inside after)) inside b answer (with_builder inside after) there (by b.stack is)))
   where
     by : (stack : Stack) → IsAbove stack → Closes span b stack inside answer (with_builder inside after)
     by (lowest trees) is = absurd is
-    by (above outer kind open_span trees) is = (told, ap (with_builder inside) ok)
-closed_in span inside old b after (Err fault) answer seen there is ok err why told =
-    inr (tt, told ∙ ap fault_line why, ap (with_builder inside) err ∙ still_there inside b there ∙ seen)
+    by (above outer kind open_span trees) is = (reported, ap (with_builder inside) ok)
+closed_in span inside old b after (Err fault) answer seen there is ok err why reported =
+    inr (tt, reported ∙ ap fault_line why, ap (with_builder inside) err ∙ still_there inside b there ∙ seen)

@@ -27,18 +27,18 @@ put_same old mid new slot root at taken put =
 -- A slot's tree was changed.
 pub changed : (change : Root → Root) (old mid new : State) (slot : ℕ) (root tree : Root) (answer : List ℕ) → tree_in old slot ≡ Some root → mid ≡ without old slot
     → tree ≡ change root → new ≡ with_tree mid slot tree → answer ≡ ok_line → Changes change old slot (tree_in old slot) answer new
-changed change old mid new slot root tree answer at taken is put told =
+changed change old mid new slot root tree answer at taken is put reported =
     subst (λ found. Changes change old slot found answer new) (sym at)
-    (told, put_back old mid new slot tree taken put ∙ ap (with_tree old slot) is)
+    (reported, put_back old mid new slot tree taken put ∙ ap (with_tree old slot) is)
 
 -- A tree was stored in the slot.
 pub stored : (IsFault : TtFault → Type 0) (IsTree : Root → Type 0) (old mid new : State) (slot : ℕ) (tree : Root) (answer : List ℕ) → mid ≡ without old slot
     → IsTree tree → IsWithinLimits tree → new ≡ with_tree mid slot tree → answer ≡ ok_line → StoresOr IsFault IsTree old slot answer new
-stored IsFault IsTree old mid new slot tree answer taken is limits put told = inl (tree, is, limits, told, put_back old mid new slot tree taken put)
+stored IsFault IsTree old mid new slot tree answer taken is limits put reported = inl (tree, is, limits, reported, put_back old mid new slot tree taken put)
 
 -- The tree was refused.
 pub refused : (IsFault : TtFault → Type 0) (IsTree : Root → Type 0) (old mid new : State) (slot : ℕ) (root tree : Root) (fault : TtFault) (answer : List ℕ)
     → tree_in old slot ≡ Some root → mid ≡ without old slot → IsFault fault → tree ≡ root → new ≡ with_tree mid slot tree → answer ≡ fault_line fault
     → StoresOr IsFault IsTree old slot answer new
-refused IsFault IsTree old mid new slot root tree fault answer at taken why same put told =
-    inr (fault, why, told, put_same old mid new slot root at taken (put ∙ ap (with_tree mid slot) same))
+refused IsFault IsTree old mid new slot root tree fault answer at taken why same put reported =
+    inr (fault, why, reported, put_same old mid new slot root at taken (put ∙ ap (with_tree mid slot) same))

@@ -19,4 +19,4 @@ module _ (old new : State) (pattern_slot template_slot input_slot to : ℕ) (pat
   -- The expansion goes to its slot.
   pub made_comes : (tree : Root) → IsMadeByRule pattern template input tree → answer ≡ ok_line → new ≡ with_tree old to tree
       → Step old (command.Expand pattern_slot template_slot input_slot to) answer new
-  made_comes tree made told put = inl (by_trees (inl (tree, made, told, put)))
+  made_comes tree made reported put = inl (by_trees (inl (tree, made, reported, put)))

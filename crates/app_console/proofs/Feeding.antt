@@ -31,12 +31,12 @@ numbers_on a b m n number big p q = omega arith
 cuts_before : (h c last d : List ℕ) (ls : List (List ℕ)) → h ++ c ≡ ended_lines ls ++ last → h ++ (c ++ d) ≡ ended_lines ls ++ (last ++ d)
 cuts_before h c last d ls p = sym (append_assoc h c d) ∙ ap (λ x. x ++ d) p ∙ append_assoc (ended_lines ls) last d
 
-pub Follows-none : (a : Stage) (told : Option (List ℕ)) (failed : Bool) → Keeps a.told told → IsOneLine a.begun → a.count < 2 ^ 64
-    → Follows a [] (record a { told = told; failed = failed })
-Follows-none a told failed kept begun fits = record {
+pub Follows-none : (a : Stage) (reported : Option (List ℕ)) (failed : Bool) → Keeps a.reported reported → IsOneLine a.begun → a.count < 2 ^ 64
+    → Follows a [] (record a { reported = reported; failed = failed })
+Follows-none a reported failed kept begun fits = record {
   lines = [];
   text = [];
-  told = Appends-kept a.told a.told told [] (Appends-nil a.told) kept;
+  reported = Appends-kept a.reported a.reported reported [] (Appends-nil a.reported) kept;
   answered = Answered-none a.machine;
   cut = append-nil a.begun;
   whole = All-nil IsOneLine;
@@ -53,7 +53,7 @@ pub Follows-longer : (a : Stage) (bytes : List ℕ) → IsOneLine a.begun → Is
 Follows-longer a bytes begun one fits = record {
   lines = [];
   text = [];
-  told = Appends-nil a.told;
+  reported = Appends-nil a.reported;
   answered = Answered-none a.machine;
   cut = refl;
   whole = All-nil IsOneLine;
@@ -65,7 +65,7 @@ Follows-trans : (a b c : Stage) (bs cs : List ℕ) → Follows a bs b → Follow
 Follows-trans a b c bs cs p q = record {
   lines = p.lines ++ q.lines;
   text = p.text ++ q.text;
-  told = Appends-trans a.told b.told c.told p.text q.text p.told q.told;
+  reported = Appends-trans a.reported b.reported c.reported p.text q.text p.reported q.reported;
   answered = Answered-trans a.machine b.machine c.machine p.lines q.lines p.text q.text p.answered q.answered;
   cut = cuts_on a.begun bs p.lines b.begun cs q.lines c.begun p.cut q.cut;
   whole = All-append IsOneLine p.lines q.lines p.whole q.whole;
@@ -80,8 +80,8 @@ Follows-Halts a b c bs cs number p q = record {
   rest = q.rest;
   text = p.text ++ q.text;
   state = q.state;
-  told = subst (Appends a.told c.told) (sym (append_assoc p.text q.text (bad_line number)))
-      (Appends-trans a.told b.told c.told p.text (q.text ++ bad_line number) p.told q.told);
+  reported = subst (Appends a.reported c.reported) (sym (append_assoc p.text q.text (bad_line number)))
+      (Appends-trans a.reported b.reported c.reported p.text (q.text ++ bad_line number) p.reported q.reported);
   answered = Answered-trans a.machine b.machine q.state p.lines q.lines p.text q.text p.answered q.answered;
   cut = cuts_on a.begun bs p.lines b.begun cs q.lines (q.bad ++ 10 ∷ q.rest) p.cut q.cut;
   whole = All-append IsOneLine p.lines q.lines p.whole q.whole;
@@ -95,19 +95,19 @@ Follows-Breaks a b c bs cs rest p q = record {
   lines = p.lines ++ q.lines;
   text = p.text ++ q.text;
   state = q.state;
-  told = Appends-trans a.told b.told c.told p.text q.text p.told q.told;
+  reported = Appends-trans a.reported b.reported c.reported p.text q.text p.reported q.reported;
   answered = Answered-trans a.machine b.machine q.state p.lines q.lines p.text q.text p.answered q.answered;
   cut = cuts_on a.begun bs p.lines b.begun cs q.lines rest p.cut q.cut;
   whole = All-append IsOneLine p.lines q.lines p.whole q.whole;
 }
 
 -- what was pending is written
-pub Follows-written : (a b : Stage) (bytes : List ℕ) (told : Option (List ℕ)) (failed : Bool) → Follows a bytes b → Keeps b.told told
-    → Follows a bytes (record b { told = told; failed = failed })
-Follows-written a b bytes told failed p kept = record {
+pub Follows-written : (a b : Stage) (bytes : List ℕ) (reported : Option (List ℕ)) (failed : Bool) → Follows a bytes b → Keeps b.reported reported
+    → Follows a bytes (record b { reported = reported; failed = failed })
+Follows-written a b bytes reported failed p kept = record {
   lines = p.lines;
   text = p.text;
-  told = Appends-kept a.told b.told told p.text p.told kept;
+  reported = Appends-kept a.reported b.reported reported p.text p.reported kept;
   answered = p.answered;
   cut = p.cut;
   whole = p.whole;
@@ -140,7 +140,7 @@ Feeds-before a b bs rest (Ok (Some number)) stops p =
         rest = halts.rest ++ rest;
         text = halts.text;
         state = halts.state;
-        told = halts.told;
+        reported = halts.reported;
         answered = halts.answered;
         cut = cuts_before a.begun bs (halts.bad ++ 10 ∷ halts.rest) rest halts.lines halts.cut
             ∙ ap (λ l. ended_lines halts.lines ++ l) (append_assoc halts.bad (10 ∷ halts.rest) rest);
@@ -159,7 +159,7 @@ Feeds-before a b bs rest (Err Memory) stops p =
           lines = breaks.lines;
           text = breaks.text;
           state = breaks.state;
-          told = breaks.told;
+          reported = breaks.reported;
           answered = breaks.answered;
           cut = cuts_before a.begun bs begins rest breaks.lines breaks.cut;
           whole = breaks.whole;
@@ -177,12 +177,12 @@ Feeds-stop a b c all fed part more result cut p stops q =
     subst (λ l. Feeds a l result c) (sym cut) (Feeds-before a c (fed ++ part) more result stops (Feeds-after a b c fed part result p q))
 
 -- no line was answered
-pub Breaks-none : (a b : Stage) (bytes : List ℕ) → Keeps a.told b.told → Breaks a bytes (a.begun ++ bytes) b
+pub Breaks-none : (a b : Stage) (bytes : List ℕ) → Keeps a.reported b.reported → Breaks a bytes (a.begun ++ bytes) b
 Breaks-none a b bytes kept = record {
   lines = [];
   text = [];
   state = a.machine;
-  told = Appends-kept a.told a.told b.told [] (Appends-nil a.told) kept;
+  reported = Appends-kept a.reported a.reported b.reported [] (Appends-nil a.reported) kept;
   answered = Answered-none a.machine;
   cut = refl;
   whole = All-nil IsOneLine;
@@ -195,7 +195,7 @@ Feeds-line a b bytes (Ok None) begun one p empty = (
   record {
     lines = (a.begun ++ bytes) ∷ [];
     text = p.0.0;
-    told = p.0.1;
+    reported = p.0.1;
     answered = p.0.2;
     cut = rw empty (simp append-nil (sym (append_assoc a.begun bytes (10 ∷ []))));
     whole = All-push IsOneLine [] (a.begun ++ bytes) (All-nil IsOneLine) (All-append (λ c. c ≢ 10) a.begun bytes begun one);
@@ -211,7 +211,7 @@ Feeds-line a b bytes (Ok (Some number)) begun one p empty = (
     rest = [];
     text = [];
     state = a.machine;
-    told = p.0;
+    reported = p.0;
     answered = Answered-none a.machine;
     cut = sym (append_assoc a.begun bytes (10 ∷ []));
     whole = All-nil IsOneLine;

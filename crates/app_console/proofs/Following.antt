@@ -32,11 +32,11 @@ module _ {F : Type 0} (call : F → ErasedFileAstId → ErasedFileAstId → F �
       by_left (n ∷ numbers) is = ap (λ l. get_or (ids_of l) k d) is
 
 -- So the changed tree is the tree with the ids of the list.
-pub ids_told : {F : Type 0} (call : F → ErasedFileAstId → ErasedFileAstId → F → Type 0) (left : F → List ℕ)
+pub ids_are : {F : Type 0} (call : F → ErasedFileAstId → ErasedFileAstId → F → Type 0) (left : F → List ℕ)
     → ((p : F) (x y : ErasedFileAstId) (q : F) → call p x y q → (y ≡ next_id (left p) x) × (left q ≡ drop 1 (left p)))
     → (first : F) (root tree : Root) → (ids : List ErasedFileAstId) × AnswersIds call first root ids × (tree ≡ ids_changed ids root) → tree ≡ ids_changed (ids_of (left first)) root
-ids_told call left by first root tree (ids, told, is) =
-    is ∙ ids_alike root ids (ids_of (left first)) (ids_follow call left by first (stored_ids root) ids told.last told.asked)
+ids_are call left by first root tree (ids, reported, is) =
+    is ∙ ids_alike root ids (ids_of (left first)) (ids_follow call left by first (stored_ids root) ids reported.last reported.asked)
 
 -- And the fault, if the tree is not changed, is one of that tree.
 pub ids_refused : {F : Type 0} (call : F → ErasedFileAstId → ErasedFileAstId → F → Type 0) (left : F → List ℕ)
@@ -44,5 +44,5 @@ pub ids_refused : {F : Type 0} (call : F → ErasedFileAstId → ErasedFileAstId
     → (first : F) (root : Root) (fault : TtFault) → (fault ≡ Memory) ⊎ ((ids : List ErasedFileAstId) × AnswersIds call first root ids × IsTreeFault (ids_changed ids root) fault)
     → IsTreeFault (ids_changed (ids_of (left first)) root) fault
 ids_refused call left by first root fault (inl memory) = subst (IsTreeFault (ids_changed (ids_of (left first)) root)) (sym memory) tt
-ids_refused call left by first root fault (inr (ids, told, why)) =
-    subst (λ tree. IsTreeFault tree fault) (ids_alike root ids (ids_of (left first)) (ids_follow call left by first (stored_ids root) ids told.last told.asked)) why
+ids_refused call left by first root fault (inr (ids, reported, why)) =
+    subst (λ tree. IsTreeFault tree fault) (ids_alike root ids (ids_of (left first)) (ids_follow call left by first (stored_ids root) ids reported.last reported.asked)) why

@@ -14,5 +14,5 @@ pub mod Searching
 pub mod Splitting
 pub mod Stacked
 pub mod Steps
-pub mod Telling
+pub mod Reporting
 pub mod Walking

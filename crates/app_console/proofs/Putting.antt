@@ -25,11 +25,11 @@ other_slot old slot from other = get_or-set_other old.slots slot from None None 
 same_refusal : (old : State) (slot : ℕ) (it : Action) → put_refusal (without old slot) slot it ≡ put_refusal old slot it
 same_refusal old slot action.Keep = refl
 same_refusal old slot action.Remove = refl
-same_refusal old slot (action.Put from) = told (eqb_tells from slot)
+same_refusal old slot (action.Put from) = reported (eqb_tells from slot)
   where
-    told : (((from == slot) ≡ true) × (from ≡ slot)) ⊎ (((from == slot) ≡ false) × (from ≢ slot)) → put_refusal (without old slot) slot (action.Put from) ≡ put_refusal old slot (action.Put from)
-    told (inl (same, is)) = rw same refl
-    told (inr (differ, other)) = ap (λ found. if from == slot then Some same_line else empty_refusal found) (other_slot old slot from other)
+    reported : (((from == slot) ≡ true) × (from ≡ slot)) ⊎ (((from == slot) ≡ false) × (from ≢ slot)) → put_refusal (without old slot) slot (action.Put from) ≡ put_refusal old slot (action.Put from)
+    reported (inl (same, is)) = rw same refl
+    reported (inr (differ, other)) = ap (λ found. if from == slot then Some same_line else empty_refusal found) (other_slot old slot from other)
 
 same_refusals : (old : State) (slot : ℕ) (actions : List Action) → first_refusal (without old slot) slot actions ≡ first_refusal old slot actions
 same_refusals old slot [] = refl
@@ -39,13 +39,13 @@ same_refusals old slot (it ∷ more) = ap₂ or_else (same_refusal old slot it) 
 same_action : (old : State) (slot : ℕ) (it : Action) → put_refusal old slot it ≡ None → action_in (without old slot) it ≡ action_in old it
 same_action old slot action.Keep none = refl
 same_action old slot action.Remove none = refl
-same_action old slot (action.Put from) none = told (eqb_tells from slot)
+same_action old slot (action.Put from) none = reported (eqb_tells from slot)
   where
-    told : (((from == slot) ≡ true) × (from ≡ slot)) ⊎ (((from == slot) ≡ false) × (from ≢ slot)) → action_in (without old slot) (action.Put from) ≡ action_in old (action.Put from)
-    told (inl (same, is)) =
+    reported : (((from == slot) ≡ true) × (from ≡ slot)) ⊎ (((from == slot) ≡ false) × (from ≢ slot)) → action_in (without old slot) (action.Put from) ≡ action_in old (action.Put from)
+    reported (inl (same, is)) =
         let gone : Some same_line ≡ None = sym (ap (λ b. if b then Some same_line else empty_refusal (tree_in old from)) same) ∙ none in
         cc
-    told (inr (differ, other)) = ap (λ found. replace (trees_in found)) (other_slot old slot from other)
+    reported (inr (differ, other)) = ap (λ found. replace (trees_in found)) (other_slot old slot from other)
 
 none_of : (first second : Option (List ℕ)) → or_else first second ≡ None → (first ≡ None) × (second ≡ None)
 none_of None second none = (refl, none)
@@ -69,33 +69,33 @@ refusal_before old mid slot actions found taken is =
 -- The actions were refused.
 pub rewrite_refused : (old mid new : State) (slot : ℕ) (actions : List Action) (root : Root) (line answer : List ℕ) → tree_in old slot ≡ Some root → mid ≡ without old slot
     → first_refusal mid slot actions ≡ Some line → answer ≡ line → new ≡ with_tree mid slot root → RewritesSlot old slot actions (tree_in old slot) answer new
-rewrite_refused old mid new slot actions root line answer at taken is told put =
+rewrite_refused old mid new slot actions root line answer at taken is reported put =
     subst (λ found. RewritesSlot old slot actions found answer new) (sym at)
     (subst (λ why. RewritesTree old slot actions root why answer new) (sym (refusal_before old mid slot actions (Some line) taken is))
-    (told, put_same old mid new slot root at taken put))
+    (reported, put_same old mid new slot root at taken put))
 
 -- The tree was rewritten.
 pub rewrite_stored : (old mid new : State) (slot : ℕ) (actions : List Action) (root tree : Root) (answer : List ℕ) → tree_in old slot ≡ Some root → mid ≡ without old slot
     → first_refusal mid slot actions ≡ None → one_root (rewritten_by mid actions root) ≡ Some tree → IsWithinLimits tree → new ≡ with_tree mid slot tree → answer ≡ ok_line
     → RewritesSlot old slot actions (tree_in old slot) answer new
-rewrite_stored old mid new slot actions root tree answer at taken is gives limits put told =
+rewrite_stored old mid new slot actions root tree answer at taken is gives limits put reported =
     let none = refusal_before old mid slot actions None taken is in
     let same : rewritten_by mid actions root ≡ rewritten_by old actions root = ap (λ l. (rewrite (only root) l).0) (same_result old mid slot actions taken none) in
     subst (λ found. RewritesSlot old slot actions found answer new) (sym at)
     (subst (λ why. RewritesTree old slot actions root why answer new) (sym none)
     (stored (IsResultFault (rewritten_by old actions root)) (λ other. one_root (rewritten_by old actions root) ≡ Some other) old mid new slot tree answer taken
-    (ap one_root (sym same) ∙ gives) limits put told))
+    (ap one_root (sym same) ∙ gives) limits put reported))
 
 -- The result is no tree, or memory for it ran out.
 pub rewrite_failed : (old mid new : State) (slot : ℕ) (actions : List Action) (root tree : Root) (fault : TtFault) (answer : List ℕ) → tree_in old slot ≡ Some root → mid ≡ without old slot
     → first_refusal mid slot actions ≡ None → (fault ≡ Memory) ⊎ IsResultFault (rewritten_by mid actions root) fault → tree ≡ root → new ≡ with_tree mid slot tree → answer ≡ fault_line fault
     → Step old (command.Rewrite slot actions) answer new
-rewrite_failed old mid new slot actions root tree fault answer at taken is (inl memory) same put told =
-    inr (tt, told ∙ ap fault_line memory, put_same old mid new slot root at taken (put ∙ ap (with_tree mid slot) same))
-rewrite_failed old mid new slot actions root tree fault answer at taken is (inr why) same put told =
+rewrite_failed old mid new slot actions root tree fault answer at taken is (inl memory) same put reported =
+    inr (tt, reported ∙ ap fault_line memory, put_same old mid new slot root at taken (put ∙ ap (with_tree mid slot) same))
+rewrite_failed old mid new slot actions root tree fault answer at taken is (inr why) same put reported =
     let none = refusal_before old mid slot actions None taken is in
     let alike : rewritten_by mid actions root ≡ rewritten_by old actions root = ap (λ l. (rewrite (only root) l).0) (same_result old mid slot actions taken none) in
     inl (subst (λ found. RewritesSlot old slot actions found answer new) (sym at)
     (subst (λ cause. RewritesTree old slot actions root cause answer new) (sym none)
     (refused (IsResultFault (rewritten_by old actions root)) (λ other. one_root (rewritten_by old actions root) ≡ Some other) old mid new slot root tree fault answer at taken
-    (subst (λ trees. IsResultFault trees fault) alike why) same put told)))
+    (subst (λ trees. IsResultFault trees fault) alike why) same put reported)))

@@ -67,10 +67,10 @@ module _ {F A : Type 0} (call : F → TokenTree → A → F → Type 0) (does : 
   follows_leaf : (it : Leaf) (rest : Forest) → Following rest → Following (leaf it rest)
   follows_leaf it rest go p tokens [] q asked = absurd asked
   follows_leaf it rest go p tokens (y ∷ answers) q (between, called, asked) =
-      let told = by p _ y between called in
+      let reported = by p _ y between called in
       let after = go between tokens answers q asked in
       let step : rewrite (leaf it rest) (does y ∷ left between) ≡ rewrite (leaf it rest) (left p) =
-      ap₂ (λ a l. rewrite (leaf it rest) (a ∷ l)) told.0 told.1 ∙ sym (leaf_first it rest (left p)) in
+      ap₂ (λ a l. rewrite (leaf it rest) (a ∷ l)) reported.0 reported.1 ∙ sym (leaf_first it rest (left p)) in
       record {
         mid = after.mid;
         others = after.others;
@@ -84,10 +84,10 @@ module _ {F A : Type 0} (call : F → TokenTree → A → F → Type 0) (does : 
       → does y ≡ action → AsksAll call p (shown (node d children rest) (action ∷ map does answers) ++ tokens) (y ∷ answers) q
       → Follows p (node d children rest) (action ∷ map does answers) tokens q
   follows_node d children rest inner outer keep p tokens y answers q is (between, called, asked) =
-      let told = by p _ y between called in
+      let reported = by p _ y between called in
       let actions = map does answers in
       let step : rewrite (node d children rest) (keep ∷ left between) ≡ rewrite (node d children rest) (left p) =
-      ap₂ (λ a l. rewrite (node d children rest) (a ∷ l)) (sym is ∙ told.0) told.1 ∙ sym (node_first d children rest (left p)) in
+      ap₂ (λ a l. rewrite (node d children rest) (a ∷ l)) (sym is ∙ reported.0) reported.1 ∙ sym (node_first d children rest (left p)) in
       let inside = inner between (shown rest (rewrite children actions).1 ++ tokens) answers q
       (subst (λ all. AsksAll call between all answers q) (append_assoc (shown children actions) (shown rest (rewrite children actions).1) tokens) asked) in
       let after = outer inside.mid tokens inside.others q (subst (λ l. AsksAll call inside.mid (shown rest l ++ tokens) inside.others q) inside.rest inside.asked) in
@@ -102,9 +102,9 @@ module _ {F A : Type 0} (call : F → TokenTree → A → F → Type 0) (does : 
         asked = after.asked;
       }
   follows_node d children rest inner outer (replace trees) p tokens y answers q is (between, called, asked) =
-      let told = by p _ y between called in
+      let reported = by p _ y between called in
       let step : rewrite (node d children rest) (replace trees ∷ left between) ≡ rewrite (node d children rest) (left p) =
-      ap₂ (λ a l. rewrite (node d children rest) (a ∷ l)) (sym is ∙ told.0) told.1 ∙ sym (node_first d children rest (left p)) in
+      ap₂ (λ a l. rewrite (node d children rest) (a ∷ l)) (sym is ∙ reported.0) reported.1 ∙ sym (node_first d children rest (left p)) in
       let after = outer between tokens answers q asked in
       record {
         mid = after.mid;
@@ -129,11 +129,11 @@ module _ {F A : Type 0} (call : F → TokenTree → A → F → Type 0) (does : 
       (follows trees p [] answers q (subst (λ all. AsksAll call p all answers q) (sym (append-nil (shown trees (map does answers)))) asked)).same
 
 -- The resulting tree is the one that the list makes.
-pub rewritten_told : {F : Type 0} (call : F → TokenTree → TransformTtAction → F → Type 0) (left : F → List TreeAction)
+pub rewritten_is : {F : Type 0} (call : F → TokenTree → TransformTtAction → F → Type 0) (left : F → List TreeAction)
     → ((p : F) (x : TokenTree) (y : TransformTtAction) (q : F) → call p x y q → (action_of y ≡ first_action (left p)) × (left q ≡ drop 1 (left p)))
     → (first : F) (root tree : Root) → Rewrites call first (only root) (only tree) → one_root (rewrite (only root) (left first)).0 ≡ Some tree
-rewritten_told call left by first root tree told =
-    ap one_root (sym (told.gives ∙ rewritten_same call action_of left by (only root) first told.answers told.last told.asked))
+rewritten_is call left by first root tree reported =
+    ap one_root (sym (reported.gives ∙ rewritten_same call action_of left by (only root) first reported.answers reported.last reported.asked))
 
 -- And the fault, if there is none, is one of what the list makes.
 pub rewritten_refused : {F : Type 0} (call : F → TokenTree → TransformTtAction → F → Type 0) (left : F → List TreeAction)
@@ -141,8 +141,8 @@ pub rewritten_refused : {F : Type 0} (call : F → TokenTree → TransformTtActi
     → (first : F) (root : Root) (fault : TtFault) → IsRewriteFault call first root fault
     → (fault ≡ Memory) ⊎ IsResultFault (rewrite (only root) (left first)).0 fault
 rewritten_refused call left by first root fault (inl memory) = inl memory
-rewritten_refused call left by first root fault (inr (result, told, why)) =
-    inr (subst (λ trees. IsResultFault trees fault) (told.gives ∙ rewritten_same call action_of left by (only root) first told.answers told.last told.asked) why)
+rewritten_refused call left by first root fault (inr (result, reported, why)) =
+    inr (subst (λ trees. IsResultFault trees fault) (reported.gives ∙ rewritten_same call action_of left by (only root) first reported.answers reported.last reported.asked) why)
 
 next_first : (state : State) (actions : List Action) → next_action state actions ≡ first_action (map (action_in state) actions)
 next_first state [] = refl
@@ -160,11 +160,11 @@ module _ {F : Type 0} (call : F → TokenTree → TransformTtAction → F → Ty
 
   by_list : (p : F) (x : TokenTree) (y : TransformTtAction) (q : F) → call p x y q → (action_of y ≡ first_action (listed p)) × (listed q ≡ drop 1 (listed p))
   by_list p x y q called =
-      let told = by p x y q called in
-      (told.0 ∙ next_first (state p) (left p), ap₂ (λ s l. map (action_in s) l) told.2 told.1 ∙ drop_mapped (state p) (left p))
+      let reported = by p x y q called in
+      (reported.0 ∙ next_first (state p) (left p), ap₂ (λ s l. map (action_in s) l) reported.2 reported.1 ∙ drop_mapped (state p) (left p))
 
-  pub actions_told : (first : F) (root tree : Root) → Rewrites call first (only root) (only tree) → one_root (rewritten_by (state first) (left first) root) ≡ Some tree
-  actions_told first root tree told = rewritten_told call listed by_list first root tree told
+  pub actions_are : (first : F) (root tree : Root) → Rewrites call first (only root) (only tree) → one_root (rewritten_by (state first) (left first) root) ≡ Some tree
+  actions_are first root tree reported = rewritten_is call listed by_list first root tree reported
 
   pub actions_refused : (first : F) (root : Root) (fault : TtFault) → IsRewriteFault call first root fault
       → (fault ≡ Memory) ⊎ IsResultFault (rewritten_by (state first) (left first) root) fault

@@ -22,7 +22,7 @@ pub record Answered (old : State) (lines : List (List ℕ)) (text : List ℕ) (n
   pub answers : List (List ℕ)
   pub each : AllZip StandsFor lines commands
   pub run : Run old commands answers new
-  pub told : text ≡ concat answers
+  pub reported : text ≡ concat answers
 
 -- the text is the answers to these lines, which are the first lines for the machine
 abbrev pub AreAnswers : List (List ℕ) → List ℕ → Type 0
@@ -62,17 +62,17 @@ pub record StopsWithin (input left : Option (List ℕ)) (text behind : List ℕ)
   pub read : Consumes input left (ended_lines before ++ (hand ++ behind))
 
 -- what a run says of the bytes left to read, before and after it, and of those that were written
-abbrev pub Tells : Result End RunFault → Option (List ℕ) → Option (List ℕ) → Option (List ℕ) → Option (List ℕ) → Type 0
-Tells (Ok Clean) input left old new =
+abbrev pub Reports : Result End RunFault → Option (List ℕ) → Option (List ℕ) → Option (List ℕ) → Option (List ℕ) → Type 0
+Reports (Ok Clean) input left old new =
     (text : List ℕ) × Appends old new text × AnswersAll input left text
-Tells (Ok (BadLine number)) input left old new =
+Reports (Ok (BadLine number)) input left old new =
     (text : List ℕ) × Appends old new (text ++ bad_line number) × StopsAtBadLine number input text
-Tells (Err Read) input left old new =
+Reports (Err Read) input left old new =
     (text : List ℕ) × Appends old new text × StopsWithin input left text []
-Tells (Err Memory) input left old new =
+Reports (Err Memory) input left old new =
     (text : List ℕ) × Appends old new text
     × ((behind : List ℕ) × StopsWithin input left text behind × EndsLine behind × (length behind ≤ BLOCK))
-Tells (Err Write) input left old new = Unit {0}
+Reports (Err Write) input left old new = Unit {0}
 
 -- whether the reader and the writer have failed
 abbrev pub Fails : Result End RunFault → Bool → Bool → Type 0

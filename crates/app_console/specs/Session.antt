@@ -17,7 +17,7 @@ use Rattle.app_console.specs.Run.{Answered, next_number, bad_line}
 pub record Follows (old : Stage) (bytes : List ℕ) (new : Stage) : Type 0 where
   pub lines : List (List ℕ)
   pub text : List ℕ
-  pub told : Appends old.told new.told text
+  pub reported : Appends old.reported new.reported text
   pub answered : Answered old.machine lines text new.machine
   pub cut : old.begun ++ bytes ≡ ended_lines lines ++ new.begun
   pub whole : All IsOneLine lines
@@ -31,7 +31,7 @@ pub record Halts (old : Stage) (bytes : List ℕ) (number : ℕ) (new : Stage) :
   pub rest : List ℕ
   pub text : List ℕ
   pub state : State
-  pub told : Appends old.told new.told (text ++ bad_line number)
+  pub reported : Appends old.reported new.reported (text ++ bad_line number)
   pub answered : Answered old.machine lines text state
   pub cut : old.begun ++ bytes ≡ ended_lines lines ++ (bad ++ 10 ∷ rest)
   pub whole : All IsOneLine lines
@@ -44,7 +44,7 @@ pub record Breaks (old : Stage) (bytes rest : List ℕ) (new : Stage) : Type 0 w
   pub lines : List (List ℕ)
   pub text : List ℕ
   pub state : State
-  pub told : Appends old.told new.told text
+  pub reported : Appends old.reported new.reported text
   pub answered : Answered old.machine lines text state
   pub cut : old.begun ++ bytes ≡ ended_lines lines ++ rest
   pub whole : All IsOneLine lines
@@ -52,11 +52,11 @@ pub record Breaks (old : Stage) (bytes rest : List ℕ) (new : Stage) : Type 0 w
 -- one line is answered, or is no command and its number is put out
 abbrev pub Answers : Stage → List ℕ → Result (Option ℕ) RunFault → Stage → Type 0
 Answers old line (Ok None) new =
-    ((text : List ℕ) × Appends old.told new.told text × Answered old.machine (line ∷ []) text new.machine)
+    ((text : List ℕ) × Appends old.reported new.reported text × Answered old.machine (line ∷ []) text new.machine)
     × (new.count ≡ next_number old.count) × (new.failed ≡ false)
 Answers old line (Ok (Some number)) new =
-    Appends old.told new.told (bad_line number) × IsNoCommand line × (number ≡ next_number old.count) × (new.failed ≡ false)
-Answers old line (Err Memory) new = Keeps old.told new.told × (new.failed ≡ false)
+    Appends old.reported new.reported (bad_line number) × IsNoCommand line × (number ≡ next_number old.count) × (new.failed ≡ false)
+Answers old line (Err Memory) new = Keeps old.reported new.reported × (new.failed ≡ false)
 Answers old line (Err Write) new = new.failed ≡ true
 Answers old line (Err Read) new = ⊥
 
@@ -71,10 +71,10 @@ Feeds old bytes (Err Read) new = ⊥
 -- the effect of the end of the input: the begun line, if there is one, is answered, or is no command
 abbrev pub Finishes : Stage → Result End RunFault → Stage → Type 0
 Finishes old (Ok Clean) new =
-    ((text : List ℕ) × Appends old.told new.told text × Answered old.machine (lines_of old.begun) text new.machine) × (new.failed ≡ false)
+    ((text : List ℕ) × Appends old.reported new.reported text × Answered old.machine (lines_of old.begun) text new.machine) × (new.failed ≡ false)
 Finishes old (Ok (BadLine number)) new =
-    Appends old.told new.told (bad_line number) × (lines_of old.begun ≡ old.begun ∷ []) × IsNoCommand old.begun
+    Appends old.reported new.reported (bad_line number) × (lines_of old.begun ≡ old.begun ∷ []) × IsNoCommand old.begun
     × (number ≡ next_number old.count) × (new.failed ≡ false)
-Finishes old (Err Memory) new = Keeps old.told new.told × (new.failed ≡ false)
+Finishes old (Err Memory) new = Keeps old.reported new.reported × (new.failed ≡ false)
 Finishes old (Err Write) new = new.failed ≡ true
 Finishes old (Err Read) new = ⊥

@@ -2,7 +2,7 @@
 use Rattle.std.specs.Prelude.{ℕ, Bool, List, Option}
 use Rattle.app_console.specs.declared.noted.Noted.{Noted}
 use Rattle.app_console.specs.Noted.{noted_failed}
-use Rattle.app_console.specs.Output.{text_told}
+use Rattle.app_console.specs.Output.{text_reported}
 use Rattle.app_console.specs.Progress.{Progress}
 use Rattle.app_console.specs.State.{State}
 
@@ -11,7 +11,7 @@ pub record Stage : Type 0 where
   pub machine : State
   pub begun : List ℕ
   pub count : ℕ
-  pub told : Option (List ℕ)
+  pub reported : Option (List ℕ)
   pub failed : Bool
 
 -- the stage of a session and its writer
@@ -20,6 +20,6 @@ stage_of contents session writer = record {
   machine = session.machine;
   begun = session.begun;
   count = session.count;
-  told = text_told contents writer session.pending;
+  reported = text_reported contents writer session.pending;
   failed = noted_failed writer;
 }

@@ -2,7 +2,7 @@
 ghost use Rattle.std.specs.Prelude.{◌≡◌, true, [], ℕ, List, OnOk, OnErr, IfErr};
 ghost use Rattle.std.specs.Io.KnownBytes.{Appends, Keeps};
 ghost use Rattle.app_console.specs.Noted.{noted_inner, noted_failed};
-ghost use Rattle.app_console.specs.Output.{text_told};
+ghost use Rattle.app_console.specs.Output.{text_reported};
 
 use crate::noted::Noted;
 use crate::outcome::RunFault;
@@ -37,8 +37,8 @@ impl Output {
 
     /// Puts the bytes out: they become pending, or are written after what is pending.
     pub fn put<W: Write>(&mut self, bytes: &[u8], writer: &mut Noted<W>) -> Result<(), RunFault>
-        ensures told { OnOk result (Appends
-            (text_told W.contents writer.old self.old) (text_told W.contents writer.new self.new) bytes.now) }
+        ensures reported { OnOk result (Appends
+            (text_reported W.contents writer.old self.old) (text_reported W.contents writer.new self.new) bytes.now) }
         ensures sound { OnOk result (noted_failed writer.new ≡ noted_failed writer.old) }
         ensures failed { OnErr result (noted_failed writer.new ≡ true) }
         ensures kind { IfErr result (λ fault. fault ≡ RunFault.Write) }
@@ -54,7 +54,7 @@ impl Output {
     /// Writes what is pending, and flushes the writer.
     pub fn write_out<W: Write>(&mut self, writer: &mut Noted<W>) -> Result<(), RunFault>
         ensures written { OnOk result
-            (Keeps (text_told W.contents writer.old self.old) (W.contents (noted_inner writer.new))) }
+            (Keeps (text_reported W.contents writer.old self.old) (W.contents (noted_inner writer.new))) }
         ensures empty { OnOk result (self.new ≡ []) }
         ensures sound { OnOk result (noted_failed writer.new ≡ noted_failed writer.old) }
         ensures failed { OnErr result (noted_failed writer.new ≡ true) }

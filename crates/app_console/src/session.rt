@@ -2,11 +2,11 @@
 ghost use Rattle.std.specs.Prelude.{◌≡◌, ◌^◌, ◌<◌, ◌++◌, ◌∷◌, ◌↔◌, [], true, false, IsTrue, OnOk, OnErr, IfOk, IfErr, MatchOption};
 ghost use Rattle.std.specs.Io.KnownBytes.{Keeps};
 ghost use Rattle.app_console.specs.Noted.{noted_inner, noted_failed};
-ghost use Rattle.app_console.specs.Output.{text_told};
+ghost use Rattle.app_console.specs.Output.{text_reported};
 ghost use Rattle.app_console.specs.Progress.{Progress, fresh, progress_code};
 ghost use Rattle.app_language.specs.Command.{IsNoCommand, StandsFor};
 ghost use Rattle.app_language.specs.Reading.{IsOneLine};
-ghost use Rattle.app_console.specs.Run.{Tells, Fails};
+ghost use Rattle.app_console.specs.Run.{Reports, Fails};
 ghost use Rattle.app_console.specs.Session.{Answers, Feeds, Finishes};
 ghost use Rattle.app_console.specs.Stage.{stage_of};
 
@@ -82,7 +82,7 @@ impl Session {
     // Writes what is pending.
     fn write_out<W: Write>(&mut self, writer: &mut Noted<W>) -> Result<(), RunFault>
         ensures written { OnOk result
-            (Keeps (text_told W.contents writer.old self.old.pending) (W.contents (noted_inner writer.new))) }
+            (Keeps (text_reported W.contents writer.old self.old.pending) (W.contents (noted_inner writer.new))) }
         ensures empty { OnOk result (self.new ≡ record self.old { pending = [] }) }
         ensures same { self.new ≡ record self.old { pending = self.new.pending } }
         ensures sound { OnOk result (noted_failed writer.new ≡ noted_failed writer.old) }
@@ -200,9 +200,9 @@ impl Session {
         requires fresh { self.old ≡ fresh }
         requires reader_sound { noted_failed reader.old ≡ false }
         requires writer_sound { noted_failed writer.old ≡ false }
-        ensures tells { Tells result
+        ensures reports { Reports result
             (R.remaining (noted_inner reader.old)) (R.remaining (noted_inner reader.new))
-            (W.contents (noted_inner writer.old)) (text_told W.contents writer.new self.new.pending) }
+            (W.contents (noted_inner writer.old)) (text_reported W.contents writer.new self.new.pending) }
         ensures fails { Fails result (noted_failed reader.new) (noted_failed writer.new) }
     {
         let mut block = [0u8; BLOCK];
@@ -229,7 +229,7 @@ impl Session {
         requires fresh { self.old ≡ fresh }
         requires reader_sound { noted_failed reader.old ≡ false }
         requires writer_sound { noted_failed writer.old ≡ false }
-        ensures tells { Tells result
+        ensures reports { Reports result
             (R.remaining (noted_inner reader.old)) (R.remaining (noted_inner reader.new))
             (W.contents (noted_inner writer.old)) (W.contents (noted_inner writer.new)) }
         ensures fails { Fails result (noted_failed reader.new) (noted_failed writer.new) }
@@ -269,7 +269,7 @@ pub fn run<R: Read, W: Write>(
 ) -> Result<End, RunFault>
     requires reader_sound { noted_failed reader.old ≡ false }
     requires writer_sound { noted_failed writer.old ≡ false }
-    ensures tells { Tells result
+    ensures reports { Reports result
         (R.remaining (noted_inner reader.old)) (R.remaining (noted_inner reader.new))
         (W.contents (noted_inner writer.old)) (W.contents (noted_inner writer.new)) }
     ensures fails { Fails result (noted_failed reader.new) (noted_failed writer.new) }

@@ -157,9 +157,9 @@ spelled_as : (v : Verb) (c : Command) (is : IsMade v c) → spell c ≡ verb_wor
 spelled_as v c is = ap spell is.made ∙ spells_right v is.value
 
 -- the first word of a line determines the verb, and its tail the values
-told : (line tail : List ℕ) (v : Verb) (c : Command) → IsTail tail → line ≡ verb_word v ++ tail → line ≡ spell c → CommandFits c
+read_back : (line tail : List ℕ) (v : Verb) (c : Command) → IsTail tail → line ≡ verb_word v ++ tail → line ≡ spell c → CommandFits c
     → (is : IsMade v c) × (tail ≡ spaced ((part v).pieces is.value))
-told line tail v c t e d fits =
+read_back line tail v c t e d fits =
     let (w, is) = taken_apart c fits in
     let u = word_unique _ _ _ _ (spaceless_verb w) (spaceless_verb v) (IsTail-spaced ((part w).pieces is.value)) t (sym (d ∙ spelled_as w c is) ∙ e) in
     let verbs : w ≡ v = one_verb w v tt tt u.0 in
@@ -168,7 +168,7 @@ told line tail v c t e d fits =
 pub StandsFor-unique : (line : List ℕ) (c d : Command) → StandsFor line c → StandsFor line d → c ≡ d
 StandsFor-unique line c d s t =
     let (v, is) = taken_apart c s.fits in
-    let (other, same) = told line (spaced ((part v).pieces is.value)) v d (IsTail-spaced ((part v).pieces is.value)) (s.spelled ∙ spelled_as v c is) t.spelled t.fits in
+    let (other, same) = read_back line (spaced ((part v).pieces is.value)) v d (IsTail-spaced ((part v).pieces is.value)) (s.spelled ∙ spelled_as v c is) t.spelled t.fits in
     is.made ∙ ap (make v) ((part v).one is.value other.value is.fits other.fits same) ∙ sym other.made
 
 -- a line that begins with no verb is no command
@@ -184,7 +184,7 @@ pub command_read : (v : Verb) (tail : List ℕ) (r : Option (part v).Values) (fo
 command_read v tail None found t unread is =
     rw is
     (λ c fits d.
-    let (made, same) = told (verb_word v ++ tail) tail v c t refl d fits in
+    let (made, same) = read_back (verb_word v ++ tail) tail v c t refl d fits in
     unread made.value made.fits same)
 command_read v tail (Some a) found t (spelled, fits) is =
     rw is (ap (λ x. verb_word v ++ x) spelled ∙ sym (spells_right v a), fits_right v a fits)
@@ -200,7 +200,7 @@ mapped f (Some x) None is gives = elim is [ ]
 pub line_read : (line : List ℕ) (found : Result (Option Command) TtFault) → IsOneLine line → IfOk found (Reads spell CommandFits line)
     → IfOk found (λ command. MatchOption command (IsNoCommand line) (StandsFor line))
 line_read line (Err fault) one p = tt
-line_read line (Ok None) one p = λ command stands. p command stands.fits stands.spelled
+line_read line (Ok None) one p = λ command meant. p command meant.fits meant.spelled
 line_read line (Ok (Some command)) one (spelled, fits) = record { one_line = one; spelled = spelled; fits = fits }
 
 -- a command was read from one line

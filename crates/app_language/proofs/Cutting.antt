@@ -27,7 +27,7 @@ Lacks-apart byte (c ∷ a) b p = Lacks-apart byte a b (All-tail (λ z. z ≢ byt
 pub words_same : (text a b x y : List ℕ) → Lacks 32 a → Lacks 32 b → text ≡ words a x → text ≡ words b y → (a ≡ b) × (x ≡ y)
 words_same text a b x y p q d e = cut_unique 32 a x b y p q (sym d ∙ e)
 
--- pieces, each behind a space, are a tail
+-- pieces, each after a space, are a tail
 pub IsTail-spaced : (pieces : List (List ℕ)) → IsTail (spaced pieces)
 IsTail-spaced [] = tt
 IsTail-spaced (piece ∷ more) = refl

@@ -5,7 +5,7 @@ use Rattle.std.proofs.lemmas.List.Elements.{All-head, All-tail}
 use Rattle.app_language.specs.Reading.{IsTail, Lacks, spaced}
 use Rattle.app_language.proofs.Cutting.{IsTail-spaced, word_unique}
 
--- the word and the tail behind a first space are determined
+-- the word and the tail after a first space are determined
 pub next_unique : (text a b x y : List ℕ) → Lacks 32 a → Lacks 32 x → IsTail b → IsTail y → text ≡ 32 ∷ a ++ b → text ≡ 32 ∷ x ++ y → (a ≡ x) × (b ≡ y)
 next_unique text a b x y p q s t d e = word_unique a b x y p q s t (ap (drop 1) (sym d ∙ e))
 

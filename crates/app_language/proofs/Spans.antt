@@ -20,7 +20,7 @@ Begins-unique byte text m x n y other (d, p) (e, q) =
     let u = cut_unique byte (decimal m) x (decimal n) y (Lacks-decimal byte other m (omega (arith, p))) (Lacks-decimal byte other n (omega (arith, q))) (sym d ∙ e) in
     (decimal_injective m n (omega arith) (omega arith) u.0, u.1)
 
--- what follows a span's start, with a tail behind the span
+-- what follows a span's start, with a tail after the span
 abbrev pub after_start : Span → List ℕ → List ℕ
 after_start span tail = 46 ∷ (decimal (end_of span.range) ++ 35 ∷ (decimal span.ctx.0 ++ tail))
 

@@ -14,7 +14,7 @@ IsOneLine bytes = Lacks 10 bytes
 abbrev pub words : List ℕ → List ℕ → List ℕ
 words first rest = first ++ 32 ∷ rest
 
--- pieces, each behind a space
+-- pieces, each after a space
 abbrev pub spaced : List (List ℕ) → List ℕ
 spaced [] = []
 spaced (piece ∷ more) = 32 ∷ piece ++ spaced more
@@ -52,7 +52,7 @@ abbrev pub ReadsFront : {A : Type 0} → (A → List ℕ) → (A → Type 0) →
 ReadsFront spelling Fits text (Some found) = (text ≡ spelling found.0 ++ found.1.now) × Fits found.0 × BeginsWithNoDigit found.1.now
 ReadsFront {A} spelling Fits text None = (value : A) (rest : List ℕ) → Fits value → BeginsWithNoDigit rest → text ≢ spelling value ++ rest
 
--- the result is the first piece behind a space, and the text from the next space on, or nothing if no word that fits is there
+-- the result is the first piece after a space, and the text from the next space on, or nothing if no word that fits is there
 abbrev pub ReadsNext : {A : Type 0} → (A → List ℕ) → (A → Type 0) → List ℕ → Option (A × Bor (List ℕ)) → Type 0
 ReadsNext spelling Fits text (Some found) = (text ≡ 32 ∷ spelling found.0 ++ found.1.now) × Fits found.0 × IsTail found.1.now
 ReadsNext {A} spelling Fits text None = (value : A) (rest : List ℕ) → Fits value → IsTail rest → text ≢ 32 ∷ spelling value ++ rest

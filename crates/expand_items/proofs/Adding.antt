@@ -52,13 +52,13 @@ conditions_none trees is stack = ap (λ f. append f stack) (none trees is) ∙ a
         let whole = leaf it (node brackets children rest) in
         ap (λ a. cond a (before_if (is_at_condition whole) (leaf it (node brackets children end)) (conditions_of rest)) end) is
 
--- The part of a number precedes those behind it.
+-- The part of a number precedes those after it.
 part_there : (parts : List Part) (place : ℕ) (part other : Part) → place < length parts → part ≡ get_or parts place other → drop place parts ≡ part ∷ drop (suc place) parts
 part_there [] place part other less is = absurd (omega (arith, less))
 part_there (first ∷ parts) zero part other less is = ap (λ p. p ∷ parts) (sym is)
 part_there (first ∷ parts) (suc place) part other less is = part_there parts place part other (omega (arith, less)) is
 
--- One part is added behind what precedes it, and then the others.
+-- One part is added after what precedes it, and then the others.
 pub spread_more : (braces : Delimiter) (conditions : Forest) (parts : List Part) (place : ℕ) (part other : Part) → place < length parts → part ≡ get_or parts place other
     → (trees : Forest) (stack : Stack)
     → append (spread braces conditions (suc place) (drop (suc place) parts) (after_trees part.len trees))
@@ -74,7 +74,7 @@ spread_more braces conditions parts place part other less is trees stack =
     more : Forest
     more = spread braces conditions (suc place) (drop (suc place) parts) (after_trees part.len trees)
 
--- Behind all parts no part is added.
+-- After all parts no part is added.
 pub spread_end : (braces : Delimiter) (conditions : Forest) (parts : List Part) (trees : Forest) (stack : Stack)
     → append (spread braces conditions (length parts) (drop (length parts) parts) trees) stack ≡ stack
 spread_end braces conditions parts trees stack = by (length parts) parts refl

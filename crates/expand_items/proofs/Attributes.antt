@@ -48,11 +48,11 @@ attribute_fits (leaf (leaf_of.Punct it) end) e = absurd (no_brackets (it.char ==
 attribute_fits (leaf (leaf_of.Punct it) (leaf next rest)) e = absurd (no_brackets (it.char == 35) e)
 attribute_fits (leaf (leaf_of.Punct it) (node delimiter children rest)) e = omega arith
 
--- The trees behind two trees are these.
+-- The trees after two trees are these.
 two_more : (n : ℕ) (it : Leaf) (delimiter : Delimiter) (children rest : Forest) → after_trees (2 + n) (leaf it (node delimiter children rest)) ≡ after_trees n rest
 two_more n it delimiter children rest = let more : 2 + n ≡ suc (suc n) = omega arith in ap (λ k. after_trees k (leaf it (node delimiter children rest))) more
 
--- All attributes that come first exist, before the trees behind them.
+-- All attributes that come first exist, before the trees after them.
 pub attributes_fit : (trees : Forest) → attributes_len trees + size (after_trees (attributes_len trees) trees) ≤ size trees
 attributes_fit end = omega arith
 attributes_fit (node delimiter children rest) = omega arith
@@ -111,4 +111,4 @@ before_fits (suc n) (node brackets inside others) delimiter children rest is = o
 pub call_fits : (root : List ℕ) (trees : Forest) (it : Call) → item_in root trees ≡ calls it → it.len ≤ size trees
 call_fits root trees it is =
     let call = call_ends root trees it is in
-    omega (arith, call.len, before_fits (suc call.before) trees it.delimiter it.input call.rest call.stands)
+    omega (arith, call.len, before_fits (suc call.before) trees it.delimiter it.input call.rest call.shape)

@@ -6,7 +6,7 @@ use Rattle.tt.specs.Gluing.{after_trees}
 use Rattle.tt.specs.Moves.{after_tree}
 use Rattle.tt.specs.Types.Delimiter.{Delimiter}
 use Rattle.tt.specs.Types.Ident.{Ident}
-use Rattle.expand_items.specs.Attributes.{attributes_len, begins_condition, item_at, standing, with_attributes}
+use Rattle.expand_items.specs.Attributes.{attributes_len, begins_condition, item_at, item_behind, with_attributes}
 use Rattle.expand_items.specs.Items.{Definition, Call, Item, defines, calls, other, call_behind, call_from, call_in, definition_in, is_at_colons, is_at_root, item_from, item_in, name_in}
 use Rattle.expand_items.specs.Positions.{is_statement}
 use Rattle.expand_items.specs.declared.position.Position.{Position}
@@ -51,19 +51,19 @@ bare_call root trees it is = by (definition_in trees) (call_in root trees) (bare
         same e = cc
     by (Some d) call bare e = absurd (cc e)
 
--- a call at a position is one behind its attributes
-pub record StandsBehind (root : List ℕ) (trees : Forest) (it : Call) : Type 0 where
+-- a call at a position is one after its attributes
+pub record IsCallBehind (root : List ℕ) (trees : Forest) (it : Call) : Type 0 where
   pub bare : Call
-  pub stands : item_in root (after_trees it.attributes trees) ≡ calls bare
+  pub shape : item_in root (after_trees it.attributes trees) ≡ calls bare
   pub same : it ≡ with_attributes it.attributes bare
 
 -- the same, and these are none or all attributes that come first
-record Stands (root : List ℕ) (trees : Forest) (it : Call) : Type 0 where
-  behind : StandsBehind root trees it
+record IsCallThere (root : List ℕ) (trees : Forest) (it : Call) : Type 0 where
+  behind : IsCallBehind root trees it
   attributes : (it.attributes ≡ 0) ⊎ (it.attributes ≡ attributes_len trees)
 
 -- A call by itself has no attributes.
-by_itself : (root : List ℕ) (trees : Forest) (it : Call) → item_in root trees ≡ calls it → Stands root trees it
+by_itself : (root : List ℕ) (trees : Forest) (it : Call) → item_in root trees ≡ calls it → IsCallThere root trees it
 by_itself root trees it is =
     let none : it.attributes ≡ 0 = bare_call root trees it is in
     let len : it.len ≡ it.attributes + it.len = omega (arith, none) in
@@ -71,22 +71,22 @@ by_itself root trees it is =
       behind =
           record {
             bare = it;
-            stands = subst (λ n. item_in root (after_trees n trees) ≡ calls it) (sym none) is;
+            shape = subst (λ n. item_in root (after_trees n trees) ≡ calls it) (sym none) is;
             same = ap (λ n. record it { len = n }) len;
           };
       attributes = inl none;
     }
 
--- A call behind all first attributes has them as a part.
+-- A call after all first attributes has them as a part.
 behind_all : (root : List ℕ) (trees : Forest) (it bare : Call) → item_in root (after_trees (attributes_len trees) trees) ≡ calls bare
-    → with_attributes (attributes_len trees) bare ≡ it → Stands root trees it
-behind_all root trees it bare stands same =
+    → with_attributes (attributes_len trees) bare ≡ it → IsCallThere root trees it
+behind_all root trees it bare shape same =
     let all : attributes_len trees ≡ it.attributes = ap (λ c. c.attributes) same in
     record {
       behind =
           record {
             bare = bare;
-            stands = subst (λ n. item_in root (after_trees n trees) ≡ calls bare) all stands;
+            shape = subst (λ n. item_in root (after_trees n trees) ≡ calls bare) all shape;
             same = sym same ∙ ap (λ n. with_attributes n bare) all;
           };
       attributes = inr (sym all);
@@ -97,30 +97,30 @@ module _ (root : List ℕ) (position : Position) (trees : Forest) where
   abbrev behind : Forest
   behind = after_trees (attributes_len trees) trees
 
-  stands_there : (it : Call) → item_at root position trees ≡ calls it → Stands root trees it
-  stands_there it is = by (begins_condition position trees) is
+  call_there : (it : Call) → item_at root position trees ≡ calls it → IsCallThere root trees it
+  call_there it is = by (begins_condition position trees) is
     where
       judged : (bare : Call) (statement : Bool) → item_in root behind ≡ calls bare
-          → cond statement (calls (with_attributes (attributes_len trees) bare)) other ≡ calls it → Stands root trees it
-      judged bare true stands e = behind_all root trees it bare stands (same e)
+          → cond statement (calls (with_attributes (attributes_len trees) bare)) other ≡ calls it → IsCallThere root trees it
+      judged bare true shape e = behind_all root trees it bare shape (same e)
         where
           same : calls (with_attributes (attributes_len trees) bare) ≡ calls it → with_attributes (attributes_len trees) bare ≡ it
           same e = cc
-      judged bare false stands e = absurd (cc e)
+      judged bare false shape e = absurd (cc e)
 
-      found : (item : Item) → item_in root behind ≡ item → standing position (attributes_len trees) behind item ≡ calls it → Stands root trees it
-      found (defines d) stands e = absurd (cc e)
-      found (calls bare) stands e = judged bare (is_statement bare.delimiter.kind (after_trees bare.len behind) position) stands e
-      found other stands e = absurd (cc e)
+      found : (item : Item) → item_in root behind ≡ item → item_behind position (attributes_len trees) behind item ≡ calls it → IsCallThere root trees it
+      found (defines d) shape e = absurd (cc e)
+      found (calls bare) shape e = judged bare (is_statement bare.delimiter.kind (after_trees bare.len behind) position) shape e
+      found other shape e = absurd (cc e)
 
-      by : (begins : Bool) → cond begins (standing position (attributes_len trees) behind (item_in root behind)) (item_in root trees) ≡ calls it
-          → Stands root trees it
+      by : (begins : Bool) → cond begins (item_behind position (attributes_len trees) behind (item_in root behind)) (item_in root trees) ≡ calls it
+          → IsCallThere root trees it
       by true e = found (item_in root behind) refl e
       by false e = by_itself root trees it e
 
-  -- A call at a position is one behind its attributes.
-  pub call_at : (it : Call) → item_at root position trees ≡ calls it → StandsBehind root trees it
-  call_at it is = (stands_there it is).behind
+  -- A call at a position is one after its attributes.
+  pub call_at : (it : Call) → item_at root position trees ≡ calls it → IsCallBehind root trees it
+  call_at it is = (call_there it is).behind
 
   -- A definition at a position has no attributes.
   pub definition_at : (it : Definition) → item_at root position trees ≡ defines it → item_in root trees ≡ defines it
@@ -130,12 +130,12 @@ module _ (root : List ℕ) (position : Position) (trees : Forest) where
       judged bare true e = cc e
       judged bare false e = cc e
 
-      none : (item : Item) → standing position (attributes_len trees) behind item ≡ defines it → ⊥
+      none : (item : Item) → item_behind position (attributes_len trees) behind item ≡ defines it → ⊥
       none (defines d) e = cc e
       none (calls bare) e = judged bare (is_statement bare.delimiter.kind (after_trees bare.len behind) position) e
       none other e = cc e
 
-      by : (begins : Bool) → cond begins (standing position (attributes_len trees) behind (item_in root behind)) (item_in root trees) ≡ defines it
+      by : (begins : Bool) → cond begins (item_behind position (attributes_len trees) behind (item_in root behind)) (item_in root trees) ≡ defines it
           → item_in root trees ≡ defines it
       by true e = absurd (none (item_in root behind) e)
       by false e = e
@@ -143,7 +143,7 @@ module _ (root : List ℕ) (position : Position) (trees : Forest) where
   -- Attributes before a call end with a subtree, if there are any.
   pub attributes_closed : (it : Call) → item_at root position trees ≡ calls it
       → (it.attributes ≡ 0) ⊎ ((front : Forest) × (delimiter : Delimiter) × (children : Forest) × (front_trees it.attributes trees ≡ join front (node delimiter children end)))
-  attributes_closed it is = by (stands_there it is).attributes
+  attributes_closed it is = by (call_there it is).attributes
     where
       all : it.attributes ≡ attributes_len trees → (attributes_len trees ≡ 0) ⊎ EndsWithNode (front_trees (attributes_len trees) trees)
           → (it.attributes ≡ 0) ⊎ EndsWithNode (front_trees it.attributes trees)
@@ -158,13 +158,13 @@ module _ (root : List ℕ) (position : Position) (trees : Forest) where
   pub call_at_long : (it : Call) → item_at root position trees ≡ calls it → it.attributes < it.len
   call_at_long it is =
       let call = call_at it is in
-      omega (arith, ap (λ c. c.len) call.same, call_long root (after_trees it.attributes trees) call.bare call.stands)
+      omega (arith, ap (λ c. c.len) call.same, call_long root (after_trees it.attributes trees) call.bare call.shape)
 
-  -- Behind a call at a position fewer tokens are left.
+  -- After a call at a position fewer tokens are left.
   pub call_at_less : (it : Call) → item_at root position trees ≡ calls it → size (after_trees it.len trees) < size trees
   call_at_less it is = less_behind it.len trees (omega (arith, call_at_long it is)) there
     where
-      call : StandsBehind root trees it
+      call : IsCallBehind root trees it
       call = call_at it is
 
       none : item_in root end ≡ calls call.bare → ⊥
@@ -172,8 +172,8 @@ module _ (root : List ℕ) (position : Position) (trees : Forest) where
 
       there : trees ≡ end → ⊥
       there e =
-          none (ap (item_in root) (sym (after_end it.attributes) ∙ ap (after_trees it.attributes) (sym e)) ∙ call.stands)
+          none (ap (item_in root) (sym (after_end it.attributes) ∙ ap (after_trees it.attributes) (sym e)) ∙ call.shape)
 
-  -- Behind a definition at a position fewer tokens are left.
+  -- After a definition at a position fewer tokens are left.
   pub definition_at_less : (it : Definition) → item_at root position trees ≡ defines it → size (after_trees it.len trees) < size trees
   definition_at_less it is = definition_less root trees it (definition_at it is)

@@ -59,14 +59,14 @@ long_call root trees = by (is_at_colons trees) (is_at_root root trees && is_at_c
     by false true = long_behind 3 false (after_trees 3 trees)
     by false false = long_behind 0 false trees
 
--- Behind some trees no more tokens are left.
+-- After some trees no more tokens are left.
 pub fewer_behind : (n : ℕ) (trees : Forest) → size (after_trees n trees) ≤ size trees
 fewer_behind zero trees = omega arith
 fewer_behind (suc n) end = fewer_behind n end
 fewer_behind (suc n) (leaf it rest) = omega (arith, fewer_behind n rest)
 fewer_behind (suc n) (node delimiter children rest) = omega (arith, fewer_behind n rest)
 
--- Behind one tree or more, if there is one, fewer tokens are left.
+-- After one tree or more, if there is one, fewer tokens are left.
 pub less_behind : (n : ℕ) (trees : Forest) → 0 < n → (trees ≡ end → ⊥) → size (after_trees n trees) < size trees
 less_behind zero trees some there = absurd (omega (arith, some))
 less_behind (suc n) end some there = absurd (there refl)
@@ -74,7 +74,7 @@ less_behind (suc n) (leaf it rest) some there = omega (arith, fewer_behind n res
 less_behind (suc n) (node delimiter children rest) some there = omega (arith, fewer_behind n rest)
 
 module _ (root : List ℕ) (trees : Forest) where
-  -- Behind a definition fewer tokens are left.
+  -- After a definition fewer tokens are left.
   pub definition_less : (it : Definition) → item_in root trees ≡ defines it → size (after_trees it.len trees) < size trees
   definition_less it is = less_behind it.len trees (by (definition_in trees) (call_in root trees) (long_definition trees) is) there
     where
@@ -104,7 +104,7 @@ module _ (root : List ℕ) (trees : Forest) where
           same e = cc
       by (Some d) call long e = absurd (cc e)
 
-  -- Behind a call fewer tokens are left.
+  -- After a call fewer tokens are left.
   pub call_less : (it : Call) → item_in root trees ≡ calls it → size (after_trees it.len trees) < size trees
   call_less it is = less_behind it.len trees (call_long it is) there
     where

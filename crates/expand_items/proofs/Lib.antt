@@ -1,7 +1,8 @@
 pub mod Adding
 pub mod PartRows
-pub mod Telling
+pub mod PartsSoFar
 pub mod Lengths
+pub mod OneSize
 pub mod Rows
 pub mod Shapes
 pub mod Beginnings

@@ -29,16 +29,16 @@ condition = attribute (codes "cfg") end
 abbrev two : Part
 two = record { len = 2; is_expression = false }
 
--- The `;` behind a statement is a part of it, and another tree is not.
+-- The `;` after a statement is a part of it, and another tree is not.
 with_semicolon : statement_len 1 (statement (codes "a") end) ≡ 2
 with_semicolon = refl
 
 without_semicolon : statement_len 1 (word (codes "a") (word (codes "b") end)) ≡ 1
 without_semicolon = refl
 
--- `let` comes first, also behind an attribute, and not behind a word.
-let_stands : is_at_let (attribute (codes "allow") (word (codes "let") end)) ≡ true
-let_stands = refl
+-- `let` comes first, also after an attribute, and not after a word.
+let_is_there : is_at_let (attribute (codes "allow") (word (codes "let") end)) ≡ true
+let_is_there = refl
 
 let_second : is_at_let (word (codes "a") (word (codes "let") end)) ≡ false
 let_second = refl

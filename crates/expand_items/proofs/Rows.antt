@@ -32,7 +32,7 @@ brackets kind rest = join (subtree kind end) rest
 abbrev pub attribute : List ℕ → Forest → Forest
 attribute text rest = alone 35 (join (subtree Bracket (word text end)) rest)
 
--- the name `m`, and a call of it with empty parentheses, behind a number of trees of attributes
+-- the name `m`, and a call of it with empty parentheses, after a number of trees of attributes
 abbrev pub m_name : Ident
 m_name = record { sym = codes "m"; span = span 0 1; is_raw = No }
 
@@ -80,7 +80,7 @@ unequal_calls_nothing = refl
 path_begins_nothing : item_in (codes "crate") (word (codes "a") (colons (word (codes "m") (bang (brackets Parenthesis end))))) ≡ other
 path_begins_nothing = refl
 
--- `macro_rules! m();` and `macro_rules! m {};`: the `;` is one of its trees only behind parentheses.
+-- `macro_rules! m();` and `macro_rules! m {};`: the `;` is one of its trees only after parentheses.
 definition_parentheses : item_in (codes "crate") (word (codes "macro_rules") (bang (word (codes "m") (brackets Parenthesis (alone 59 end))))) ≡ m_definition Parenthesis 5
 definition_parentheses = refl
 
@@ -103,7 +103,7 @@ operand_is_none = refl
 argument_is_none : is_statement Parenthesis end (begun Others) ≡ false
 argument_is_none = refl
 
--- What `{}` behind `#[macro_use] mod n` defines stays in scope, and what `{}` behind `mod n` defines does not.
+-- What `{}` after `#[macro_use] mod n` defines stays in scope, and what `{}` after `mod n` defines does not.
 used : keeps_macros Brace
     (behind_leaf (ident (codes "n")) end
     (behind_leaf (ident (codes "mod")) end
@@ -114,11 +114,11 @@ used = refl
 not_used : keeps_macros Brace (behind_leaf (ident (codes "n")) end (behind_leaf (ident (codes "mod")) end (begun Statements))) ≡ false
 not_used = refl
 
--- behind a word
+-- after a word
 abbrev behind_word : List ℕ → Position → Position
 behind_word text it = behind_leaf (ident text) end it
 
--- what the braces behind it contain
+-- what the braces after it contain
 abbrev held_behind : Position → Siblings
 held_behind it = (first_in Brace it).siblings
 
@@ -135,7 +135,7 @@ trait_items = refl
 foreign_items : held_behind (behind_word (codes "extern") (begun Items)) ≡ Items
 foreign_items = refl
 
--- those of `extern fn f`, `fn f -> impl T`, `r#mod` and nothing begun, also behind `mod m;`, contain statements,
+-- those of `extern fn f`, `fn f -> impl T`, `r#mod` and nothing begun, also after `mod m;`, contain statements,
 foreign_function : held_behind (behind_word (codes "f") (behind_word (codes "fn") (behind_word (codes "extern") (begun Items)))) ≡ Statements
 foreign_function = refl
 
@@ -176,11 +176,11 @@ items_come = refl
 operands_come : siblings_of_call Parenthesis (alone 43 end) (begun Statements) ≡ Others
 operands_come = refl
 
--- behind `#` and a word in brackets, before the trees in them
+-- after `#` and a word in brackets, before the trees in them
 abbrev behind_attribute : List ℕ → Position → Position
 behind_attribute text it = behind_subtree Bracket (behind_leaf (punct 35 Alone) (subtree Bracket (word text end)) it)
 
--- A condition precedes what follows `#[cfg] #[inline]`; none precedes what follows `#[inline]`, or what follows the tree behind `#[cfg]`.
+-- A condition precedes what follows `#[cfg] #[inline]`; none precedes what follows `#[inline]`, or what follows the tree after `#[cfg]`.
 conditional : (behind_attribute (codes "inline") (behind_attribute (codes "cfg") (begun Items))).is_conditional ≡ true
 conditional = refl
 
@@ -190,7 +190,24 @@ unconditional = refl
 condition_ends : (behind_word (codes "a") (behind_attribute (codes "cfg") (begun Items))).is_conditional ≡ false
 condition_ends = refl
 
--- Behind `#![a]` a statement may still begin.
+-- In `#[cfg] mod m {..}` the condition is in force before the braces, in them, and there also after a `;`; it is not after the braces. None is
+-- after `#[inline]`.
+abbrev module_under : Position
+module_under = behind_word (codes "m") (behind_word (codes "mod") (behind_attribute (codes "cfg") (begun Items)))
+
+open_before : module_under.is_open ≡ true
+open_before = refl
+
+open_inside : (behind_leaf (punct 59 Alone) end (first_in Brace module_under)).is_open ≡ true
+open_inside = refl
+
+open_behind : (behind_subtree Brace module_under).is_open ≡ false
+open_behind = refl
+
+not_open : (behind_attribute (codes "inline") (begun Items)).is_open ≡ false
+not_open = refl
+
+-- After `#![a]` a statement may still begin.
 inner_attribute : is_statement Parenthesis (alone 59 end)
     (behind_subtree Bracket (behind_leaf (punct 33 Alone) end (behind_leaf (punct 35 Alone) (alone 33 end) (begun Statements))))
     ≡ true
@@ -229,7 +246,7 @@ two_conditions = refl
 abbrev m_item : Forest
 m_item = word (codes "m") (bang (brackets Parenthesis (alone 59 end)))
 
--- `#[cfg] m!();` is one item; so are `#[cfg] #[inline] m!();`, and `#[cfg] m!()` with nothing behind it.
+-- `#[cfg] m!();` is one item; so are `#[cfg] #[inline] m!();`, and `#[cfg] m!()` with nothing after it.
 under_condition : item_at (codes "crate") (begun Items) (attribute (codes "cfg") m_item) ≡ m_call_behind 2 false 5
 under_condition = refl
 
@@ -239,7 +256,7 @@ behind_two = refl
 last_statement : item_at (codes "crate") (begun Statements) (attribute (codes "cfg") (word (codes "m") (bang (brackets Parenthesis end)))) ≡ m_call_behind 2 false 5
 last_statement = refl
 
--- `#[cfg] m!() + ..` is none, and a call behind `#[inline]` or behind the second of two conditions is none,
+-- `#[cfg] m!() + ..` is none, and a call after `#[inline]` or after the second of two conditions is none,
 operand_under_condition : item_at (codes "crate") (begun Statements) (attribute (codes "cfg") (word (codes "m") (bang (brackets Parenthesis (alone 43 end))))) ≡ other
 operand_under_condition = refl
 
@@ -256,7 +273,7 @@ later_condition = refl
 definition_under_condition : item_at (codes "crate") (begun Items) (attribute (codes "cfg") (word (codes "macro_rules") (bang (word (codes "m") (brackets Brace end))))) ≡ other
 definition_under_condition = refl
 
--- Without a condition, what comes first is that, also behind one.
+-- Without a condition, what comes first is that, also after one.
 without_condition : item_at (codes "crate") (begun Items) m_item ≡ m_call false 3
 without_condition = refl
 

@@ -17,7 +17,7 @@ use Rattle.mbe_pattern.proofs.Passing.{after_end}
 pub record EndsWithSubtree (trees : Forest) (it : Call) : Type 0 where
   pub before : ℕ
   pub rest : Forest
-  pub stands : after_trees (suc before) trees ≡ node it.delimiter it.input rest
+  pub shape : after_trees (suc before) trees ≡ node it.delimiter it.input rest
   pub len : it.len ≡ suc (suc before)
 
 abbrev EndsWith : Forest → Option Call → Type 0
@@ -30,11 +30,11 @@ ends_behind whole before is_elsewhere trees same = by (name_in trees) (is_at_pun
   where
     by : (name : Option Ident) (is_call : Bool) (behind : Forest) → after_trees (suc (suc before)) whole ≡ behind
         → EndsWith whole (call_from before is_elsewhere name is_call behind)
-    by None is_call behind stands = tt
-    by (Some name) false behind stands = tt
-    by (Some name) true end stands = tt
-    by (Some name) true (leaf it rest) stands = tt
-    by (Some name) true (node delimiter children rest) stands = record { before = suc before; rest = rest; stands = stands; len = omega arith }
+    by None is_call behind shape = tt
+    by (Some name) false behind shape = tt
+    by (Some name) true end shape = tt
+    by (Some name) true (leaf it rest) shape = tt
+    by (Some name) true (node delimiter children rest) shape = record { before = suc before; rest = rest; shape = shape; len = omega arith }
 
 -- The call that comes first ends with its subtree.
 pub call_ends : (root : List ℕ) (trees : Forest) (it : Call) → item_in root trees ≡ calls it → EndsWithSubtree trees it
@@ -61,7 +61,7 @@ pub record BeginsWithName (trees : Forest) : Type 0 where
   pub word : Ident
   pub punct : Punct
   pub rest : Forest
-  pub stands : trees ≡ leaf (leaf_of.Ident word) (leaf (leaf_of.Punct punct) rest)
+  pub shape : trees ≡ leaf (leaf_of.Ident word) (leaf (leaf_of.Punct punct) rest)
   pub sign : ((punct.char == 33) || (punct.char == 58)) ≡ true
 
 -- A word that comes first is an ident.
@@ -105,8 +105,8 @@ colons_first trees is = by (unit_size trees == 2) (is_at_punct (codes ":") trees
 begins : (trees : Forest) (word : Ident) (behind : Forest) (char : ℕ) → trees ≡ leaf (leaf_of.Ident word) behind → is_at_punct (char ∷ []) (after_tree trees) ≡ true
     → ((c : ℕ) → (c == char) ≡ true → ((c == 33) || (c == 58)) ≡ true) → BeginsWithName trees
 begins trees word behind char is there one =
-    let (punct, rest, stands, same) = punct_first char behind (ap (λ f. is_at_punct (char ∷ []) (after_tree f)) (sym is) ∙ there) in
-    record { word = word; punct = punct; rest = rest; stands = is ∙ ap (leaf (leaf_of.Ident word)) stands; sign = one punct.char same }
+    let (punct, rest, shape, same) = punct_first char behind (ap (λ f. is_at_punct (char ∷ []) (after_tree f)) (sym is) ∙ there) in
+    record { word = word; punct = punct; rest = rest; shape = is ∙ ap (leaf (leaf_of.Ident word)) shape; sign = one punct.char same }
 
 -- whether a call that may be there begins with a name, if it is not looked for elsewhere
 abbrev Begins : Forest → Option Call → Type 0
@@ -141,8 +141,8 @@ call_begins root trees it is here = found (definition_in trees) (call_in root tr
     rooted : (is_at_root root trees && is_at_colons (after_tree trees)) ≡ true → BeginsWithName trees
     rooted both =
         let (at_root, colons) = and_parts (is_at_root root trees) (is_at_colons (after_tree trees)) both in
-        let (word, rest, stands) = word_of at_root in
-        begins trees word rest 58 stands (colons_first (after_tree trees) colons) is_colon
+        let (word, rest, shape) = word_of at_root in
+        begins trees word rest 58 shape (colons_first (after_tree trees) colons) is_colon
       where
         word_of : is_at_root root trees ≡ true → (word : Ident) × (rest : Forest) × (trees ≡ leaf (leaf_of.Ident word) rest)
         word_of e = by (is_at_word (codes "crate") trees) refl e
@@ -158,8 +158,8 @@ call_begins root trees it is here = found (definition_in trees) (call_in root tr
     named (Some name) is true e end = tt
     named (Some name) is true e (leaf l rest) = tt
     named (Some name) is true e (node delimiter children rest) =
-        let (behind, word, stands) = name_first trees name is in
-        λ f. begins trees word behind 33 stands e is_bang
+        let (behind, word, shape) = name_first trees name is in
+        λ f. begins trees word behind 33 shape e is_bang
 
     by : (a b : Bool) → (is_at_root root trees && is_at_colons (after_tree trees)) ≡ b
         → Begins trees (cond a (call_behind 2 true (after_trees 2 trees)) (cond b (call_behind 3 false (after_trees 3 trees)) (call_behind 0 false trees)))
@@ -204,14 +204,14 @@ pub call_closed : (root : List ℕ) (trees : Forest) (it : Call) → item_in roo
     → (front : Forest) × (front_trees it.len trees ≡ join front (node it.delimiter it.input end))
 call_closed root trees it is =
     let call = call_ends root trees it is in
-    (front_trees (suc call.before) trees, ap (λ n. front_trees n trees) call.len ∙ ends_by_subtree (suc call.before) trees it.delimiter it.input call.rest call.stands)
+    (front_trees (suc call.before) trees, ap (λ n. front_trees n trees) call.len ∙ ends_by_subtree (suc call.before) trees it.delimiter it.input call.rest call.shape)
 
 -- whether a definition that may be there ends so
 abbrev Closes : Forest → Option Definition → Type 0
 Closes trees None = Unit {0}
 Closes trees (Some it) = EndsClosed (front_trees it.len trees)
 
--- A definition ends with its subtree, or with the `;` behind it.
+-- A definition ends with its subtree, or with the `;` after it.
 pub definition_closed : (root : List ℕ) (trees : Forest) (it : Definition) → item_in root trees ≡ defines it → EndsClosed (front_trees it.len trees)
 definition_closed root trees it is = found (definition_in trees) (call_in root trees) all is
   where
@@ -230,8 +230,8 @@ definition_closed root trees it is = found (definition_in trees) (call_in root t
         by true semicolon s = whole
         by false false s = whole
         by false true s =
-            let (punct, behind, stands, same) = punct_first 59 rest s in
-            by_semicolon (front_trees 4 trees) punct same (ends_by_punct 4 trees punct behind (ap after_tree e ∙ stands))
+            let (punct, behind, shape, same) = punct_first 59 rest s in
+            by_semicolon (front_trees 4 trees) punct same (ends_by_punct 4 trees punct behind (ap after_tree e ∙ shape))
 
     from : (name : Option Ident) → Closes trees (definition_from name third)
     from None = tt

@@ -1,7 +1,7 @@
 -- Why a builder does not come to hold a stack.
-use Rattle.std.proofs.Common.{◌≡◌, inl, inr, ◌⊎◌, ◌+◌, ◌<◌, ◌≤◌, suc, true, false, cond, ap, sym, subst, ◌∙◌, ⊎_elim, arith}
-use Rattle.tt.specs.Building.{BuilderState, Stack, above, append, most_held, tokens_held, IsGrowthFault}
-use Rattle.tt.specs.Forest.{Forest, end, node, size}
+use Rattle.std.proofs.Common.{◌≡◌, inl, inr, ◌≤◌, true, ap, ⊎_elim, arith}
+use Rattle.tt.specs.Building.{BuilderState, Stack, above, append, tokens_held, IsGrowthFault}
+use Rattle.tt.specs.Forest.{Forest, end, size}
 use Rattle.tt.specs.Types.TtFault.{TtFault}
 use Rattle.tt_base.proofs.Appending.{held-append}
 use Rattle.tt.specs.Types.Delimiter.{Delimiter}

@@ -71,15 +71,15 @@ abbrev pub with_attributes : (len : ℕ) → Call → Call
 with_attributes len it = record it { attributes = len; len = len + it.len }
 
 -- what follows so many trees of attributes, before these trees: a call that is a statement or an item has the attributes as a part
-abbrev pub standing : Position → (attributes : ℕ) → (trees : Forest) → Item → Item
-standing position attributes trees (defines it) = other
-standing position attributes trees (calls it) =
+abbrev pub item_behind : Position → (attributes : ℕ) → (trees : Forest) → Item → Item
+item_behind position attributes trees (defines it) = other
+item_behind position attributes trees (calls it) =
     if is_statement it.delimiter.kind (after_trees it.len trees) position then calls (with_attributes attributes it) else other
-standing position attributes trees other = other
+item_behind position attributes trees other = other
 
 -- what comes first at a position: a call under a condition contains the attributes from the first condition on
 abbrev pub item_at : (root : List ℕ) → Position → Forest → Item
 item_at root position trees =
     if begins_condition position trees
-    then standing position (attributes_len trees) (after_trees (attributes_len trees) trees) (item_in root (after_trees (attributes_len trees) trees))
+    then item_behind position (attributes_len trees) (after_trees (attributes_len trees) trees) (item_in root (after_trees (attributes_len trees) trees))
     else item_in root trees

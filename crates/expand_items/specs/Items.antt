@@ -1,5 +1,5 @@
 -- What comes first among siblings: a definition of a macro, a call of one, or something else.
-use Rattle.std.specs.Prelude.{ℕ, ◌+◌, ◌==◌, ◌&&◌, ◌||◌, not, Bool, true, false, List, Option, None, Some, codes, if◌then◌else◌}
+use Rattle.std.specs.Prelude.{ℕ, ◌+◌, ◌==◌, ◌&&◌, ◌||◌, Bool, true, false, List, Option, None, Some, codes, if◌then◌else◌}
 use Rattle.tt.specs.Expectations.{first_leaf_as, as_ident_or_underscore}
 use Rattle.tt.specs.Forest.{Forest, end, leaf, node}
 use Rattle.tt.specs.Gluing.{after_trees}
@@ -8,14 +8,14 @@ use Rattle.tt.specs.Moves.{after_tree}
 use Rattle.tt.specs.Types.Delimiter.{Delimiter}
 use Rattle.tt.specs.Types.DelimiterKind.{DelimiterKind}
 use Rattle.tt.specs.Types.Ident.{Ident}
-use Rattle.tt.specs.Types.IdentIsRaw.{IdentIsRaw}
-use Rattle.tt.specs.Types.IdentIsRaw.TheVariants.{No, Yes}
 use Rattle.tt.specs.Types.Leaf.TheVariants as leaf_of
 use Rattle.expand_items.specs.declared.item.Call as call
 use Rattle.expand_items.specs.declared.item.Definition as definition
 use Rattle.expand_items.specs.declared.item.Item as item
 use Rattle.expand_items.specs.declared.item.Item.TheVariants as item_of
-use Rattle.expand_items.specs.Keywords.{is_keyword}
+use Rattle.mbe_grammar.specs.declared.test.Test.TheVariants as test
+use Rattle.mbe_grammar.specs.Tests.{passes}
+use Rattle.mbe_grammar.specs.Units.{first_unit}
 use Rattle.mbe_pattern.specs.Units.{is_at_word, is_brace, is_at_punct, unit_size}
 
 -- a definition of a macro: its name, the trees of its arms under a delimiter, and its number of trees
@@ -41,21 +41,16 @@ pub data Item : Type 0 where
   calls : Call → Item
   other : Item
 
--- a word may name a macro, unless it is a keyword that is not raw
-abbrev pub may_name : IdentIsRaw → List ℕ → Bool
-may_name No word = not (is_keyword word)
-may_name Yes word = true
-
 -- an ident that may name a macro
-abbrev pub unless_keyword : Option Ident → Option Ident
-unless_keyword None = None
-unless_keyword (Some it) = if may_name it.is_raw it.sym then Some it else None
+abbrev pub unless_keyword : (is_name : Bool) → Option Ident → Option Ident
+unless_keyword is_name None = None
+unless_keyword is_name (Some it) = if is_name then Some it else None
 
--- the name of a macro that comes first
+-- the name of a macro that comes first: an ident, unless it is a keyword that is not raw
 abbrev pub name_in : Forest → Option Ident
-name_in trees = unless_keyword (first_leaf_as as_ident_or_underscore trees)
+name_in trees = unless_keyword (passes test.Name (first_unit trees)) (first_leaf_as as_ident_or_underscore trees)
 
--- the number of trees of a definition: the `;` behind parentheses or brackets is one of them
+-- the number of trees of a definition: the `;` after parentheses or brackets is one of them
 abbrev pub definition_len : DelimiterKind → (behind : Forest) → ℕ
 definition_len kind behind = if is_brace kind then 4 else (if is_at_punct (codes ";") behind then 5 else 4)
 

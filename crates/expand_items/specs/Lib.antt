@@ -4,5 +4,4 @@ pub mod Spreads
 -- What comes among siblings, as far as macros need it.
 pub mod Attributes
 pub mod Items
-pub mod Keywords
 pub mod Positions

@@ -21,11 +21,11 @@ or_zero (Some n) = n
 abbrev pub Takes : GrammarFragment → Forest → (taken : ℕ) → Type 0
 Takes which trees taken = (count : Option ℕ) × Reaches which trees count × (taken ≡ or_zero count)
 
--- `let` comes first, behind attributes
+-- `let` comes first, after attributes
 abbrev pub is_at_let : Forest → Bool
 is_at_let trees = is_at_word (codes "let") (after_trees (attributes_len trees) trees)
 
--- the number of trees of a statement that takes so many: the `;` behind it is one of them
+-- the number of trees of a statement that takes so many: the `;` after it is one of them
 abbrev pub statement_len : (taken : ℕ) → Forest → ℕ
 statement_len taken trees = if is_at_punct (codes ";") (after_trees taken trees) then suc taken else taken
 
@@ -45,7 +45,7 @@ pub data IsPart : Siblings → Forest → Option Part → Type 0 where
       → IsPart its trees (Some (statement_part (suc more) trees))
   no_statement : {its : Siblings} {trees : Forest} → is_items its ≡ false → Takes fragment.Item trees 0 → Takes fragment.Stmt trees 0 → IsPart its trees None
 
--- trees are these parts, one behind the other, or are no run of parts
+-- trees are these parts, one after the other, or are no run of parts
 pub data AreParts : Siblings → Forest → Option (List Part) → Type 0 where
   ends : {its : Siblings} → AreParts its end (Some [])
   stops : {its : Siblings} {trees : Forest} → is_end trees ≡ false → IsPart its trees None → AreParts its trees None

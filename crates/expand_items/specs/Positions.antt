@@ -31,18 +31,18 @@ is_items siblings.Others = false
 
 -- with one word more: the first of `mod`, `impl`, `trait` and `fn` says what the braces of
 -- an item contain, and `extern` says it if none of them follows
-abbrev pub head_told : (word : List ℕ) → Head → Head
-head_told word it =
+abbrev pub head_of_word : (word : List ℕ) → Head → Head
+head_of_word word it =
     if bytes_eq word (codes "mod") || (bytes_eq word (codes "impl") || bytes_eq word (codes "trait")) then head.Items
     else (if bytes_eq word (codes "fn") then head.Function else (if bytes_eq word (codes "extern") then head.Foreign else it))
 
 abbrev pub head_behind : (word : List ℕ) → Head → Head
-head_behind word head.Unknown = head_told word head.Unknown
-head_behind word head.Foreign = head_told word head.Foreign
+head_behind word head.Unknown = head_of_word word head.Unknown
+head_behind word head.Foreign = head_of_word word head.Foreign
 head_behind word head.Items = head.Items
 head_behind word head.Function = head.Function
 
--- what the braces behind it contain
+-- what the braces after it contain
 abbrev pub held_by : Head → Siblings
 held_by head.Unknown = siblings.Statements
 held_by head.Foreign = siblings.Items
@@ -70,16 +70,25 @@ is_at_attribute_of word (node delimiter children rest) = is_attribute_of word de
 -- before the first of such siblings
 abbrev pub begun : Siblings → Position
 begun its =
-    record { siblings = its; is_start = is_block its; head = head.Unknown; is_used = false; is_conditional = false; is_attribute = false }
+    record {
+      siblings = its;
+      is_start = is_block its;
+      head = head.Unknown;
+      is_used = false;
+      is_conditional = false;
+      is_attribute = false;
+      is_under = false;
+      is_open = false;
+    }
 
--- what the trees in brackets of a kind are, and the position before the first of them
+-- what the trees in brackets of a kind are, and the position before the first of them: all are under a condition that is in force before them
 abbrev pub siblings_in : DelimiterKind → Position → Siblings
 siblings_in kind it = if is_brace kind then held_by it.head else siblings.Others
 
 abbrev pub first_in : DelimiterKind → Position → Position
-first_in kind it = begun (siblings_in kind it)
+first_in kind it = record (begun (siblings_in kind it)) { is_under = it.is_open; is_open = it.is_open }
 
--- the position behind trees that end a statement or an item if `ends`
+-- the position after trees that end a statement or an item if `ends`
 abbrev pub behind : (ends : Bool) → Position → Position
 behind ends it =
     record {
@@ -89,45 +98,48 @@ behind ends it =
       is_used = false;
       is_conditional = false;
       is_attribute = false;
+      is_under = it.is_under;
+      is_open = if ends then it.is_under else it.is_open;
     }
 
--- behind `#`, before these trees: it begins an attribute
+-- after `#`, before these trees: it begins an attribute
 abbrev pub behind_attribute_sign : Forest → Position → Position
 behind_attribute_sign trees it =
     record it {
       is_used = it.is_used || is_at_attribute_of (codes "macro_use") trees;
       is_conditional = it.is_conditional || is_at_attribute_of (codes "cfg") trees;
       is_attribute = true;
+      is_open = it.is_open || is_at_attribute_of (codes "cfg") trees;
     }
 
--- behind a punct, before these trees: `!` behind `#` is part of an attribute, and `;` ends a statement or an item
+-- after a punct, before these trees: `!` after `#` is part of an attribute, and `;` ends a statement or an item
 abbrev pub behind_punct : (char : ℕ) → Forest → Position → Position
 behind_punct char trees it =
     if char == 35 then behind_attribute_sign trees it else (if char == 33 && it.is_attribute then it else behind (char == 59) it)
 
--- what the words say behind an ident, which is a word if it is not raw
+-- what the words say after an ident, which is a word if it is not raw
 abbrev pub head_behind_ident : IdentIsRaw → (word : List ℕ) → Head → Head
 head_behind_ident raw.No word it = head_behind word it
 head_behind_ident raw.Yes word it = it
 
--- behind an ident, which leaves `#[macro_use]` in force
+-- after an ident, which leaves `#[macro_use]` in force
 abbrev pub behind_ident : Ident → Position → Position
 behind_ident ident it =
     record it { is_start = false; head = head_behind_ident ident.is_raw ident.sym it.head; is_conditional = false; is_attribute = false }
 
--- behind a leaf, before these trees
+-- after a leaf, before these trees
 abbrev pub behind_leaf : Leaf → Forest → Position → Position
 behind_leaf (leaf_of.Literal literal) trees it = behind false it
 behind_leaf (leaf_of.Punct punct) trees it = behind_punct punct.char trees it
 behind_leaf (leaf_of.Ident ident) trees it = behind_ident ident it
 
--- behind a subtree of a kind: an attribute changes nothing, parentheses leave
+-- after a subtree of a kind: an attribute changes nothing, parentheses leave
 -- `#[macro_use]` in force, and braces end a statement or an item
 abbrev pub behind_subtree : DelimiterKind → Position → Position
 behind_subtree kind it =
     if it.is_attribute then record it { is_attribute = false } else record (behind (is_brace kind) it) { is_used = it.is_used && is_parenthesis kind }
 
--- what a subtree of a kind defines stays in scope behind it: in braces under `#[macro_use]`
+-- what a subtree of a kind defines stays in scope after it: in braces under `#[macro_use]`
 abbrev pub keeps_macros : DelimiterKind → Position → Bool
 keeps_macros kind it = it.is_used && (not it.is_attribute && is_brace kind)
 
@@ -135,7 +147,7 @@ keeps_macros kind it = it.is_used && (not it.is_attribute && is_brace kind)
 abbrev pub is_statement : DelimiterKind → (behind : Forest) → Position → Bool
 is_statement kind behind it = it.is_start && (is_brace kind || (is_end behind || is_at_punct (codes ";") behind))
 
--- the `;` behind a call is a part of it: among items, because no `;` may come alone there
+-- the `;` after a call is a part of it: among items, because no `;` may come alone there
 abbrev pub takes_semicolon : DelimiterKind → (behind : Forest) → Position → Bool
 takes_semicolon kind behind it = is_items it.siblings && (it.is_start && (not (is_brace kind) && is_at_punct (codes ";") behind))
 

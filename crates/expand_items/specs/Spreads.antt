@@ -59,5 +59,5 @@ IsNotPut its braces conditions trees stack fault =
 pub record IsPutUnder (its : Siblings) (braces : Delimiter) (conditions trees : Forest) (is_put : Bool) (old new : Stack) : Type 0 where
   pub put : Option Forest
   pub under : AreUnder its braces conditions trees put
-  pub told : is_put ≡ is_some put
+  pub answer : is_put ≡ is_some put
   pub added : new ≡ append_if put old

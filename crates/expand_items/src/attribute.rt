@@ -2,7 +2,7 @@
 ghost use Rattle.std.specs.Prelude.{◌≡◌, ◌+◌, ◌<◌, ◌^◌};
 ghost use Rattle.tt.specs.Forest.{size};
 ghost use Rattle.tt.specs.Iters.{rest_of};
-ghost use Rattle.expand_items.specs.Attributes.{attributes_len, is_at_attribute, is_at_brackets, is_at_condition, item_at, standing, with_attributes};
+ghost use Rattle.expand_items.specs.Attributes.{attributes_len, is_at_attribute, is_at_brackets, is_at_condition, item_at, item_behind, with_attributes};
 ghost use Rattle.expand_items.specs.Items.{call_of, item_in, item_meant};
 
 use crate::item::{Call, Item, item_in};
@@ -65,14 +65,14 @@ fn with_attributes<'a>(attributes: usize, call: Call<'a>) -> Call<'a>
 }
 
 // Returns what follows the attributes: a call, with the attributes as a part, if it is a statement or an item.
-fn standing<'a>(
+fn item_behind<'a>(
     position: Position,
     attributes: usize,
     mut trees: TtIter<'a>,
     root: &str,
 ) -> Item<'a>
     requires { attributes + size (rest_of trees) < 2 ^ 64 }
-    ensures { item_meant result ≡ standing position attributes (rest_of trees.entry) (item_in root.now (rest_of trees.entry)) }
+    ensures { item_meant result ≡ item_behind position attributes (rest_of trees.entry) (item_in root.now (rest_of trees.entry)) }
 {
     match item_in(trees.remaining().iter(), root) {
         Item::Call(call) => {
@@ -96,5 +96,5 @@ pub fn item_at<'a>(position: Position, mut trees: TtIter<'a>, root: &str) -> Ite
     }
     let attributes = attributes_len(trees.remaining().iter());
     pass(&mut trees, attributes);
-    standing(position, attributes, trees, root)
+    item_behind(position, attributes, trees, root)
 }

@@ -5,9 +5,9 @@ ghost use Rattle.tt.specs.Moves.{after_tree};
 ghost use Rattle.expand_items.specs.Items.{name_in, definition_len, defined_as, definition_behind, definition_in, call_behind, is_at_colons, is_at_root, call_in, is_at_sign, may_begin_item, item_in, definition_of, call_of, item_meant};
 ghost use Rattle.mbe_pattern.specs.Units.{is_at_word, is_at_punct};
 
-use crate::keyword::is_keyword;
+use mbe_grammar::{Test, Unit};
 use mbe_pattern::{is_at_punct, is_at_word, pass, unit_size};
-use tt::{DelimiterKind, Ident, IdentIsRaw, Leaf, Subtree, TtElement, TtIter};
+use tt::{DelimiterKind, Ident, Leaf, Subtree, TtElement, TtIter};
 
 /// The number of trees of `::`.
 const COLONS_LEN: usize = 2;
@@ -15,7 +15,7 @@ const COLONS_LEN: usize = 2;
 /// The number of trees of `crate::`.
 const ROOT_LEN: usize = 3;
 
-/// A definition of a macro: `macro_rules! NAME` and a subtree that contains the arms, and the `;` behind parentheses or brackets.
+/// A definition of a macro: `macro_rules! NAME` and a subtree that contains the arms, and the `;` after parentheses or brackets.
 #[derive(Drop)]
 pub struct Definition<'a> {
     pub name: Ident,
@@ -53,19 +53,11 @@ fn take_name(trees: &mut TtIter<'_>) -> Option<Ident>
     ensures answer { result ≡ name_in (rest_of trees.old) }
     ensures rest { rest_of trees.new ≡ after_tree (rest_of trees.old) }
 {
+    let is_name = Test::Name.passes(Unit::take(&mut trees.remaining().iter()));
     let Ok(ident) = trees.expect_ident_or_underscore() else {
         return None;
     };
-    match ident.is_raw {
-        IdentIsRaw::Yes => Some(ident),
-        IdentIsRaw::No => {
-            if is_keyword(ident.sym.as_str()) {
-                None
-            } else {
-                Some(ident)
-            }
-        }
-    }
+    if is_name { Some(ident) } else { None }
 }
 
 // Returns the number of trees of a definition whose subtree is of a kind and precedes these trees.

@@ -12,7 +12,6 @@
 
 mod attribute;
 mod item;
-mod keyword;
 mod part;
 mod position;
 mod spread;

@@ -14,7 +14,7 @@ use tt::{TokenTreesView, TtIter};
 /// An item or a statement.
 #[derive(Debug, Clone, Copy, PartialEq, Eq)]
 pub struct Part {
-    /// The number of its trees, with the `;` behind a statement.
+    /// The number of its trees, with the `;` after a statement.
     pub len: usize,
     /// Whether it is a statement that is an expression.
     pub is_expression: bool,
@@ -30,7 +30,7 @@ fn taken(alloc: Global, fragment: GrammarFragment, trees: TtIter<'_>) -> Result<
     }
 }
 
-// Returns whether `let` comes first, behind attributes.
+// Returns whether `let` comes first, after attributes.
 fn is_at_let(mut trees: TtIter<'_>) -> bool
     ensures { result ≡ is_at_let (rest_of trees.entry) }
 {
@@ -79,7 +79,7 @@ fn part_in(
     }))
 }
 
-/// Splits trees into items or statements, one behind the other; returns `None` if they are no such run.
+/// Splits trees into items or statements, one after the other; returns `None` if they are no such run.
 pub fn parts(
     alloc: Global,
     siblings: Siblings,

@@ -19,7 +19,7 @@ pub enum Siblings {
     Others,
 }
 
-// What the words of the item that has begun say of the braces behind them.
+// What the words of the item that has begun say of the braces after them.
 #[derive(Clone, Copy)]
 enum Head {
     /// Nothing.
@@ -46,6 +46,10 @@ pub struct Position {
     is_conditional: bool,
     /// Whether `#` or `#!` is the last tree before.
     is_attribute: bool,
+    /// Whether all siblings are under a condition.
+    is_under: bool,
+    /// Whether a condition is in force here: all siblings are under one, or one precedes the statement or the item that has begun.
+    is_open: bool,
 }
 
 impl Siblings {
@@ -76,7 +80,7 @@ impl Head {
         }
     }
 
-    // Returns what the braces behind it contain.
+    // Returns what the braces after it contain.
     fn held(self) -> Siblings
         ensures { result ≡ held_by self }
     {
@@ -118,6 +122,8 @@ impl Position {
             is_used: false,
             is_conditional: false,
             is_attribute: false,
+            is_under: false,
+            is_open: false,
         }
     }
 
@@ -136,10 +142,14 @@ impl Position {
     pub fn first_in(self, kind: DelimiterKind) -> Position
         ensures { result ≡ first_in kind self }
     {
-        Position::begun(self.siblings_in(kind))
+        Position {
+            is_under: self.is_open,
+            is_open: self.is_open,
+            ..Position::begun(self.siblings_in(kind))
+        }
     }
 
-    /// Returns the position behind trees that end a statement or an item if `ends`.
+    /// Returns the position after trees that end a statement or an item if `ends`.
     pub fn behind(self, ends: bool) -> Position
         ensures { result ≡ behind ends self }
     {
@@ -150,23 +160,26 @@ impl Position {
             is_used: false,
             is_conditional: false,
             is_attribute: false,
+            is_under: self.is_under,
+            is_open: if ends { self.is_under } else { self.is_open },
         }
     }
 
-    // Returns the position behind `#`, before these trees.
+    // Returns the position after `#`, before these trees.
     fn behind_attribute_sign(self, trees: TtIter<'_>) -> Position
         ensures { result ≡ behind_attribute_sign (rest_of trees.entry) self }
     {
-        let behind = trees.remaining();
+        let is_condition = is_at_attribute_of("cfg", trees.remaining().iter());
         Position {
             is_used: self.is_used || is_at_attribute_of("macro_use", trees),
-            is_conditional: self.is_conditional || is_at_attribute_of("cfg", behind.iter()),
+            is_conditional: self.is_conditional || is_condition,
             is_attribute: true,
+            is_open: self.is_open || is_condition,
             ..self
         }
     }
 
-    // Returns the position behind a punct, before these trees.
+    // Returns the position after a punct, before these trees.
     fn behind_punct(self, char: char, trees: TtIter<'_>) -> Position
         ensures { result ≡ behind_punct char (rest_of trees.entry) self }
     {
@@ -179,7 +192,7 @@ impl Position {
         }
     }
 
-    // Returns the position behind an ident.
+    // Returns the position after an ident.
     fn behind_ident(self, ident: &Ident) -> Position
         ensures { result ≡ behind_ident ident.now self }
     {
@@ -196,7 +209,7 @@ impl Position {
         }
     }
 
-    /// Returns the position behind a leaf, before these trees.
+    /// Returns the position after a leaf, before these trees.
     pub fn behind_leaf(self, leaf: &Leaf, trees: TtIter<'_>) -> Position
         ensures { result ≡ behind_leaf leaf.now (rest_of trees.entry) self }
     {
@@ -207,7 +220,7 @@ impl Position {
         }
     }
 
-    /// Returns the position behind a subtree of a kind.
+    /// Returns the position after a subtree of a kind.
     pub fn behind_subtree(self, kind: DelimiterKind) -> Position
         ensures { result ≡ behind_subtree kind self }
     {
@@ -223,7 +236,15 @@ impl Position {
         }
     }
 
-    /// Returns whether what a subtree of a kind defines stays in scope behind it.
+    /// Returns whether a condition, `#[cfg(..)]`, is in force here: before the statement or the item that has begun, or before one that
+    /// contains it.
+    pub fn is_open(self) -> bool
+        ensures { result ≡ self.is_open }
+    {
+        self.is_open
+    }
+
+    /// Returns whether what a subtree of a kind defines stays in scope after it.
     pub fn keeps_macros(self, kind: DelimiterKind) -> bool
         ensures { result ≡ keeps_macros kind self }
     {
@@ -238,7 +259,7 @@ impl Position {
             && (kind == DelimiterKind::Brace || behind.is_empty() || is_at_punct(behind, ';'))
     }
 
-    /// Returns whether the `;` behind such a call is a part of it: it is among items, because no `;` may come alone there.
+    /// Returns whether the `;` after such a call is a part of it: it is among items, because no `;` may come alone there.
     pub fn takes_semicolon(self, kind: DelimiterKind, behind: TtIter<'_>) -> bool
         ensures { result ≡ takes_semicolon kind (rest_of behind.entry) self }
     {

@@ -4,7 +4,7 @@ use Rattle.tt.specs.Forest.{Forest, Root, end, leaf, node}
 use Rattle.tt.specs.Gluing.{after_trees}
 use Rattle.tt.specs.Span.{start_of}
 use Rattle.expand_items.specs.declared.position.Position.{Position}
-use Rattle.expand_items.specs.Attributes.{item_at, standing, begins_condition, attributes_len}
+use Rattle.expand_items.specs.Attributes.{item_at, item_behind, begins_condition, attributes_len}
 use Rattle.expand_items.specs.Items.{Item, Definition, Call, defines, calls, other, item_in}
 use Rattle.expand_items.specs.Positions.{first_in, behind, behind_leaf, behind_subtree, keeps_macros}
 use Rattle.expand_text.specs.declared.fault.MacroFault.{MacroFault}
@@ -41,7 +41,7 @@ pub end_first : (config : Config) (context : Context) (position : Position) (pla
 end_first config context position (suc plain) = refl
 end_first config context position zero = plain_first config context position zero end (inr (inr (by (begins_condition position end))))
   where
-    by : (b : Bool) → cond b (standing position (attributes_len end) (after_trees (attributes_len end) end) (item_in config.root (after_trees (attributes_len end) end))) (item_in config.root end) ≡ other
+    by : (b : Bool) → cond b (item_behind position (attributes_len end) (after_trees (attributes_len end) end) (item_in config.root (after_trees (attributes_len end) end))) (item_in config.root end) ≡ other
     by true = refl
     by false = refl
 
@@ -65,7 +65,7 @@ module _ (config : Config) (in_text : Bool) (limit : ℕ) (position : Position) 
   -- a definition is read
   abbrev pub GoesPast : Definition → Forest → Type 0
   GoesPast it trees =
-      (inside : Context) × (others : Outcome) × IsRead config it context inside
+      (inside : Context) × (others : Outcome) × IsRead config position.is_open it context inside
       × ExpandsTo config in_text limit (behind true position) 0 inside (after_trees it.len trees) after others
       × (outcome ≡ stays (front_trees it.len trees) others)
 

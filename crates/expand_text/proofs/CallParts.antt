@@ -8,7 +8,7 @@ use Rattle.syntax_edit.specs.Places.{begin_at}
 use Rattle.expand_text.proofs.ManyTrees.{after_both, after_more}
 use Rattle.expand_text.specs.CallSites.{CallSite}
 use Rattle.expand_text.specs.Meaning.{attributes_in, begin_in, behind_call, end_in, len_in, rest_in, site_in, takes_in, whole_in}
-use Rattle.expand_items.proofs.Conditions.{StandsBehind, call_at}
+use Rattle.expand_items.proofs.Conditions.{IsCallBehind, call_at}
 use Rattle.expand_items.proofs.Shapes.{EndsClosed, by_subtree, by_semicolon, call_closed}
 use Rattle.expand_items.specs.Attributes.{item_at, with_attributes}
 use Rattle.expand_items.specs.Items.{Call, calls}
@@ -23,7 +23,7 @@ front_end : (n : ℕ) → front_trees n end ≡ end
 front_end zero = refl
 front_end (suc n) = refl
 
--- Of the first `n + m` trees, those behind the first `n` are the next `m`,
+-- Of the first `n + m` trees, those after the first `n` are the next `m`,
 pub after_front : (n m : ℕ) (trees : Forest) → after_trees n (front_trees (n + m) trees) ≡ front_trees m (after_trees n trees)
 after_front zero m trees = let none : 0 + m ≡ m = omega arith in ap (λ k. front_trees k trees) none
 after_front (suc n) m end =
@@ -50,7 +50,7 @@ front_front (suc n) m (node delimiter children rest) =
 pub front_both : (n m : ℕ) (trees : Forest) → front_trees (n + m) trees ≡ join (front_trees n trees) (front_trees m (after_trees n trees))
 front_both n m trees = front_joined n (front_trees (n + m) trees) ∙ ap₂ join (front_front n m trees) (after_front n m trees)
 
--- Trees that end with a subtree or a `;` end so behind others too.
+-- Trees that end with a subtree or a `;` end so after others too.
 pub closed_join : (front closed : Forest) → EndsClosed closed → EndsClosed (join front closed)
 closed_join front closed (by_subtree before delimiter children is) =
     by_subtree (join front before) delimiter children (ap (join front) is ∙ sym (join-assoc front before (node delimiter children end)))
@@ -58,7 +58,7 @@ closed_join front closed (by_semicolon before punct semicolon is) =
     by_semicolon (join front before) punct semicolon (ap (join front) is ∙ sym (join-assoc front before _))
 
 module _ (position : Position) (it : Call) (trees : Forest) where
-  -- Behind a call with its `;`, the trees are those behind so many trees,
+  -- After a call with its `;`, the trees are those after so many trees,
   pub rest_behind : rest_in position it trees ≡ after_trees (len_in position it trees) trees
   rest_behind = by (takes_in position it trees)
     where
@@ -83,7 +83,7 @@ module _ (position : Position) (it : Call) (trees : Forest) where
       ap (λ f. site_made f is_statement siblings) all ∙ ap (λ b. site_made (whole_in position it trees) b siblings) one
       ∙ ap (λ s. site_made (whole_in position it trees) site.is_statement s) among
 
--- A call with attributes is the call alone behind them.
+-- A call with attributes is the call alone after them.
 module _ (position : Position) (attributes : ℕ) (bare : Call) (trees : Forest) where
   -- the call with them, and what follows them
   abbrev whole : Call
@@ -122,7 +122,7 @@ module _ (position : Position) (attributes : ℕ) (bare : Call) (trees : Forest)
 -- The same holds for a call that comes first.
 module _ (root : List ℕ) (position : Position) (trees : Forest) (it : Call) (is : item_at root position trees ≡ calls it) where
   -- the call alone, and what follows the attributes
-  abbrev pub alone : StandsBehind root trees it
+  abbrev pub alone : IsCallBehind root trees it
   alone = call_at root position trees it is
 
   abbrev pub past : Forest
@@ -148,7 +148,7 @@ module _ (root : List ℕ) (position : Position) (trees : Forest) (it : Call) (i
   -- The call ends with its subtree.
   pub ends_alone : EndsClosed (front_trees it.len trees)
   ends_alone =
-      let (front, same) = call_closed root past alone.bare alone.stands in
+      let (front, same) = call_closed root past alone.bare alone.shape in
       let len : it.len ≡ it.attributes + alone.bare.len = ap (λ c. c.len) alone.same in
       subst EndsClosed (sym (ap (λ n. front_trees n trees) len ∙ front_both it.attributes alone.bare.len trees))
       (closed_join (front_trees it.attributes trees) (front_trees alone.bare.len past) (by_subtree front alone.bare.delimiter alone.bare.input same))

@@ -17,14 +17,14 @@ use Rattle.expand_items.proofs.Shapes.{call_ends}
 use Rattle.syntax_edit.proofs.LaidFacts.{laid_behind, laid_order, laid_past, starts_before}
 use Rattle.expand_text.proofs.CallParts.{alone, begin_alone, end_alone, rest_alone}
 use Rattle.expand_text.proofs.ManyTrees.{after_more}
-use Rattle.expand_items.proofs.Conditions.{StandsBehind}
+use Rattle.expand_items.proofs.Conditions.{IsCallBehind}
 use Rattle.expand_items.specs.Attributes.{item_at}
 use Rattle.mbe_pattern.proofs.Passing.{after_end}
 use Rattle.expand_items.specs.Positions.{is_items}
 use Rattle.expand_items.specs.declared.position.Position.{Position}
 use Rattle.mbe_pattern.specs.Units.{is_brace, is_at_punct}
 
--- A subtree that lies in a text behind a byte closes behind it, and the trees behind the subtree lie there.
+-- A subtree that lies in a text after a byte closes after it, and the trees after the subtree lie there.
 past_subtree : {text : List ℕ} {place to : ℕ} {delimiter : Delimiter} {children rest trees : Forest} → trees ≡ node delimiter children rest → Laid text place trees to
     → (place ≤ end_of delimiter.close.range) × IsCharBoundary text (end_of delimiter.close.range) × Laid text (end_of delimiter.close.range) rest to
 past_subtree {text} {place} {to} {delimiter} {children} {rest} is laid = by (subst (λ f. Laid text place f to) is laid)
@@ -33,33 +33,33 @@ past_subtree {text} {place} {to} {delimiter} {children} {rest} is laid = by (sub
         → (place ≤ end_of delimiter.close.range) × IsCharBoundary text (end_of delimiter.close.range) × Laid text (end_of delimiter.close.range) rest to
     by (lies_node opens inside closes behind) = (omega (arith, opens.after, laid_order inside, closes.order), closes.ends, behind)
 
--- If a subtree follows the first `suc n` trees: from the beginning of the trees to its close is a range, and the other trees lie behind it.
+-- If a subtree follows the first `suc n` trees: from the beginning of the trees to its close is a range, and the other trees lie after it.
 to_subtree : {text : List ℕ} {from to : ℕ} (n : ℕ) (other : Span) {delimiter : Delimiter} {children rest trees : Forest} → Laid text from trees to
     → after_trees (suc n) trees ≡ node delimiter children rest
     → Lies text from (start_of (begin_at trees other).range) (end_of delimiter.close.range) × Laid text (end_of delimiter.close.range) rest to
-to_subtree n other {delimiter} {children} {rest} (lies_end order) stands = absurd (no (sym (after_end n) ∙ stands))
+to_subtree n other {delimiter} {children} {rest} (lies_end order) shape = absurd (no (sym (after_end n) ∙ shape))
   where
     no : end ≡ node delimiter children rest → ⊥
     no e = cc
-to_subtree n other (lies_leaf {it = it} lies behind) stands =
-    let (order, closes, others) = past_subtree stands (laid_behind n behind) in
+to_subtree n other (lies_leaf {it = it} lies behind) shape =
+    let (order, closes, others) = past_subtree shape (laid_behind n behind) in
     (record { after = lies.after; range = record { order = omega (arith, order, starts_before it lies.range.order); begins = lies.range.begins; ends = closes } }, others)
-to_subtree n other (lies_node opens inside shuts behind) stands =
-    let (order, closes, others) = past_subtree stands (laid_behind n (laid_past inside shuts behind)) in
+to_subtree n other (lies_node opens inside shuts behind) shape =
+    let (order, closes, others) = past_subtree shape (laid_behind n (laid_past inside shuts behind)) in
     (record { after = opens.after; range = record { order = order; begins = opens.range.begins; ends = closes } }, others)
 
 -- A call without its `;` is a range of the text, from where its first token begins to where
--- its subtree closes. The trees behind it lie behind that.
+-- its subtree closes. The trees after it lie after that.
 subtree_laid : {text : List ℕ} {from to : ℕ} (root : List ℕ) (trees : Forest) (it : Call) → item_in root trees ≡ calls it → Laid text from trees to
     → Lies text from (start_of (begin_at trees it.name.span).range) (end_of it.delimiter.close.range)
     × Laid text (end_of it.delimiter.close.range) (after_trees it.len trees) to
 subtree_laid {text} {to = to} root trees it is laid =
     let call = call_ends root trees it is in
-    let (lies, behind) = to_subtree call.before it.name.span laid call.stands in
-    let left : after_trees it.len trees ≡ call.rest = ap (λ n. after_trees n trees) call.len ∙ after_more (suc call.before) trees ∙ ap after_tree call.stands in
+    let (lies, behind) = to_subtree call.before it.name.span laid call.shape in
+    let left : after_trees it.len trees ≡ call.rest = ap (λ n. after_trees n trees) call.len ∙ after_more (suc call.before) trees ∙ ap after_tree call.shape in
     (lies, subst (λ f. Laid text (end_of it.delimiter.close.range) f to) (sym left) behind)
 
--- A range up to a byte and the `;` behind it are one range, and the trees behind both lie behind the `;`.
+-- A range up to a byte and the `;` after it are one range, and the trees after both lie after the `;`.
 with_semicolon : {text : List ℕ} {from start close to : ℕ} (other : Span) (rest : Forest) → is_at_punct (codes ";") rest ≡ true → Lies text from start close
     → Laid text close rest to
     → Lies text from start (end_of (begin_at rest other).range) × Laid text (end_of (begin_at rest other).range) (after_tree rest) to
@@ -94,7 +94,7 @@ last_of true false c d is = absurd (cc is)
 last_of false b c d is = absurd (cc is)
 
 -- A call without attributes is a range of the text, from where its first token begins to
--- where it ends. The trees behind it lie behind that.
+-- where it ends. The trees after it lie after that.
 bare_laid : {text : List ℕ} {from to : ℕ} (root : List ℕ) (trees : Forest) (it : Call) (position : Position) → item_in root trees ≡ calls it
     → Laid text from trees to
     → Lies text from (start_of (begin_at trees it.name.span).range) (end_of (end_in position it trees).range)
@@ -117,15 +117,15 @@ bare_laid {text} {from} {to} root trees it position is laid = by (takes_in posit
         with_semicolon close rest (last_of (is_items position.siblings) position.is_start (not (is_brace it.delimiter.kind)) (is_at_punct (codes ";") rest) takes) here.0 here.1
     by false takes = here
 
--- The same holds for a call behind its attributes.
+-- The same holds for a call after its attributes.
 pub call_laid : {text : List ℕ} {from to : ℕ} (root : List ℕ) (trees : Forest) (it : Call) (position : Position) → item_at root position trees ≡ calls it
     → Laid text from trees to
     → Lies text from (start_of (begin_in it trees).range) (end_of (end_in position it trees).range)
     × Laid text (end_of (end_in position it trees).range) (rest_in position it trees) to
 call_laid {text} {from} {to} root trees it position is laid =
-    let at : StandsBehind root trees it = alone root position trees it is in
+    let at : IsCallBehind root trees it = alone root position trees it is in
     let behind : Forest = after_trees it.attributes trees in
-    let (lies, rest) = bare_laid root behind at.bare position at.stands (laid_behind it.attributes laid) in (
+    let (lies, rest) = bare_laid root behind at.bare position at.shape (laid_behind it.attributes laid) in (
       subst (λ s. Lies text from (start_of s.range) (end_of (end_in position it trees).range)) (sym (begin_alone root position trees it is))
           (subst (λ s. Lies text from (start_of (begin_at behind at.bare.name.span).range) (end_of s.range)) (sym (end_alone root position trees it is)) lies),
       subst (λ f. Laid text (end_of (end_in position it trees).range) f to) (sym (rest_alone root position trees it is))

@@ -84,7 +84,7 @@ module _ (config : Config) (limit : ℕ) (siblings : Siblings) (trees : Forest) 
       → IsPutOrKept it held inside others stack built → closes_of (next ∷ nexts) ≡ closes_of (level ∷ outer) → IsGoing config limit siblings trees before old (next ∷ nexts) others built
   goes_past it held inside built past (inl (put, so, context, is)) closes = subst (IsGoing config limit siblings trees before old (next ∷ nexts) others) (sym is)
       (goes_on (first_becomes (site_of it).attributes it.first_span it.last_span put) (append put (append (site_of it).attributes stack))
-      (subst (Leads config false limit (level ∷ outer) now (first_becomes (site_of it).attributes it.first_span it.last_span put) (next ∷ nexts)) (sym context) (past.stands put so tt)) closes
+      (subst (Leads config false limit (level ∷ outer) now (first_becomes (site_of it).attributes it.first_span it.last_span put) (next ∷ nexts)) (sym context) (past.puts put so tt)) closes
       (λ first more. finished_becomes level.close (closes_of outer) first more stack (site_of it).attributes it.first_span it.last_span put))
   goes_past it held inside built past (inr (fault, misplaced, context, is)) closes = subst (IsGoing config limit siblings trees before old (next ∷ nexts) others) (sym is)
       (goes_on (first_stay (trees_of it.whole)) (append (trees_of it.whole) stack)
@@ -112,7 +112,7 @@ module _ (config : Config) (limit : ℕ) (siblings : Siblings) (trees : Forest) 
                 ∙ sym (finished_subtree level.close (closes_of outer) first more stack it held) ∙ is,
           )
 
-  -- The walk goes on behind a subtree.
+  -- The walk goes on after a subtree.
   pub goes_out : (close : Span) → Leads config false limit (level ∷ outer) now (λ outcomes. nothing ∷ outcomes) (next ∷ nexts) others → close ∷ closes_of (next ∷ nexts) ≡ closes_of (level ∷ outer)
       → IsGoing config limit siblings trees before old (next ∷ nexts) others (close_innermost close stack)
   goes_out close leads closes = record { finishes = by }

@@ -6,11 +6,10 @@ use Rattle.expand_items.specs.declared.position.Position.{Position}
 use Rattle.expand_items.specs.Items.{Definition, Call}
 use Rattle.expand_items.specs.Positions.{keeps_macros}
 use Rattle.expand_text.specs.declared.fault.Finding.{Finding}
-use Rattle.expand_text.specs.declared.fault.MacroFault.TheVariants as wrong
 use Rattle.expand_text.specs.Meaning.{ExpandsTo, ends, on_leaf, on_node, on_definition, on_other_call, into_other_call, into_attributes, on_faulty_call, on_call, on_kept_call, context_after}
 use Rattle.expand_text.specs.Contexts.{Config, Context, asks_for}
 use Rattle.expand_text.specs.Limits.{names_limit, KeepLimits}
-use Rattle.expand_text.specs.Macros.{IsReadIf, IsRead, called_by, context_behind, found_in, found_of}
+use Rattle.expand_text.specs.Macros.{IsReadIf, IsRead, called_by, context_behind, found_in, found_of, left_by}
 use Rattle.expand_text.specs.Outcomes.{Outcome}
 use Rattle.expand_text.specs.Scopes.{Macro}
 
@@ -27,10 +26,10 @@ keep_inside true before inside keep = keep
 keep_inside false before inside keep = keep
 
 -- Before a definition.
-pub keep_read : (config : Config) (it : Definition) (before inside : Context) → IsRead config it before inside → KeepLimits inside.findings → KeepLimits before.findings
-keep_read config it before inside = by (asks_for config.only it.name.sym)
+pub keep_read : (config : Config) (is_open : Bool) (it : Definition) (before inside : Context) → IsRead config is_open it before inside → KeepLimits inside.findings → KeepLimits before.findings
+keep_read config is_open it before inside = by (asks_for config.only it.name.sym)
   where
-    by : (asked : Bool) → IsReadIf asked config.root it before inside → KeepLimits inside.findings → KeepLimits before.findings
+    by : (asked : Bool) → IsReadIf asked config.root is_open it before inside → KeepLimits inside.findings → KeepLimits before.findings
     by false is keep = subst (λ context. KeepLimits context.findings) is keep
     by true (inl (arms, within, spells, is)) keep = subst (λ context. KeepLimits context.findings) is keep
     by true (inr (at, fault, bad, is)) keep = (keep_first before.findings (found_in it at fault) (subst (λ context. KeepLimits context.findings) is keep)).0
@@ -38,7 +37,7 @@ keep_read config it before inside = by (asks_for config.only it.name.sym)
 -- Before a call that no macro expands.
 keep_behind : (it : Call) (macro : Option Macro) (context : Context) → KeepLimits (context_behind it macro context).findings → KeepLimits context.findings
 keep_behind it None context keep = keep
-keep_behind it (Some macro) context keep = (keep_first context.findings (found_of it macro (start_of it.name.span.range) wrong.Left) keep).0
+keep_behind it (Some macro) context keep = (keep_first context.findings (found_of it macro (start_of it.name.span.range) (left_by macro.is_several)) keep).0
 
 -- Before any trees.
 pub keep_before : {config : Config} {in_text : Bool} {limit plain : ℕ} {position : Position} {context after : Context} {trees : Forest} {outcome : Outcome}
@@ -47,7 +46,7 @@ keep_before ends keep = keep
 keep_before (on_leaf plain others) keep = keep_before others keep
 keep_before (on_node {position = position} {context = context} {inside = inside} {delimiter = delimiter} plain held others) keep =
     keep_before held (keep_inside (keeps_macros delimiter.kind position) context inside (keep_before others keep))
-keep_before {config = config} (on_definition {context = context} {it = it} inside going is read others) keep = keep_read config it context inside read (keep_before others keep)
+keep_before {config = config} (on_definition {position = position} {context = context} {it = it} inside going is read others) keep = keep_read config position.is_open it context inside read (keep_before others keep)
 keep_before {config = config} (on_other_call {context = context} {it = it} going is bare unexpanded not_into others) keep =
     keep_behind it (called_by config context.macros it) context (keep_before others keep)
 keep_before {config = config} (into_other_call {context = context} {it = it} going is bare unexpanded into others) keep =

@@ -66,7 +66,7 @@ module _ (config : Config) (in_text : Bool) (limit : ℕ) (level : Level) (outer
 
   module _ (first : level.plain ≡ 0) (goes_on : context.is_over ≡ false) where
     -- Passes a definition.
-    pub leads_definition : (it : Definition) (others : Context) → item_at config.root level.position level.rest ≡ defines it → IsRead config it context others
+    pub leads_definition : (it : Definition) (others : Context) → item_at config.root level.position level.rest ≡ defines it → IsRead config level.position.is_open it context others
         → Leads config in_text limit (level ∷ outer) context (first_stay (front_trees it.len level.rest)) (past it.len true level ∷ outer) others
     leads_definition it others there is after [] e = absurd e
     leads_definition it others there is after (left ∷ more) (within, expands_to, behind) = (
@@ -168,7 +168,7 @@ module _ (config : Config) (in_text : Bool) (limit : ℕ) (levels others : List 
     λ within held expands_to.
         let past = is within held expands_to in
         record {
-          stands = λ put so may after outcomes e. leads after (first_becomes (site_of it).attributes it.first_span it.last_span put outcomes) (past.stands put so may after outcomes e);
+          puts = λ put so may after outcomes e. leads after (first_becomes (site_of it).attributes it.first_span it.last_span put outcomes) (past.puts put so may after outcomes e);
           stays = λ at fault kept after outcomes e. leads after (first_stay (trees_of it.whole) outcomes) (past.stays at fault kept after outcomes e);
         },
   )

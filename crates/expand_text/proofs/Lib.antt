@@ -10,6 +10,7 @@ pub mod Leading
 pub mod LinkRows
 pub mod Linking
 pub mod ManyTrees
+pub mod NoneLeft
 pub mod Nth
 pub mod OneExpansion
 pub mod OneFault

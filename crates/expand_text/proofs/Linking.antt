@@ -34,49 +34,49 @@ pub links_of-more : (names : List (List ℕ)) (more : List ℕ) → links_of (na
 links_of-more names more = links_behind-more [] names more
 
 -- both are there, the one at the place that is the other, or neither is
-abbrev pub StandsAt : {A : Type 0} → List A → Option ℕ → Option A → Type 0
-StandsAt its None None = Unit {0}
-StandsAt its None (Some it) = ⊥
-StandsAt its (Some place) None = ⊥
-StandsAt its (Some place) (Some it) = slice_get its place ≡ Some it
+abbrev pub IsAtPlace : {A : Type 0} → List A → Option ℕ → Option A → Type 0
+IsAtPlace its None None = Unit {0}
+IsAtPlace its None (Some it) = ⊥
+IsAtPlace its (Some place) None = ⊥
+IsAtPlace its (Some place) (Some it) = slice_get its place ≡ Some it
 
 -- The last thing of a name is at the last place of that name.
-pub last_stands : {A : Type 0} (name_of : A → List ℕ) (name : List ℕ) (its : List A) → StandsAt its (last_place (map name_of its) name) (last_by name_of name its)
-last_stands name_of name [] = tt
-last_stands {A} name_of name (first ∷ its) = by (last_place (map name_of its) name) (last_by name_of name its) (bytes_eq (name_of first) name) (last_stands name_of name its)
+pub last_at_place : {A : Type 0} (name_of : A → List ℕ) (name : List ℕ) (its : List A) → IsAtPlace its (last_place (map name_of its) name) (last_by name_of name its)
+last_at_place name_of name [] = tt
+last_at_place {A} name_of name (first ∷ its) = by (last_place (map name_of its) name) (last_by name_of name its) (bytes_eq (name_of first) name) (last_at_place name_of name its)
   where
-    by : (place : Option ℕ) (found : Option A) (same : Bool) → StandsAt its place found
-        → StandsAt (first ∷ its) (place_or place same) (or_else found (cond same (Some first) None))
-    by None None true stands = refl
-    by None None false stands = tt
-    by None (Some it) same stands = absurd stands
-    by (Some place) None same stands = absurd stands
-    by (Some place) (Some it) same stands = stands
+    by : (place : Option ℕ) (found : Option A) (same : Bool) → IsAtPlace its place found
+        → IsAtPlace (first ∷ its) (place_or place same) (or_else found (cond same (Some first) None))
+    by None None true at_place = refl
+    by None None false at_place = tt
+    by None (Some it) same at_place = absurd at_place
+    by (Some place) None same at_place = absurd at_place
+    by (Some place) (Some it) same at_place = at_place
 
 -- What is at the last place of a name is the last thing of it.
 pub last_at : {A : Type 0} (name_of : A → List ℕ) (name : List ℕ) (its : List A) (place : ℕ) → last_place (map name_of its) name ≡ Some place
     → slice_get its place ≡ last_by name_of name its
-last_at {A} name_of name its place is = by (last_by name_of name its) (subst (λ p. StandsAt its p (last_by name_of name its)) is (last_stands name_of name its))
+last_at {A} name_of name its place is = by (last_by name_of name its) (subst (λ p. IsAtPlace its p (last_by name_of name its)) is (last_at_place name_of name its))
   where
-    by : (found : Option A) → StandsAt its (Some place) found → slice_get its place ≡ found
-    by None stands = absurd stands
-    by (Some it) stands = stands
+    by : (found : Option A) → IsAtPlace its (Some place) found → slice_get its place ≡ found
+    by None at_place = absurd at_place
+    by (Some it) at_place = at_place
 
 -- The last place of a name is a place among the things.
 pub last_there : {A : Type 0} (name_of : A → List ℕ) (name : List ℕ) (its : List A) (place : ℕ) → last_place (map name_of its) name ≡ Some place → place < length its
-last_there {A} name_of name its place is = by (last_by name_of name its) (subst (λ p. StandsAt its p (last_by name_of name its)) is (last_stands name_of name its))
+last_there {A} name_of name its place is = by (last_by name_of name its) (subst (λ p. IsAtPlace its p (last_by name_of name its)) is (last_at_place name_of name its))
   where
-    by : (found : Option A) → StandsAt its (Some place) found → place < length its
-    by None stands = absurd stands
-    by (Some it) stands = slice_get_within its place it stands
+    by : (found : Option A) → IsAtPlace its (Some place) found → place < length its
+    by None at_place = absurd at_place
+    by (Some it) at_place = slice_get_within its place it at_place
 
 -- If a name has no last place, no thing has that name.
 pub last_none : {A : Type 0} (name_of : A → List ℕ) (name : List ℕ) (its : List A) → last_place (map name_of its) name ≡ None → last_by name_of name its ≡ None
-last_none {A} name_of name its is = by (last_by name_of name its) (subst (λ p. StandsAt its p (last_by name_of name its)) is (last_stands name_of name its))
+last_none {A} name_of name its is = by (last_by name_of name its) (subst (λ p. IsAtPlace its p (last_by name_of name its)) is (last_at_place name_of name its))
   where
-    by : (found : Option A) → StandsAt its None found → found ≡ None
-    by None stands = refl
-    by (Some it) stands = absurd stands
+    by : (found : Option A) → IsAtPlace its None found → found ≡ None
+    by None at_place = refl
+    by (Some it) at_place = absurd at_place
 
 -- Lists that end with one more thing are the same only if the lists before it are.
 more_same : {A : Type 0} (xs ys : List A) (x y : A) → xs ++ x ∷ [] ≡ ys ++ y ∷ [] → (xs ≡ ys) × (x ≡ y)

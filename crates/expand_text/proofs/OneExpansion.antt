@@ -1,5 +1,5 @@
 -- Arms make one thing of an input: a tree, no match, an ambiguity, or an error that names no limit of trees.
-use Rattle.std.proofs.Common.{◌≡◌, ℕ, suc, true, false, List, [], ◌∷◌, Some, inl, inr, max, refl, ap, ap₂, sym, subst, ◌∙◌, arith, true≢false}
+use Rattle.std.proofs.Common.{◌≡◌, ℕ, suc, false, List, [], ◌∷◌, Some, inl, inr, max, refl, ap, ap₂, sym, subst, ◌∙◌, arith, true≢false}
 use Rattle.tt.specs.Forest.{Forest}
 use Rattle.tt.specs.TreeFault.{under}
 use Rattle.expand_text.specs.Limits.{is_limit}

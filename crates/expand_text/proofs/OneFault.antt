@@ -1,5 +1,5 @@
 -- A definition is read in one way, and the input of a call has one fault, if no finding names a limit of trees.
-use Rattle.std.proofs.Common.{◌≡◌, ◌≢◌, ℕ, zero, suc, Bool, true, false, List, None, Some, inl, inr, refl, ap, ap₂, sym, subst, ◌∙◌, true≢false}
+use Rattle.std.proofs.Common.{◌≡◌, ◌≢◌, ℕ, zero, suc, Bool, true, false, List, None, inl, inr, refl, ap, ap₂, sym, subst, ◌∙◌, true≢false}
 use Rattle.tt.specs.Forest.{Forest, Root}
 use Rattle.tt.specs.Span.{start_of}
 use Rattle.expand_items.specs.Items.{Definition, Call}
@@ -7,7 +7,7 @@ use Rattle.expand_text.specs.declared.fault.MacroFault.{MacroFault}
 use Rattle.expand_text.specs.declared.fault.MacroFault.TheVariants as wrong
 use Rattle.expand_text.specs.Contexts.{Config, Context, asks_for, with_macro, with_finding}
 use Rattle.expand_text.specs.Limits.{names_limit, KeepLimits}
-use Rattle.expand_text.specs.Macros.{macro_of, IsDefinitionFault, found_in, IsDefined, IsReadIf, IsRead, IsInputFault, IsCallFault}
+use Rattle.expand_text.specs.Macros.{macro_of, macro_with, IsDefinitionFault, found_in, IsDefined, IsReadIf, IsRead, IsInputFault, IsCallFault}
 use Rattle.expand_text.specs.Places.{byte_at, definition_byte}
 use Rattle.expand_text.specs.Roots.{rooted}
 use Rattle.expand_text.proofs.KeptLimits.{keep_first}
@@ -27,16 +27,16 @@ arms_wrong it trees at (wrong.Definition why) h free = (why, h.0, h.1, h.2, refl
 arms_wrong it trees at (wrong.TooLarge why) h free = absurd (true≢false free)
 arms_wrong it trees at found h free = absurd h
 
-module _ (it : Definition) (trees : Forest) (before : Context) where
+module _ (is_open : Bool) (it : Definition) (trees : Forest) (before : Context) where
   -- The finding of a definition names no limit.
-  limit_kept : (at : ℕ) (fault : MacroFault) (after : Context) → after ≡ with_macro (macro_of it None) (with_finding (found_in it at fault) before) → KeepLimits after.findings
+  limit_kept : (at : ℕ) (fault : MacroFault) (after : Context) → after ≡ with_macro (macro_of it false None) (with_finding (found_in it at fault) before) → KeepLimits after.findings
       → names_limit fault ≡ false
   limit_kept at fault after is keep = (keep_first before.findings (found_in it at fault) (subst (λ context. KeepLimits context.findings) is keep)).1
 
   -- A definition makes one thing known.
-  one_defined : (a b : Context) → IsDefined it trees before a → IsDefined it trees before b → KeepLimits a.findings → KeepLimits b.findings → a ≡ b
+  one_defined : (a b : Context) → IsDefined is_open it trees before a → IsDefined is_open it trees before b → KeepLimits a.findings → KeepLimits b.findings → a ≡ b
   one_defined a b (inl (arms, within, spells, is)) (inl (others, fits, again, was)) x y =
-      is ∙ ap (λ all. with_macro (macro_of it (Some all)) before) (one_spelled trees arms others spells again) ∙ sym was
+      is ∙ ap (λ all. with_macro (macro_with is_open it all before.macros) before) (one_spelled trees arms others spells again) ∙ sym was
   one_defined a b (inl (arms, within, spells, is)) (inr (at, fault, bad, was)) x y =
       let why = arms_wrong it trees at fault bad (limit_kept at fault b was y) in
       absurd (no_rules_error trees arms why.0 spells why.1 why.2)
@@ -48,18 +48,18 @@ module _ (it : Definition) (trees : Forest) (before : Context) where
       let that = arms_wrong it trees place other worse (limit_kept place other b was y) in
       let same = one_rules_error trees why.0 that.0 why.1 that.1 why.2 that.2 in
       is
-      ∙ ap₂ (λ n found. with_macro (macro_of it None) (with_finding (found_in it n found) before))
+      ∙ ap₂ (λ n found. with_macro (macro_of it false None) (with_finding (found_in it n found) before))
       (why.3 ∙ ap (λ w. definition_byte trees w (start_of it.delimiter.close.range)) same ∙ sym that.3)
       (why.4 ∙ ap wrong.Definition same ∙ sym that.4)
       ∙ sym was
 
 -- A definition is read in one way.
-pub one_read : (config : Config) (it : Definition) (before a b : Context) → IsRead config it before a → IsRead config it before b → KeepLimits a.findings → KeepLimits b.findings → a ≡ b
-one_read config it before a b = by (asks_for config.only it.name.sym)
+pub one_read : (config : Config) (is_open : Bool) (it : Definition) (before a b : Context) → IsRead config is_open it before a → IsRead config is_open it before b → KeepLimits a.findings → KeepLimits b.findings → a ≡ b
+one_read config is_open it before a b = by (asks_for config.only it.name.sym)
   where
-    by : (asked : Bool) → IsReadIf asked config.root it before a → IsReadIf asked config.root it before b → KeepLimits a.findings → KeepLimits b.findings → a ≡ b
+    by : (asked : Bool) → IsReadIf asked config.root is_open it before a → IsReadIf asked config.root is_open it before b → KeepLimits a.findings → KeepLimits b.findings → a ≡ b
     by false is was x y = is ∙ sym was
-    by true is was x y = one_defined it (rooted config.root it.arms) before a b is was x y
+    by true is was x y = one_defined is_open it (rooted config.root it.arms) before a b is was x y
 
 module _ (arms : List Arm) (it : Call) where
   -- Arms make one tree of a call.

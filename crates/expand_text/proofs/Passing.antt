@@ -96,7 +96,7 @@ module _ (config : Config) (in_text : Bool) (limit : ℕ) (old : Walk) (context 
 
       by : (inside : Context) (held : Outcome) → ExpandsTo config false from.left (begun_among i.siblings) 0 others i.tree.children inside held
           → GoesPast config in_text limit (levels_of old) context i (trees_left held) nexts inside
-      by inside held expands_to = record { stands = stands; stays = stays }
+      by inside held expands_to = record { puts = puts; stays = stays }
         where
           came : ExpandsTo config false from.left (begun_by old.level.position it trees) 0 context tree.children inside held
           came =
@@ -104,9 +104,9 @@ module _ (config : Config) (in_text : Bool) (limit : ℕ) (old : Walk) (context 
               (subst (λ t. ExpandsTo config false from.left (begun_by old.level.position it trees) 0 others t.children inside held) is.makes
               (subst (λ s. ExpandsTo config false from.left (begun_among s.siblings) 0 others i.tree.children inside held) is.site expands_to))
 
-          stands : (put : Forest) → PutAs (site_of i) (trees_left held) (Some put) → MayBePut in_text i.delimiter put
+          puts : (put : Forest) → PutAs (site_of i) (trees_left held) (Some put) → MayBePut in_text i.delimiter put
               → Leads config in_text limit (levels_of old) context (first_becomes (site_of i).attributes i.first_span i.last_span put) nexts inside
-          stands put so may =
+          puts put so may =
               subst (λ s. Leads config in_text limit (levels_of old) context (first_becomes s.attributes i.first_span i.last_span put) nexts inside) (sym is.site)
               (subst (λ s. Leads config in_text limit (levels_of old) context (first_becomes site.attributes s i.last_span put) nexts inside) (sym is.first)
               (subst (λ s. Leads config in_text limit (levels_of old) context (first_becomes site.attributes begin s put) nexts inside) (sym is.last)
@@ -127,7 +127,7 @@ module _ (config : Config) (in_text : Bool) (limit : ℕ) (old : Walk) (context 
               (subst (λ s. IsKept in_text s (trees_left held) (start_of i.first_span.range) at fault) is.site kept)))))
 
 module _ (root : List ℕ) (old : Walk) (it : Call) (there : IsFirst (calls it) root old) where
-  -- Less is left to do behind it.
+  -- Less is left to do after it.
   stepped : (it_level : Level) → (level : Level) → it_level ≡ level → level.close ≡ old.level.close → size level.rest ≤ size (after_trees it.len (rest_of old.level.rest))
       → (outer : List Level) → outer ≡ map level_of (reverse old.outer.items)
       → (closes_of (it_level ∷ outer) ≡ closes_of (levels_of old)) × (work_in (it_level ∷ outer) < work_in (levels_of old))
@@ -146,7 +146,7 @@ module _ (root : List ℕ) (old : Walk) (it : Call) (there : IsFirst (calls it) 
       stepped (level_of new.level) (past it.len (is_brace it.delimiter.kind) (level_of old.level)) now refl (omega arith)
       (map level_of (reverse new.outer.items)) (ap (λ os. map level_of (reverse os)) outer)
 
-  -- Behind its `;` no more tokens are left than before it.
+  -- After its `;` no more tokens are left than before it.
   fewer : (takes : Bool) (rest : Forest) → size (cond takes (after_tree rest) rest) ≤ size rest
   fewer true rest = fewer_behind 1 rest
   fewer false rest = omega arith

@@ -27,7 +27,7 @@ held start close inside rest = node (delimiter Parenthesis (span start 1) (span 
 abbrev trees : Forest
 trees = letter 0 (held 2 6 (letter 3 (letter 5 end)) (letter 8 end))
 
--- The bracket is the second token, then comes what it contains, and the text ends behind all tokens.
+-- The bracket is the second token, then comes what it contains, and the text ends after all tokens.
 first_token : byte_at trees 0 9 ≡ 0
 first_token = refl
 

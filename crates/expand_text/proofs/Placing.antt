@@ -19,13 +19,13 @@ use Rattle.expand_text.specs.CallSites.{CallSite, PutAs, PutUnder, IsTooLarge}
 use Rattle.expand_items.specs.Attributes.{conditions_of}
 
 -- Without attributes, the trees are as they are placed.
-pub stands_free : (it : CallSite) (trees : Forest) → it.len ≡ 0 → PutAs it trees (Some (placed it.is_statement it.delimiter trees))
-stands_free it trees none = subst (λ n. PutUnder n it trees (Some (placed it.is_statement it.delimiter trees))) (sym none) refl
+pub free_put : (it : CallSite) (trees : Forest) → it.len ≡ 0 → PutAs it trees (Some (placed it.is_statement it.delimiter trees))
+free_put it trees none = subst (λ n. PutUnder n it trees (Some (placed it.is_statement it.delimiter trees))) (sym none) refl
 
 module _ (it : CallSite) (trees : Forest) (some : 0 < it.len) where
   -- With attributes, the trees are under conditions.
-  pub stands_under : (put : Option Forest) → IsWithinLimits (tree_of it.delimiter trees) → AreUnder it.siblings it.delimiter (conditions_of it.attributes) trees put → PutAs it trees put
-  stands_under put within under = by it.len some
+  pub under_put : (put : Option Forest) → IsWithinLimits (tree_of it.delimiter trees) → AreUnder it.siblings it.delimiter (conditions_of it.attributes) trees put → PutAs it trees put
+  under_put put within under = by it.len some
     where
       by : (n : ℕ) → 0 < n → PutUnder n it trees put
       by zero some = absurd (omega (arith, some))
@@ -42,21 +42,21 @@ module _ (it : CallSite) (trees : Forest) (some : 0 < it.len) where
   -- If they are put under the conditions, they are in place,
   pub added_under : IsWithinLimits (tree_of it.delimiter trees) → (is_put : Bool) (old new : Stack)
       → IsPutUnder it.siblings it.delimiter (conditions_of it.attributes) trees is_put old new → is_put ≡ true → IsAdded it trees None old new
-  added_under within is_put old new is does = by is.put is.under (sym is.told ∙ does) is.added
+  added_under within is_put old new is does = by is.put is.under (sym is.answer ∙ does) is.added
     where
       by : (put : Option Forest) → AreUnder it.siblings it.delimiter (conditions_of it.attributes) trees put → is_some put ≡ true → new ≡ append_if put old → IsAdded it trees None old new
-      by None under told added = absurd (false≢true told)
-      by (Some put) under told added = (put, stands_under (Some put) within under, added)
+      by None under answer added = absurd (false≢true answer)
+      by (Some put) under answer added = (put, under_put (Some put) within under, added)
 
   -- and if they are not, they cannot be.
   pub kept_under : IsWithinLimits (tree_of it.delimiter trees) → (is_put : Bool) (old new : Stack)
       → IsPutUnder it.siblings it.delimiter (conditions_of it.attributes) trees is_put old new → is_put ≡ false → IsAdded it trees (Some wrong.Conditional) old new
-  kept_under within is_put old new is does_not = by is.put is.under (sym is.told ∙ does_not) is.added
+  kept_under within is_put old new is does_not = by is.put is.under (sym is.answer ∙ does_not) is.added
     where
       by : (put : Option Forest) → AreUnder it.siblings it.delimiter (conditions_of it.attributes) trees put → is_some put ≡ false → new ≡ append_if put old
           → IsAdded it trees (Some wrong.Conditional) old new
-      by None under told added = (inl (refl, stands_under None within under), added)
-      by (Some put) under told added = absurd (false≢true (sym told))
+      by None under answer added = (inl (refl, under_put None within under), added)
+      by (Some put) under answer added = absurd (false≢true (sym answer))
 
 -- A builder that held nothing is a tree of what was added.
 pub built_alone : (top : Delimiter) (first last : BuilderState) (trees : Forest) → first ≡ empty_builder top → last.top ≡ first.top → last.stack ≡ append trees first.stack

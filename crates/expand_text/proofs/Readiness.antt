@@ -3,9 +3,10 @@ use Rattle.std.proofs.Common.{◌≡◌, ◌++◌, ℕ, zero, suc, List, [], ◌
 use Rattle.std.proofs.lemmas.Bool.{false≢true}
 use Rattle.std.specs.Prelude.{bytes_eq, is_some}
 use Rattle.expand_text.specs.declared.scope.Macro as rust
-use Rattle.expand_text.specs.Macros.{arms_of}
+use Rattle.expand_text.specs.Macros.{arms_of, unless_several}
 use Rattle.expand_text.specs.Scopes.{Macro, or_else, last_by, last_named, kept_of, AreRules, IsReady, AreReady, IsReadyIf}
 use Rattle.mbe_rules.specs.Arms.{Arm}
+use Rattle.mbe_rules.specs.Expansions.{AreMade}
 use Rattle.mbe_rules.specs.declared.macro_rules.MacroRules.{MacroRules}
 
 -- The last of a name among the macros is made ready into the last of that name.
@@ -70,6 +71,19 @@ arms_ready (Some macro) it is = by macro.arms it.rules is.rules
 pub arms_none : (found : Option Macro) → IsReadyIf found None → false ≡ is_some (arms_of found)
 arms_none None is = refl
 arms_none (Some macro) is = absurd is
+
+-- There is a ready macro if and only if there is one to make ready.
+pub some_ready : (found : Option Macro) (it : Option rust.Macro) → IsReadyIf found it → is_some it ≡ is_some found
+some_ready None None is = refl
+some_ready None (Some it) is = absurd is
+some_ready (Some macro) None is = absurd is
+some_ready (Some macro) (Some it) is = refl
+
+-- The rules of arms are ready, unless both are left out.
+pub ready_unless : (is_several : Bool) (arms : List Arm) (made : MacroRules) → AreMade arms made.arms.items
+    → AreRules (unless_several is_several arms) (cond is_several None (Some made))
+ready_unless true arms made are = tt
+ready_unless false arms made are = are
 
 -- A test that is false means that there is none.
 pub no_arms : {A : Type 0} (found : Option A) → is_some found ≡ false → found ≡ None

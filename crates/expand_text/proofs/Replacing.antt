@@ -136,7 +136,7 @@ module _ (config : Config) (limit : ℕ) (trees : Forest) (before now others the
       by past (inl (put, so, may, context, replaced)) = (
         done ++ replacement it.first_span it.last_span put ∷ [],
         reads_call config limit trees before now then level outer nexts done reading (site_of it).attributes it.first_span it.last_span put
-            (subst (Leads config true limit (level ∷ outer) now (first_becomes (site_of it).attributes it.first_span it.last_span put) nexts) (sym context) (past.stands put so may)),
+            (subst (Leads config true limit (level ∷ outer) now (first_becomes (site_of it).attributes it.first_span it.last_span put) nexts) (sym context) (past.puts put so may)),
         replaced_more done source old new (replacement it.first_span it.last_span put) are replaced,
       )
       by past (inr (at, fault, kept, context, written)) =

@@ -51,7 +51,7 @@ both_right : (a b : Bool) → (a && b) ≡ true → b ≡ true
 both_right true b is = is
 both_right false b is = absurd (cc is)
 
--- Behind a leaf, the trees that are left are rooted.
+-- After a leaf, the trees that are left are rooted.
 rooted_after : (root : List ℕ) (it : Leaf) (rest : Forest) → rooted_behind root (is_crate_root it rest) rest ≡ rooted root (after_leaf it rest)
 rooted_after root it rest = by rest (is_crate_root it rest) (both_right (is_dollar it) (is_at_word (codes "crate") rest))
   where

@@ -1,11 +1,11 @@
 -- In trees without the word `macro_rules` nothing is expanded and nothing is found.
-use Rattle.std.proofs.Common.{◌≡◌, ◌∙◌, ℕ, zero, suc, Bool, true, false, List, [], ◌∷◌, ◌++◌, length, take, Option, None, Some, codes, cond, refl, sym, ap, ap₂}
+use Rattle.std.proofs.Common.{◌≡◌, ◌∙◌, ℕ, zero, suc, Bool, true, false, List, [], ◌++◌, Option, None, Some, codes, cond, refl, sym, ap, ap₂}
 use Rattle.std.proofs.Math.Seq.{take-length}
 use Rattle.tt.specs.Forest.{Forest, end, leaf, node}
 use Rattle.tt.specs.Gluing.{after_trees}
 use Rattle.tt.specs.Moves.{after_tree}
 use Rattle.mbe_pattern.specs.Units.{is_at_word, is_at_punct}
-use Rattle.expand_items.specs.Attributes.{item_at, standing, begins_condition, attributes_len, with_attributes}
+use Rattle.expand_items.specs.Attributes.{item_at, item_behind, begins_condition, attributes_len, with_attributes}
 use Rattle.expand_items.specs.Items.{Item, Definition, Call, defines, calls, other, call_in, definition_behind, definition_in, item_from, item_in}
 use Rattle.expand_items.specs.Positions.{is_statement, keeps_macros}
 use Rattle.expand_items.specs.declared.position.Position.{Position}
@@ -23,18 +23,18 @@ lacks_first word end lacks = refl
 lacks_first word (leaf it rest) lacks = lacks.0
 lacks_first word (node delimiter children rest) lacks = refl
 
--- The trees behind some lack it too.
+-- The trees after some lack it too.
 lacks_behind : (word : List ℕ) (n : ℕ) (trees : Forest) → Lacks word trees → Lacks word (after_trees n trees)
 lacks_behind word zero trees lacks = lacks
 lacks_behind word (suc n) end lacks = lacks_behind word n end lacks
 lacks_behind word (suc n) (leaf it rest) lacks = lacks_behind word n rest lacks.1
 lacks_behind word (suc n) (node delimiter children rest) lacks = lacks_behind word n rest lacks.1
 
--- There is no definition behind attributes.
-standing_defines : (position : Position) (attributes : ℕ) (trees : Forest) (found : Item) (it : Definition) → standing position attributes trees found ≡ defines it → ⊥
-standing_defines position attributes trees (defines its) it is = cc is
-standing_defines position attributes trees other it is = cc is
-standing_defines position attributes trees (calls its) it is = by (is_statement its.delimiter.kind (after_trees its.len trees) position) is
+-- There is no definition after attributes.
+item_behind_defines : (position : Position) (attributes : ℕ) (trees : Forest) (found : Item) (it : Definition) → item_behind position attributes trees found ≡ defines it → ⊥
+item_behind_defines position attributes trees (defines its) it is = cc is
+item_behind_defines position attributes trees other it is = cc is
+item_behind_defines position attributes trees (calls its) it is = by (is_statement its.delimiter.kind (after_trees its.len trees) position) is
   where
     by : (b : Bool) → cond b (calls (with_attributes attributes its)) other ≡ defines it → ⊥
     by true is = cc is
@@ -53,8 +53,8 @@ no_definition root position trees it lacks is = by (begins_condition position tr
     from None is = cc is
     from (Some call) is = cc is
 
-    by : (b : Bool) → cond b (standing position (attributes_len trees) (after_trees (attributes_len trees) trees) (item_in root (after_trees (attributes_len trees) trees))) (item_in root trees) ≡ defines it → ⊥
-    by true is = standing_defines position (attributes_len trees) (after_trees (attributes_len trees) trees) (item_in root (after_trees (attributes_len trees) trees)) it is
+    by : (b : Bool) → cond b (item_behind position (attributes_len trees) (after_trees (attributes_len trees) trees) (item_in root (after_trees (attributes_len trees) trees))) (item_in root trees) ≡ defines it → ⊥
+    by true is = item_behind_defines position (attributes_len trees) (after_trees (attributes_len trees) trees) (item_in root (after_trees (attributes_len trees) trees)) it is
     by false is = from (call_in root trees) (ap (λ d. item_from d (call_in root trees)) (sym none) ∙ is)
 
 -- If no macro is in scope, no call names one.
@@ -69,7 +69,7 @@ called_none config macros it none = ap (λ m. called_by config m it) none ∙ bo
     both false true = refl
     both false false = refl
 
--- Nothing is learned behind a subtree in which nothing was learned.
+-- Nothing is learned after a subtree in which nothing was learned.
 context_same : (are_kept : Bool) (context : Context) → context_after are_kept context context ≡ context
 context_same true context = refl
 context_same false context = ap (λ m. record context { macros = m }) (take-length context.macros)

@@ -14,7 +14,7 @@ use Rattle.tt.specs.Types.Spacing.{Spacing}
 use Rattle.syntax_edit.specs.Places.{begin_at}
 use Rattle.expand_text.proofs.CallPlaces.{last_of}
 use Rattle.expand_text.proofs.CallParts.{alone, attributes_alone, begin_alone, call_alone, closed_join, end_alone, ends_alone, split_in}
-use Rattle.expand_items.proofs.Conditions.{StandsBehind, attributes_closed, definition_at}
+use Rattle.expand_items.proofs.Conditions.{IsCallBehind, attributes_closed, definition_at}
 use Rattle.expand_items.specs.Attributes.{item_at}
 use Rattle.expand_items.proofs.Shapes.{EndsClosed, by_subtree, by_semicolon, BeginsWithName, call_begins, call_ends, call_closed, definition_closed, punct_first, ends_by_punct}
 use Rattle.expand_text.specs.Meaning.{ExpandsTo, ends, on_leaf, on_node, on_definition, on_other_call, into_other_call, into_attributes, on_faulty_call, on_call, on_kept_call, attributes_in, begin_in, end_in, len_in, named_behind, plain_behind, rest_in, takes_in, whole_in}
@@ -51,16 +51,16 @@ as_texts (enters delimiter inside behind) = replacements_append (splices inside)
 as_texts (stays trees behind) = as_texts behind
 as_texts (becomes first last trees behind) = ap (λ rs. replacement first last trees ∷ rs) (as_texts behind)
 
--- before a `.` behind a literal two trees are taken as they are
+-- before a `.` after a literal two trees are taken as they are
 abbrev pub BeforePoint : (before : List Sort) → Forest → (plain : ℕ) → Type 0
 BeforePoint before trees plain = follows_value before ≡ true → is_at_punct (codes ".") trees ≡ true → 1 < plain
 
--- behind these leaves and brackets, the latest first, no call begins at a place at which none may: so many trees are taken as they are
+-- after these leaves and brackets, the latest first, no call begins at a place at which none may: so many trees are taken as they are
 pub record IsHeld (before : List Sort) (trees : Forest) (plain : ℕ) : Type 0 where
   pub begins : plain ≡ 0 → may_begin before ≡ true
   pub point : BeforePoint before trees plain
 
--- Behind a punct no call begins at a place at which none may.
+-- After a punct no call begins at a place at which none may.
 held_punct : (char : ℕ) (spacing : Spacing) (before : List Sort) (plain behind : ℕ) → ((char == 46) ≡ true → follows_value before ≡ true → 1 < plain) → ((char == 39) ≡ true → 0 < behind)
     → max (plain - 1) behind ≡ 0 → may_begin (sign char spacing ∷ before) ≡ true
 held_punct char spacing before plain behind point quote none = by (char == 39) refl (char == 46) refl (follows_value before) refl
@@ -71,7 +71,7 @@ held_punct char spacing before plain behind point quote none = by (char == 39) r
     by false e true f false g = refl
     by false e true f true g = absurd (omega (arith, point f g, le-max_left (plain - 1) behind, none))
 
--- Behind a leaf neither, since the trees that follow it are taken as they are.
+-- After a leaf neither, since the trees that follow it are taken as they are.
 held_leaf : (it : Leaf) (before : List Sort) (rest : Forest) (plain : ℕ) → IsHeld before (leaf it rest) plain → IsHeld (sort_of it ∷ before) rest (plain_behind it rest plain)
 held_leaf (leaf_of.Ident it) before rest plain held = record { begins = λ none. refl; point = λ follows at. absurd (false≢true follows) }
 held_leaf (leaf_of.Literal it) before rest plain held = record {
@@ -89,7 +89,7 @@ held_leaf (leaf_of.Punct it) before rest plain held = record {
   point = λ follows at. absurd (false≢true follows);
 }
 
--- Behind nothing and behind a bracket any call may begin.
+-- After nothing and after a bracket any call may begin.
 held_none : (trees : Forest) (plain : ℕ) → IsHeld [] trees plain
 held_none trees plain = record { begins = λ none. refl; point = λ follows at. absurd (false≢true follows) }
 
@@ -99,7 +99,7 @@ held_opening kind before trees plain = record { begins = λ none. refl; point = 
 held_closing : (kind : DelimiterKind) (before : List Sort) (trees : Forest) (plain : ℕ) → IsHeld (closing kind ∷ before) trees plain
 held_closing kind before trees plain = record { begins = λ none. refl; point = λ follows at. absurd (false≢true follows) }
 
--- Behind a `;` any call may begin.
+-- After a `;` any call may begin.
 held_semicolon : (char : ℕ) (spacing : Spacing) (before : List Sort) (trees : Forest) (plain : ℕ) → (char == 59) ≡ true → IsHeld (sign char spacing ∷ before) trees plain
 held_semicolon char spacing before trees plain is =
     subst (λ c. IsHeld (sign c spacing ∷ before) trees plain) (sym (eqb-true char 59 is)) (record { begins = λ none. refl; point = λ follows at. absurd (false≢true follows) })
@@ -114,7 +114,7 @@ keeps_all : (pieces : List Piece) (before : List Sort) (more : List Piece) (othe
 keeps_all [] before more others woven is = is
 keeps_all (piece ∷ pieces) before more others woven is = keeps (keeps_all pieces (piece.sort ∷ before) more others woven is)
 
--- Behind trees that end with a subtree or a `;` any call may begin.
+-- After trees that end with a subtree or a `;` any call may begin.
 spelled_subtree : (front : Forest) (delimiter : Delimiter) (children : Forest)
     → spelled (join front (node delimiter children end))
     ≡ (spelled front ++ at_span (opening delimiter.kind) delimiter.open_span ∷ spelled children) ++ at_span (closing delimiter.kind) delimiter.close ∷ []
@@ -164,11 +164,11 @@ module _ (root : List ℕ) (trees : Forest) (position : Position) (it : Call) (i
           )
       by true e =
           let semicolon = last_of (is_items position.siblings) position.is_start (not (is_brace it.delimiter.kind)) (is_at_punct (codes ";") rest) e in
-          let (punct, others, stands, same) = punct_first 59 rest semicolon in
+          let (punct, others, shape, same) = punct_first 59 rest semicolon in
           let front = front_trees it.len trees in
-          let all = ends_by_punct it.len trees punct others stands in (
+          let all = ends_by_punct it.len trees punct others shape in (
             by_semicolon front punct same all,
-            (spelled front, piece_of (leaf_of.Punct punct), ap spelled all ∙ spelled-join front (leaf (leaf_of.Punct punct) end), ap (λ f. end_of (begin_at f it.delimiter.close).range) (sym stands), same),
+            (spelled front, piece_of (leaf_of.Punct punct), ap spelled all ∙ spelled-join front (leaf (leaf_of.Punct punct) end), ap (λ f. end_of (begin_at f it.delimiter.close).range) (sym shape), same),
           )
 
   -- Its pieces are taken.
@@ -190,19 +190,19 @@ module _ (root : List ℕ) (trees : Forest) (position : Position) (it : Call) (i
 
           by : BeginsWithName trees → BeginsCall (start_of (begin_at trees it.name.span).range) (spelled (front_trees (suc (suc (len_in position it trees - 2))) trees))
           by name =
-              subst (λ f. BeginsCall (start_of (begin_at f it.name.span).range) (spelled (front_trees (suc (suc (len_in position it trees - 2))) f))) (sym name.stands)
+              subst (λ f. BeginsCall (start_of (begin_at f it.name.span).range) (spelled (front_trees (suc (suc (len_in position it trees - 2))) f))) (sym name.shape)
               (refl, refl, name.sign)
 
--- The same holds for a call behind its attributes.
+-- The same holds for a call after its attributes.
 module _ (root : List ℕ) (trees : Forest) (position : Position) (it : Call) (is : item_at root position trees ≡ calls it) where
   -- the call alone, and what follows the attributes
-  abbrev at : StandsBehind root trees it
+  abbrev at : IsCallBehind root trees it
   at = alone root position trees it is
 
   abbrev behind : Forest
   behind = after_trees it.attributes trees
 
-  -- Its pieces behind the attributes are taken.
+  -- Its pieces after the attributes are taken.
   call_taken : it.is_elsewhere ≡ false
       → IsTaken (spelled (after_trees it.attributes (whole_in position it trees))) (start_of (begin_in it trees).range) (end_of (end_in position it trees).range)
   call_taken here =
@@ -210,16 +210,16 @@ module _ (root : List ℕ) (trees : Forest) (position : Position) (it : Call) (i
       subst (λ f. IsTaken (spelled f) (start_of (begin_in it trees).range) (end_of (end_in position it trees).range)) (sym (call_alone root position trees it is))
       (subst (λ s. IsTaken (spelled (whole_in position at.bare behind)) (start_of s.range) (end_of (end_in position it trees).range)) (sym (begin_alone root position trees it is))
       (subst (λ s. IsTaken (spelled (whole_in position at.bare behind)) (start_of (begin_at behind at.bare.name.span).range) (end_of s.range)) (sym (end_alone root position trees it is))
-      (bare_taken root behind position at.bare at.stands named)))
+      (bare_taken root behind position at.bare at.shape named)))
 
   -- All of its trees end with a subtree or a `;`.
   whole_closed : EndsClosed (whole_in position it trees)
   whole_closed =
       subst EndsClosed (sym (front_joined it.attributes (whole_in position it trees)))
       (closed_join (attributes_in position it trees) (after_trees it.attributes (whole_in position it trees))
-      (subst EndsClosed (sym (call_alone root position trees it is)) (bare_end root behind position at.bare at.stands).0))
+      (subst EndsClosed (sym (call_alone root position trees it is)) (bare_end root behind position at.bare at.shape).0))
 
-  -- Behind its attributes a call may begin if one may before them.
+  -- After its attributes a call may begin if one may before them.
   held_attributes : (before : List Sort) → IsHeld before trees 0 → may_begin (behind_pieces (spelled (attributes_in position it trees)) before) ≡ true
   held_attributes before held = by (attributes_closed root position trees it is)
     where
@@ -229,7 +229,7 @@ module _ (root : List ℕ) (trees : Forest) (position : Position) (it : Call) (i
       by (inr (front, delimiter, children, same)) =
           (held_closed (attributes_in position it trees) (by_subtree front delimiter children (attributes_alone root position trees it is ∙ same)) before behind 0).begins refl
 
-  -- The trees are its attributes, the rest of it, and the trees behind it.
+  -- The trees are its attributes, the rest of it, and the trees after it.
   spelled_parts : (more : List Piece)
       → spelled (attributes_in position it trees) ++ (spelled (after_trees it.attributes (whole_in position it trees)) ++ (spelled (rest_in position it trees) ++ more)) ≡ spelled trees ++ more
   spelled_parts more =

@@ -31,7 +31,7 @@ pub record IsPlaced (config : Config) (limit : ℕ) (it : Invocation) (misplaced
   pub expands_to : ExpandsTo config false limit (begun it.siblings) 0 before it.tree.children after outcome
   pub added : IsAdded (site_of it) (trees_left outcome) misplaced old new
 
--- these trees are added behind a call's attributes, in its place; or all of the call is added, which is found
+-- these trees are added after a call's attributes, in its place; or all of the call is added, which is found
 abbrev pub IsPutOrKept : Invocation → (trees : Forest) → (inside after : Context) → (old new : Stack) → Type 0
 IsPutOrKept it trees inside after old new =
     ((put : Forest) × PutAs (site_of it) trees (Some put) × (after ≡ inside) × (new ≡ append put (append (site_of it).attributes old)))

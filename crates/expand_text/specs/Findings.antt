@@ -7,6 +7,7 @@ use Rattle.expand_text.specs.declared.fault.MacroFault.TheVariants as wrong
 abbrev pub is_warning : MacroFault → Bool
 is_warning (wrong.Definition why) = false
 is_warning wrong.Left = true
+is_warning wrong.SeveralDefinitions = true
 is_warning wrong.Conditional = true
 is_warning wrong.NoMatch = false
 is_warning (wrong.Ambiguous arm) = false
@@ -20,6 +21,7 @@ is_warning (wrong.TooLarge why) = false
 abbrev pub is_too_deep : MacroFault → Bool
 is_too_deep (wrong.Definition why) = false
 is_too_deep wrong.Left = false
+is_too_deep wrong.SeveralDefinitions = false
 is_too_deep wrong.Conditional = false
 is_too_deep wrong.NoMatch = false
 is_too_deep (wrong.Ambiguous arm) = false

@@ -8,6 +8,7 @@ pub mod Expansion
 pub mod Findings
 pub mod Lacking
 pub mod LastPlaces
+pub mod Left
 pub mod Limits
 pub mod Macros
 pub mod Meaning

@@ -1,5 +1,5 @@
 -- What is defined, and what calls expand to.
-use Rattle.std.specs.Prelude.{◌≡◌, ◌≢◌, ◌⊎◌, ◌<◌, ◌+◌, ◌^◌, ℕ, suc, zero, Bool, true, false, List, length, Option, None, Some, if◌then◌else◌}
+use Rattle.std.specs.Prelude.{◌≡◌, ◌≢◌, ◌⊎◌, ◌<◌, ◌+◌, ◌^◌, ◌&&◌, ℕ, suc, zero, Bool, true, false, List, length, Option, None, Some, is_some, if◌then◌else◌}
 use Rattle.tt.specs.Forest.{Forest, Root}
 use Rattle.tt.specs.Span.{start_of}
 use Rattle.tt.specs.Stored.{IsWithinLimits}
@@ -27,8 +27,21 @@ use Rattle.syntax_unparse.specs.Writable.{IsWritable, IsWriteFault}
 use Rattle.syntax_unparse.specs.declared.fault.WriteFault.TheVariants as unwritten
 
 -- the macro that is defined
-abbrev pub macro_of : Definition → Option (List Arm) → Macro
-macro_of it arms = record { name = it.name.sym; defined_at = start_of it.name.span.range; arms = arms }
+abbrev pub macro_of : Definition → (is_several : Bool) → Option (List Arm) → Macro
+macro_of it is_several arms = record { name = it.name.sym; defined_at = start_of it.name.span.range; is_several = is_several; arms = arms }
+
+-- a definition under a condition is one of several if another macro of its name is in scope
+abbrev pub is_several : (is_open : Bool) → Definition → List Macro → Bool
+is_several is_open it macros = is_open && is_some (last_named it.name.sym macros)
+
+-- these arms, unless the macro is left as it is
+abbrev pub unless_several : (is_several : Bool) → List Arm → Option (List Arm)
+unless_several true arms = None
+unless_several false arms = Some arms
+
+-- a definition that spells these arms is read as this macro
+abbrev pub macro_with : (is_open : Bool) → Definition → List Arm → List Macro → Macro
+macro_with is_open it arms macros = macro_of it (is_several is_open it macros) (unless_several (is_several is_open it macros) arms)
 
 -- a tree is refused for that reason, which is not memory
 abbrev pub IsPastLimit : Root → TtFault → Type 0
@@ -40,6 +53,7 @@ IsDefinitionFault it trees at (wrong.Definition why) =
     IsRulesError trees why × (why.fault ≢ arm_fault.Memory) × (at ≡ definition_byte trees why (start_of it.delimiter.close.range))
 IsDefinitionFault it trees at (wrong.TooLarge why) = IsPastLimit (under it.delimiter trees) why × (at ≡ start_of it.name.span.range)
 IsDefinitionFault it trees at wrong.Left = ⊥
+IsDefinitionFault it trees at wrong.SeveralDefinitions = ⊥
 IsDefinitionFault it trees at wrong.Conditional = ⊥
 IsDefinitionFault it trees at wrong.NoMatch = ⊥
 IsDefinitionFault it trees at (wrong.Ambiguous arm) = ⊥
@@ -52,19 +66,21 @@ IsDefinitionFault it trees at wrong.TooLong = ⊥
 abbrev pub found_in : Definition → (at : ℕ) → MacroFault → Finding
 found_in it at fault = record { name = it.name.sym; at = at; fault = fault; defined_at = None }
 
--- what is known behind a definition with these arms: they spell arms; or the definition has a fault, and is left as it is
-abbrev pub IsDefined : Definition → (arms : Forest) → (before after : Context) → Type 0
-IsDefined it trees before after =
-    ((arms : List Arm) × IsWithinLimits (under it.delimiter trees) × Spell trees arms × (after ≡ with_macro (macro_of it (Some arms)) before))
-    ⊎ ((at : ℕ) × (fault : MacroFault) × IsDefinitionFault it trees at fault × (after ≡ with_macro (macro_of it None) (with_finding (found_in it at fault) before)))
+-- what is known after a definition with these arms, which is under a condition if `is_open`: they spell arms; or the definition has a fault,
+-- and is left as it is
+abbrev pub IsDefined : (is_open : Bool) → Definition → (arms : Forest) → (before after : Context) → Type 0
+IsDefined is_open it trees before after =
+    ((arms : List Arm) × IsWithinLimits (under it.delimiter trees) × Spell trees arms × (after ≡ with_macro (macro_with is_open it arms before.macros) before))
+    ⊎ ((at : ℕ) × (fault : MacroFault) × IsDefinitionFault it trees at fault
+    × (after ≡ with_macro (macro_of it false None) (with_finding (found_in it at fault) before)))
 
 -- a definition is read if macros of its name are, with the root's word for the root of the crate
-abbrev pub IsReadIf : (asked : Bool) → (root : List ℕ) → Definition → (before after : Context) → Type 0
-IsReadIf false root it before after = after ≡ before
-IsReadIf true root it before after = IsDefined it (rooted root it.arms) before after
+abbrev pub IsReadIf : (asked : Bool) → (root : List ℕ) → (is_open : Bool) → Definition → (before after : Context) → Type 0
+IsReadIf false root is_open it before after = after ≡ before
+IsReadIf true root is_open it before after = IsDefined is_open it (rooted root it.arms) before after
 
-abbrev pub IsRead : Config → Definition → (before after : Context) → Type 0
-IsRead config it before after = IsReadIf (asks_for config.only it.name.sym) config.root it before after
+abbrev pub IsRead : Config → (is_open : Bool) → Definition → (before after : Context) → Type 0
+IsRead config is_open it before after = IsReadIf (asks_for config.only it.name.sym) config.root is_open it before after
 
 -- the macro that a call names, among these in scope: the last of its name, if macros of that name are expanded
 abbrev pub called_by : Config → List Macro → Call → Option Macro
@@ -90,6 +106,7 @@ IsInputFault arms it at (wrong.Expansion why) =
     IsExpandError arms 0 it.input why × (why.fault ≢ transcribe_error.Tree limit.Memory) × (at ≡ start_of it.name.span.range)
 IsInputFault arms it at (wrong.Definition why) = ⊥
 IsInputFault arms it at wrong.Left = ⊥
+IsInputFault arms it at wrong.SeveralDefinitions = ⊥
 IsInputFault arms it at wrong.Conditional = ⊥
 IsInputFault arms it at wrong.TooDeep = ⊥
 IsInputFault arms it at wrong.NotWritable = ⊥
@@ -101,10 +118,15 @@ abbrev pub IsCallFault : (limit : ℕ) → List Arm → Call → (at : ℕ) → 
 IsCallFault zero arms it at fault = (fault ≡ wrong.TooDeep) × (at ≡ start_of it.name.span.range)
 IsCallFault (suc limit) arms it at fault = IsInputFault arms it at fault
 
--- what is known behind a call that no macro expands: if its macro is left as it is, that is found
+-- why a macro is left as it is: it is one of several, or its definition has a fault
+abbrev pub left_by : (is_several : Bool) → MacroFault
+left_by true = wrong.SeveralDefinitions
+left_by false = wrong.Left
+
+-- what is known after a call that no macro expands: if its macro is left as it is, that is found
 abbrev pub context_behind : Call → Option Macro → Context → Context
 context_behind it None context = context
-context_behind it (Some macro) context = with_finding (found_of it macro (start_of it.name.span.range) wrong.Left) context
+context_behind it (Some macro) context = with_finding (found_of it macro (start_of it.name.span.range) (left_by macro.is_several)) context
 
 -- an expansion as a tree of its own, with the places of the call
 abbrev pub tree_of : (call : Delimiter) → Forest → Root
@@ -126,6 +148,7 @@ IsUnwritten call trees begin at wrong.NotWritable =
     IsWithinLimits (tree_of call trees) × (place : ℕ) × IsWriteFault trees (unwritten.NotWritable place) × (at ≡ byte_at trees place begin)
 IsUnwritten call trees begin at (wrong.Definition why) = ⊥
 IsUnwritten call trees begin at wrong.Left = ⊥
+IsUnwritten call trees begin at wrong.SeveralDefinitions = ⊥
 IsUnwritten call trees begin at wrong.Conditional = ⊥
 IsUnwritten call trees begin at wrong.NoMatch = ⊥
 IsUnwritten call trees begin at (wrong.Ambiguous arm) = ⊥

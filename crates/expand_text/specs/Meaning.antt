@@ -29,7 +29,7 @@ use Rattle.mbe_pattern.specs.Units.{front_trees, is_brace, is_at_punct}
 abbrev pub IsPlain : Config → Context → Position → (plain : ℕ) → Forest → Type 0
 IsPlain config context position plain trees = (context.is_over ≡ true) ⊎ ((0 < plain) ⊎ (item_at config.root position trees ≡ other))
 
--- how many trees behind a leaf begin no call: the name of a lifetime, or behind a literal a `.` and the name of a field
+-- how many trees after a leaf begin no call: the name of a lifetime, or after a literal a `.` and the name of a field
 abbrev pub named_behind : Leaf → (rest : Forest) → ℕ
 named_behind (leaf_of.Punct it) rest = if it.char == 39 then 1 else 0
 named_behind (leaf_of.Literal it) rest = if is_at_punct (codes ".") rest then 2 else 0
@@ -39,16 +39,16 @@ named_behind (leaf_of.Ident it) rest = 0
 abbrev pub plain_behind : Leaf → (rest : Forest) → (plain : ℕ) → ℕ
 plain_behind it rest plain = max (plain - 1) (named_behind it rest)
 
--- what is known behind a subtree: its macros are in scope if they are kept
+-- what is known after a subtree: its macros are in scope if they are kept
 abbrev pub context_after : (are_kept : Bool) → (before inside : Context) → Context
 context_after true before inside = inside
 context_after false before inside = record inside { macros = take (length before.macros) inside.macros }
 
--- the trees behind a call that comes first
+-- the trees after a call that comes first
 abbrev pub behind_call : Call → (trees : Forest) → Forest
 behind_call it trees = after_trees it.len trees
 
--- the `;` behind the call is a part of it
+-- the `;` after the call is a part of it
 abbrev pub takes_in : Position → Call → (trees : Forest) → Bool
 takes_in position it trees = takes_semicolon it.delimiter.kind (behind_call it trees) position
 
@@ -60,7 +60,7 @@ end_in position it trees = if takes_in position it trees then begin_at (behind_c
 abbrev pub len_in : Position → Call → (trees : Forest) → ℕ
 len_in position it trees = if takes_in position it trees then suc it.len else it.len
 
--- the trees behind the call then, and the position behind the call
+-- the trees after the call then, and the position after the call
 abbrev pub rest_in : Position → Call → (trees : Forest) → Forest
 rest_in position it trees = if takes_in position it trees then after_tree (behind_call it trees) else behind_call it trees
 
@@ -90,7 +90,7 @@ site_in position it trees =
       delimiter = it.delimiter;
     }
 
--- where the call begins, behind its attributes
+-- where the call begins, after its attributes
 abbrev pub begin_in : Call → (trees : Forest) → Span
 begin_in it trees = begin_at (after_trees it.attributes trees) it.name.span
 
@@ -105,7 +105,7 @@ stays_in position it trees others = stays (whole_in position it trees) others
 -- what trees of the text itself, or of an expansion, expand to, with at most so many nested expansions: at a position, with so many plain
 -- trees, and from what is known before; and what is known then. The expansion of a call replaces it, and is written there in the text. If
 -- it does not fit there, or cannot be written, the call stays with its attributes and its `;`, and that is found. Findings and definitions
--- in the expansion are known behind the call in any case
+-- in the expansion are known after the call in any case
 pub data ExpandsTo (config : Config) : (in_text : Bool) → (limit : ℕ) → Position → (plain : ℕ) → Context → Forest → Context → Outcome → Type 0 where
   ends : {in_text : Bool} {limit plain : ℕ} {position : Position} {context : Context} → ExpandsTo config in_text limit position plain context end context nothing
   on_leaf : {in_text : Bool} {limit plain : ℕ} {position : Position} {context after : Context} {it : Leaf} {rest : Forest} {others : Outcome}
@@ -120,7 +120,7 @@ pub data ExpandsTo (config : Config) : (in_text : Bool) → (limit : ℕ) → Po
   on_definition : {in_text : Bool} {limit : ℕ} {position : Position} {context after : Context} {it : Definition} {trees : Forest} {others : Outcome} (inside : Context)
       → context.is_over ≡ false
       → item_at config.root position trees ≡ defines it
-      → IsRead config it context inside
+      → IsRead config position.is_open it context inside
       → ExpandsTo config in_text limit (behind true position) 0 inside (after_trees it.len trees) after others
       → ExpandsTo config in_text limit position 0 context trees after (stays (front_trees it.len trees) others)
   on_other_call : {in_text : Bool} {limit : ℕ} {position : Position} {context after : Context} {it : Call} {trees : Forest} {others : Outcome}

@@ -43,7 +43,7 @@ template_place (template.StillRepeats at) = at
 template_place (template.NothingRepeats at) = at
 template_place template.Memory = 0
 
--- an arm is five trees with the `;` behind it: a pattern, `=`, `>`, a template and `;`
+-- an arm is five trees with the `;` after it: a pattern, `=`, `>`, a template and `;`
 abbrev pub arm_len : ℕ
 arm_len = 5
 

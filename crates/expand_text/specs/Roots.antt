@@ -9,7 +9,7 @@ use Rattle.tt.specs.Types.Leaf.TheVariants as leaf_of
 use Rattle.mbe_pattern.specs.Units.{is_at_word}
 use Rattle.mbe_pattern.specs.Spelling.{is_dollar}
 
--- `$` and behind it `crate`
+-- `$` and after it `crate`
 abbrev pub is_crate_root : Leaf → (behind : Forest) → Bool
 is_crate_root it behind = is_dollar it && is_at_word (codes "crate") behind
 
@@ -27,11 +27,11 @@ root_word root it = leaf_of.Ident (record { sym = root; span = leaf_span it; is_
 abbrev pub rooted_leaf : (root : List ℕ) → Leaf → (behind : Forest) → Leaf
 rooted_leaf root it behind = if is_crate_root it behind then root_word root (leaf_at behind it) else it
 
--- the trees behind it
+-- the trees after it
 abbrev pub after_leaf : Leaf → (behind : Forest) → Forest
 after_leaf it behind = if is_crate_root it behind then after_tree behind else behind
 
--- the trees behind a `$` of `$crate` or behind another tree, with the root's word for each `$crate`
+-- the trees after a `$` of `$crate` or after another tree, with the root's word for each `$crate`
 abbrev pub rooted_behind : (root : List ℕ) → (is_dollar : Bool) → Forest → Forest
 rooted_behind root dollar end = end
 rooted_behind root true (leaf it rest) = rooted_behind root false rest

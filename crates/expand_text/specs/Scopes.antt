@@ -1,14 +1,16 @@
 -- The macros in scope.
-use Rattle.std.specs.Prelude.{◌≡◌, ℕ, List, [], ◌∷◌, take, Option, None, Some, bytes_eq, if◌then◌else◌}
+use Rattle.std.specs.Prelude.{◌≡◌, ℕ, Bool, List, [], ◌∷◌, take, Option, None, Some, bytes_eq, if◌then◌else◌}
 use Rattle.mbe_rules.specs.Arms.{Arm}
 use Rattle.mbe_rules.specs.Expansions.{AreMade}
 use Rattle.mbe_rules.specs.declared.macro_rules.MacroRules.{MacroRules}
 use Rattle.expand_text.specs.declared.scope.Macro as rust
 
--- a macro: its name, the byte at which that begins in its definition, and its arms, unless it is left as it is
+-- a macro: its name, the byte at which that begins in its definition, whether it is one of several definitions of that name under conditions, and
+-- its arms, unless it is left as it is
 pub record Macro : Type 0 where
   pub name : List ℕ
   pub defined_at : ℕ
+  pub is_several : Bool
   pub arms : Option (List Arm)
 
 -- the one, or else the other
@@ -41,6 +43,7 @@ AreRules (Some arms) (Some rules) = AreMade arms rules.arms.items
 pub record IsReady (macro : Macro) (it : rust.Macro) : Type 0 where
   pub name : it.name ≡ macro.name
   pub defined_at : it.defined_at ≡ macro.defined_at
+  pub is_several : it.is_several ≡ macro.is_several
   pub rules : AreRules macro.arms it.rules
 
 -- all of them are, one by one

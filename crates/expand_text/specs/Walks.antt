@@ -31,7 +31,7 @@ use Rattle.expand_text.specs.CallSites.{CallSite, PutAs, IsKept}
 use Rattle.expand_items.specs.Positions.{begun as begun_among, first_in, behind, behind_leaf, behind_subtree, keeps_macros}
 
 -- the trees of a subtree that are left, the position before them, how many are taken as they are, where the subtree closes, and how many
--- macros stay in scope behind it, if not all
+-- macros stay in scope after it, if not all
 pub record Level : Type 0 where
   pub rest : Forest
   pub position : Position
@@ -70,7 +70,7 @@ past_semicolon takes level =
       position = if takes then behind true level.position else level.position;
     }
 
--- a call is passed, and the `;` behind it if that is a part of it
+-- a call is passed, and the `;` after it if that is a part of it
 abbrev pub past_call : Call → Level → Level
 past_call it level =
     past_semicolon (takes_in level.position it level.rest) (past it.len (is_brace it.delimiter.kind) level)
@@ -119,7 +119,7 @@ work_in (level ∷ outer) = suc (2 * size level.rest + work_in outer)
 abbrev pub begun : Siblings → Forest → (close : Span) → Level
 begun siblings trees close = record { rest = trees; position = begun_among siblings; plain = 0; close = close; kept = None }
 
--- the first tree of the innermost level, a subtree, is entered; so many macros, or all, stay in scope behind it
+-- the first tree of the innermost level, a subtree, is entered; so many macros, or all, stay in scope after it
 abbrev pub kept_behind : (are_kept : Bool) → ℕ → Option ℕ
 kept_behind true macros = None
 kept_behind false macros = Some macros
@@ -153,9 +153,9 @@ site_of it =
 abbrev pub found_by : Invocation → (at : ℕ) → MacroFault → Finding
 found_by it at fault = record { name = it.name; at = at; fault = fault; defined_at = Some it.defined_at }
 
--- what comes next behind a call that expands to these trees: they replace it if they fit and are allowed; or the call stays, which is found
+-- what comes next after a call that expands to these trees: they replace it if they fit and are allowed; or the call stays, which is found
 pub record GoesPast (config : Config) (in_text : Bool) (limit : ℕ) (levels : List Level) (context : Context) (it : Invocation) (trees : Forest) (nexts : List Level) (inside : Context) : Type 0 where
-  pub stands :
+  pub puts :
       (put : Forest) → PutAs (site_of it) trees (Some put) → MayBePut in_text it.delimiter put
       → Leads config in_text limit levels context (first_becomes (site_of it).attributes it.first_span it.last_span put) nexts inside
   pub stays :

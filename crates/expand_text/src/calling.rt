@@ -4,7 +4,7 @@ ghost use Rattle.tt.specs.Iters.{rest_of};
 ghost use Rattle.expand_text.specs.Calling.{IsMade, IsMadeWithin, IsCalled, IsCalledWithin};
 ghost use Rattle.expand_items.specs.Items.{call_of};
 ghost use Rattle.expand_text.specs.Contexts.{Learns, config_of};
-ghost use Rattle.expand_text.specs.Macros.{arms_of, called_by};
+ghost use Rattle.expand_text.specs.Macros.{arms_of, called_by, left_by};
 ghost use Rattle.expand_text.specs.Scopes.{Macro as MacroOf, AreReady, IsReadyIf};
 ghost use Rattle.mbe_rules.specs.Arms.{Arm};
 ghost use Rattle.mbe_rules.specs.Expansions.{AreMade};
@@ -68,6 +68,17 @@ fn make(
     }
 }
 
+// Returns why a macro is left as it is.
+fn left_by(is_several: bool) -> MacroFault
+    ensures { result ≡ left_by is_several }
+{
+    if is_several {
+        MacroFault::SeveralDefinitions
+    } else {
+        MacroFault::Left
+    }
+}
+
 // Returns the macro that a call names, if it is in scope.
 fn called_by<'k>(config: &Config, scope: &'k Scope, call: &Call<'_>) -> Option<&'k Macro>
     ensures { (macros : List MacroOf) → AreReady macros scope.now.macros.items → IsReadyIf (called_by (config_of config.now) macros (call_of call.now)) (option_copied result) }
@@ -105,8 +116,9 @@ pub(crate) fn expand_call(
         return Ok(Called::Other);
     };
     let defined_at = it.defined_at;
+    let left = left_by(it.is_several);
     let Some(rules) = &it.rules else {
-        context.find(name, at, MacroFault::Left, Some(defined_at))?;
+        context.find(name, at, left, Some(defined_at))?;
         return Ok(Called::Other);
     };
     match make(config.alloc, limit, rules, call)? {

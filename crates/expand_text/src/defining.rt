@@ -1,11 +1,12 @@
 //! Reading the definition of a macro.
-ghost use Rattle.std.specs.Prelude.{◌≡◌, List, IfOk, OnOk};
+ghost use Rattle.std.specs.Prelude.{◌≡◌, ◌&&◌, List, None, Some, is_some, IfOk, OnOk, if◌then◌else◌};
 ghost use Rattle.tt.specs.Iters.{rest_of};
 ghost use Rattle.expand_text.specs.Defining.{IsRules};
 ghost use Rattle.expand_items.specs.Items.{definition_of};
 ghost use Rattle.expand_text.specs.Contexts.{Learns, config_of};
 ghost use Rattle.expand_text.specs.Macros.{IsDefined, IsRead};
 ghost use Rattle.expand_text.specs.Roots.{rooted};
+ghost use Rattle.expand_text.specs.Scopes.{Macro as MacroOf, AreReady, last_named};
 
 use crate::config::Config;
 use crate::context::Context;
@@ -13,11 +14,11 @@ use crate::fault::MacroFault;
 use crate::memory::OutOfMemory;
 use crate::places::definition_place;
 use crate::root::rooted;
-use crate::scope::Macro;
+use crate::scope::{Macro, Scope};
 use expand_items::Definition;
 use mbe_rules::{ArmFault, MacroRules};
 use syntax_edit::start_of;
-use tt::TtFault;
+use tt::{Symbol, TtFault};
 
 /// The rules of a definition, or its fault and the byte at which it shows.
 #[derive(Drop)]
@@ -53,17 +54,43 @@ fn rules_of(config: &Config, definition: &Definition<'_>) -> Result<Rules, OutOf
     }
 }
 
-// Adds the macro to the scope. If the definition has a fault, adds a finding too, and the macro is left as it is.
+// Returns whether a definition of that name is one of several: it is under a condition, and a macro of that name is in scope.
+fn is_one_of_several(scope: &Scope, is_open: bool, name: &Symbol) -> bool
+    ensures { (macros : List MacroOf) → AreReady macros scope.now.macros.items → result ≡ (is_open && is_some (last_named name.now macros)) }
+{
+    if !is_open {
+        return false;
+    }
+    match scope.last(name) {
+        Some(_) => true,
+        None => false,
+    }
+}
+
+// Returns the rules, unless the macro is one of several.
+fn unless_several(is_several: bool, rules: MacroRules) -> Option<MacroRules>
+    ensures { result ≡ (if is_several then None else Some rules) }
+{
+    if is_several { None } else { Some(rules) }
+}
+
+// Adds the macro to the scope, whose definition is under a condition if `is_open`. It is left as it is if another macro of its name is in
+// scope then. If the definition has a fault, adds a finding too, and the macro is left as it is.
 fn define(
     config: &Config,
     context: &mut Context,
+    is_open: bool,
     definition: &Definition<'_>,
 ) -> Result<(), OutOfMemory>
-    ensures { OnOk result (Learns context.old context.new (IsDefined (definition_of definition.now) (rooted config.now.root (rest_of definition.now.arms)))) }
+    ensures { OnOk result (Learns context.old context.new (IsDefined is_open (definition_of definition.now) (rooted config.now.root (rest_of definition.now.arms)))) }
 {
     let name = definition.name.sym.clone()?;
+    let mut is_several = false;
     let rules = match rules_of(config, definition)? {
-        Rules::Context(rules) => Some(rules),
+        Rules::Context(rules) => {
+            is_several = is_one_of_several(&context.scope, is_open, &name);
+            unless_several(is_several, rules)
+        }
         Rules::Faulty(at, fault) => {
             context.find(&name, at, fault, None)?;
             None
@@ -72,21 +99,23 @@ fn define(
     context.scope.define(Macro {
         name,
         defined_at: start_of(definition.name.span),
+        is_several,
         rules,
     })?;
     Ok(())
 }
 
-/// Adds the macro to the scope, if the setting requests macros of its name.
+/// Adds the macro to the scope, if the options ask for macros of its name. Its definition is under a condition if `is_open`.
 pub(crate) fn read_definition(
     config: &Config,
     context: &mut Context,
+    is_open: bool,
     definition: &Definition<'_>,
 ) -> Result<(), OutOfMemory>
-    ensures { OnOk result (Learns context.old context.new (IsRead (config_of config.now) (definition_of definition.now))) }
+    ensures { OnOk result (Learns context.old context.new (IsRead (config_of config.now) is_open (definition_of definition.now))) }
 {
     if config.asks_for(&definition.name.sym) {
-        define(config, context, definition)?;
+        define(config, context, is_open, definition)?;
     }
     Ok(())
 }

@@ -117,7 +117,7 @@ pub(crate) fn expand_invocation(
     Ok(None)
 }
 
-// Adds a call's attributes, and behind them what it expands to, in its place. If the result
+// Adds a call's attributes, and after them what it expands to, in its place. If the result
 // does not fit there, adds the call itself and a finding.
 #[cycle(expansion)]
 fn pass_call(

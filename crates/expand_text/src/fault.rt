@@ -18,6 +18,10 @@ pub enum MacroFault {
     /// The macro's definition has a fault, so the call is left as it is.
     #[error("its definition is left as it is")]
     Left,
+    /// The macro has several definitions in scope, the last of them under `#[cfg(..)]`, so the call is left as it is: the text does not say
+    /// which of them holds. The byte is the beginning of the call's name.
+    #[error("several definitions of it are in scope")]
+    SeveralDefinitions,
     /// The call is under `#[cfg(..)]`, and its expansion is empty, or no run of items or statements that can each have that condition. It
     /// is left as it is. The byte is the beginning of the call.
     #[error("a condition stands before it, and not before all that this becomes")]
@@ -81,7 +85,10 @@ impl MacroFault {
     pub fn is_warning(&self) -> bool
         ensures { result ≡ is_warning self.now }
     {
-        matches!(self, MacroFault::Left | MacroFault::Conditional)
+        matches!(
+            self,
+            MacroFault::Left | MacroFault::SeveralDefinitions | MacroFault::Conditional
+        )
     }
 
     // Returns whether no call is expanded any more.

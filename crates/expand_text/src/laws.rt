@@ -3,6 +3,7 @@ ghost use Rattle.std.specs.Prelude.{◌≡◌, ℕ, [], List, codes, string_byte
 ghost use Rattle.tt.specs.Forest.{Root};
 ghost use Rattle.expand_text.specs.Expansion.{IsExpanded};
 ghost use Rattle.expand_text.specs.Lacking.{Lacks};
+ghost use Rattle.expand_text.specs.Left.{NoneIsLeft};
 ghost use Rattle.expand_text.specs.Limits.{KeepLimits};
 ghost use Rattle.expand_text.specs.declared.options.ExpandOptions.{ExpandOptions};
 ghost use Rattle.expand_text.specs.declared.text.Expanded.{Expanded};
@@ -22,4 +23,9 @@ pub fn one_answer()
     ensures { (options : ExpandOptions) → (source : List ℕ) → (it other : Expanded) → IsExpanded options source it → IsExpanded options source other
         → KeepLimits it.findings.items → KeepLimits other.findings.items
         → (string_bytes it.text ≡ string_bytes other.text) × (it.findings.items ≡ other.findings.items) }
+{}
+
+/// States that if nothing is found in a text, then no call of a macro in scope is left, neither in the text nor in what a call expands to.
+pub fn no_call_is_left()
+    ensures { (options : ExpandOptions) → (source : List ℕ) → (it : Expanded) → (is : IsExpanded options source it) → it.findings.items ≡ [] → NoneIsLeft is.expands_to }
 {}

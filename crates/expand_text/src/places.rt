@@ -11,7 +11,7 @@ use mbe_rules::{ArmFault, RulesError, TemplateError};
 use syntax_edit::start_of;
 use tt::{TokenTreesView, TtIter};
 
-/// The number of trees of an arm with the `;` behind it: a pattern, `=`, `>`, a template and `;`.
+/// The number of trees of an arm with the `;` after it: a pattern, `=`, `>`, a template and `;`.
 const ARM_LEN: usize = 5;
 
 /// The number of trees before an arm's template.

@@ -15,6 +15,8 @@ pub(crate) struct Macro {
     pub(crate) name: Symbol,
     /// The byte of the text at which the name begins in the definition.
     pub(crate) defined_at: u32,
+    /// Whether it is left as it is because it is one of several definitions under conditions.
+    pub(crate) is_several: bool,
     pub(crate) rules: Option<MacroRules>,
 }
 

@@ -33,7 +33,7 @@ pub(crate) struct Level<'a> {
     /// The number of first trees that are taken as they are.
     plain: usize,
     close: Span,
-    /// The number of macros that stay in scope behind it, or all.
+    /// The number of macros that stay in scope after it, or all.
     kept: Option<usize>,
 }
 
@@ -46,7 +46,7 @@ pub(crate) struct Invocation<'a> {
     pub(crate) whole: TokenTreesView<'a>,
     /// The number of these trees that are attributes.
     pub(crate) attributes: usize,
-    /// The beginning of the call, behind the attributes.
+    /// The beginning of the call, after the attributes.
     pub(crate) first_span: Span,
     pub(crate) last_span: Span,
     pub(crate) delimiter: Delimiter,
@@ -76,7 +76,7 @@ pub(crate) struct Walk<'a> {
     outer: Vec<Level<'a>>,
 }
 
-// Returns the number of trees behind a leaf that begin no call: the name of a lifetime, or behind a literal a `.` and the name of a field.
+// Returns the number of trees after a leaf that begin no call: the name of a lifetime, or after a literal a `.` and the name of a field.
 fn named_behind(leaf: &Leaf, behind: TtIter<'_>) -> usize
     ensures { result ≡ named_behind leaf.now (rest_of behind.entry) }
 {
@@ -139,7 +139,7 @@ impl<'a> Level<'a> {
         last
     }
 
-    // Returns the beginning of the call that comes first, behind its attributes.
+    // Returns the beginning of the call that comes first, after its attributes.
     fn begin_of(&self, call: &Call<'_>) -> Span
         ensures { result ≡ begin_in (call_of call.now) (rest_of self.now.rest) }
     {
@@ -157,7 +157,7 @@ impl<'a> Invocation<'a> {
         take(&mut self.whole.iter(), self.attributes)
     }
 
-    /// Returns the trees of the call, behind its attributes.
+    /// Returns the trees of the call, after its attributes.
     pub(crate) fn call(&self) -> TokenTreesView<'a>
         ensures { trees_of result ≡ after_trees self.now.attributes (trees_of self.now.whole) }
     {
@@ -257,7 +257,8 @@ fn next_definition<'a>(
     ensures steps { IfOk result (λ event. IsFirst (defines (definition_of definition.now)) config.now.root walk.old → Steps (levels_of walk.old) event (levels_of walk.new)) }
     ensures next { IfOk result (λ event. (limit : ℕ) → Goes (IsAtItem (defines (definition_of definition.now)) (config_of config.now) walk.old) (config_of config.now) limit walk.old context.old event walk.new context.new) }
 {
-    read_definition(config, context, definition)?;
+    let is_open = walk.level.position.is_open();
+    read_definition(config, context, is_open, definition)?;
     Ok(Event::Stays(walk.level.take_all(definition.len, true)))
 }
 

@@ -1,5 +1,5 @@
 -- The parts of a text, as far as they matter to what is needed: words, and definitions that may go.
-use Rattle.std.specs.Prelude.{◌==◌, ◌++◌, ℕ, Bool, true, false, List, [], ◌∷◌, map, Option, None, Some, if◌then◌else◌}
+use Rattle.std.specs.Prelude.{◌==◌, ◌++◌, ◌&&◌, not, ℕ, Bool, true, false, List, [], ◌∷◌, map, Option, None, Some, if◌then◌else◌}
 use Rattle.tt.specs.Forest.{Forest, end, leaf, node, flat}
 use Rattle.tt.specs.Gluing.{after_trees}
 use Rattle.tt.specs.Span.{start_of, end_of}
@@ -12,6 +12,7 @@ use Rattle.tt.specs.Types.TokenTree.TheVariants as token
 use Rattle.expand_unused.specs.declared.part.Part as part_in_code
 use Rattle.expand_unused.specs.declared.part.Part.TheVariants as rust
 use Rattle.expand_unused.specs.declared.part.Rules as rules_in_code
+use Rattle.expand_unused.specs.declared.choice.Choice.{Choice}
 use Rattle.expand_unused.specs.declared.place.Attributes.{Attributes}
 use Rattle.expand_unused.specs.declared.place.Place.{Place}
 use Rattle.expand_unused.specs.declared.place.Place.TheVariants as at
@@ -64,7 +65,7 @@ abbrev pub byte_or : (since : Option ℕ) → (start : ℕ) → ℕ
 byte_or None start = start
 byte_or (Some first) start = first
 
--- the definition that comes first, behind such attributes
+-- the definition that comes first, after such attributes
 abbrev pub rules_from : Attributes → Definition → Leaf → Forest → Rules
 rules_from attributes it first trees =
     record {
@@ -74,16 +75,20 @@ rules_from attributes it first trees =
       inside = words_in it.arms;
     }
 
--- the parts that a leaf begins
-abbrev pub first_parts : First → Leaf → Attributes → Forest → List Part
-first_parts (drops it) first attributes trees = rules (rules_from attributes it first trees) ∷ []
-first_parts (takes len) first attributes trees = map word (leaf_words first)
-first_parts others first attributes trees = map word (leaf_words first)
+-- other crates may use the name of a definition after these attributes: it is exported, and exported definitions may not go
+abbrev pub exported_words : Choice → Attributes → Definition → List (List ℕ)
+exported_words choice attributes it = if attributes.is_exported && not choice.drops_exported then it.name.sym ∷ [] else []
 
-abbrev pub leaf_parts : First → Leaf → Place → Forest → List Part
-leaf_parts first it (at.Passed left) trees = []
-leaf_parts first it (at.Taken left) trees = map word (leaf_words it)
-leaf_parts first it (at.Free attributes) trees = first_parts first it attributes trees
+-- the parts that a leaf begins: the name of an exported definition counts as a word outside
+abbrev pub first_parts : Choice → First → Leaf → Attributes → Forest → List Part
+first_parts choice (drops it) first attributes trees = map word (exported_words choice attributes it) ++ rules (rules_from attributes it first trees) ∷ []
+first_parts choice (takes len) first attributes trees = map word (leaf_words first)
+first_parts choice others first attributes trees = map word (leaf_words first)
+
+abbrev pub leaf_parts : Choice → First → Leaf → Place → Forest → List Part
+leaf_parts choice first it (at.Passed left) trees = []
+leaf_parts choice first it (at.Taken left) trees = map word (leaf_words it)
+leaf_parts choice first it (at.Free attributes) trees = first_parts choice first it attributes trees
 
 -- the contents of a subtree: those of an attribute are taken as they are
 abbrev pub held : (is_attribute : Bool) → (words : List (List ℕ)) → List Part → List Part
@@ -91,15 +96,15 @@ held true words parts = map word words
 held false words parts = parts
 
 -- all parts of trees at a place, in order
-abbrev pub parts_in : (only : Option (List ℕ)) → Place → Forest → List Part
-parts_in only place end = []
-parts_in only place (leaf it rest) =
-    leaf_parts (first_in only (leaf it rest)) it place (leaf it rest) ++ parts_in only (behind_leaf (first_in only (leaf it rest)) it place) rest
-parts_in only (at.Passed left) (node delimiter children rest) = parts_in only (passing left) rest
-parts_in only (at.Taken left) (node delimiter children rest) = map word (words_in children) ++ parts_in only (taking left) rest
-parts_in only (at.Free attributes) (node delimiter children rest) =
-    held (is_attribute delimiter.kind attributes) (words_in children) (parts_in only begun children)
-    ++ parts_in only (behind_subtree delimiter.kind (at.Free attributes)) rest
+abbrev pub parts_in : (choice : Choice) → Place → Forest → List Part
+parts_in choice place end = []
+parts_in choice place (leaf it rest) =
+    leaf_parts choice (first_in choice (leaf it rest)) it place (leaf it rest) ++ parts_in choice (behind_leaf (first_in choice (leaf it rest)) it place) rest
+parts_in choice (at.Passed left) (node delimiter children rest) = parts_in choice (passing left) rest
+parts_in choice (at.Taken left) (node delimiter children rest) = map word (words_in children) ++ parts_in choice (taking left) rest
+parts_in choice (at.Free attributes) (node delimiter children rest) =
+    held (is_attribute delimiter.kind attributes) (words_in children) (parts_in choice begun children)
+    ++ parts_in choice (behind_subtree delimiter.kind children (at.Free attributes)) rest
 
 -- what the values of the code mean
 abbrev pub rules_of : rules_in_code.Rules → Rules

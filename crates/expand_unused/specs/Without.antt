@@ -1,6 +1,7 @@
 -- A text without the definitions that it does not need.
-use Rattle.std.specs.Prelude.{◌≡◌, ℕ, Bool, List, [], ◌∷◌, Option, if◌then◌else◌}
+use Rattle.std.specs.Prelude.{◌≡◌, ℕ, Bool, List, [], ◌∷◌, if◌then◌else◌}
 use Rattle.tt.specs.Forest.{Root}
+use Rattle.expand_unused.specs.declared.choice.Choice.{Choice}
 use Rattle.expand_unused.specs.declared.fault.DropRulesError.{DropRulesError}
 use Rattle.expand_unused.specs.declared.fault.DropRulesError.TheVariants as error
 use Rattle.expand_unused.specs.Needing.{AreRight}
@@ -21,19 +22,19 @@ cuts goes [] = []
 cuts goes (word it ∷ more) = cuts goes more
 cuts goes (rules it ∷ more) = if goes it.name then cut_of it ∷ cuts goes more else cuts goes more
 
--- the writing behind a part of a text: a definition that goes is passed
+-- the writing after a part of a text: a definition that goes is passed
 abbrev pub cut_behind : (goes : List ℕ → Bool) → Part → Writing → Writing
 cut_behind goes (word it) writing = writing
 cut_behind goes (rules it) writing = if goes it.name then replaced (cut_of it) writing else writing
 
 -- a text without the definitions that are not needed, of those that may go; all else stays byte for byte
-pub record IsWithout (only : Option (List ℕ)) (source result : List ℕ) : Type 0 where
+pub record IsWithout (choice : Choice) (source result : List ℕ) : Type 0 where
   pub tree : Root
   pub read : IsParse text_part source tree
   pub goes : List ℕ → Bool
-  pub right : AreRight goes (parts_in only begun tree.children)
-  pub fits : FitAll (cuts goes (parts_in only begun tree.children)) (begun_text source)
-  pub text : result ≡ with_all (cuts goes (parts_in only begun tree.children)) (begun_text source)
+  pub right : AreRight goes (parts_in choice begun tree.children)
+  pub fits : FitAll (cuts goes (parts_in choice begun tree.children)) (begun_text source)
+  pub text : result ≡ with_all (cuts goes (parts_in choice begun tree.children)) (begun_text source)
 
 -- why no text results: it is not read, or memory runs out
 abbrev pub IsDropRulesError : (text : List ℕ) → DropRulesError → Type 0

@@ -7,6 +7,7 @@ ghost use Rattle.expand_unused.specs.Parts.{last_span, rules_from, rules_of};
 ghost use Rattle.expand_unused.specs.Places.{may_go, first_in};
 ghost use Rattle.expand_items.specs.Items.{definition_of};
 
+use crate::choice::Choice;
 use crate::part::Rules;
 use crate::place::Attributes;
 use crate::words::words_in;
@@ -41,12 +42,12 @@ fn may_go(only: &Option<Symbol>, name: &Symbol) -> bool
 }
 
 /// Returns what comes first.
-pub(crate) fn first_in<'a>(trees: TtIter<'a>, only: &Option<Symbol>) -> First<'a>
-    ensures { first_of result ≡ first_in only.now (rest_of trees.entry) }
+pub(crate) fn first_in<'a>(trees: TtIter<'a>, choice: &Choice) -> First<'a>
+    ensures { first_of result ≡ first_in choice.now (rest_of trees.entry) }
 {
     match item_in(trees, "crate") {
         Item::Definition(definition) => {
-            if may_go(only, &definition.name.sym) {
+            if may_go(&choice.only, &definition.name.sym) {
                 First::Drops(definition)
             } else {
                 First::Takes(definition.len)
@@ -69,7 +70,7 @@ fn last_span(definition: &Definition<'_>, mut trees: TtIter<'_>) -> Span
     begin_at(&trees, close)
 }
 
-/// Returns the definition that comes first, behind such attributes.
+/// Returns the definition that comes first, after such attributes.
 pub(crate) fn rules_from(
     alloc: Global,
     attributes: Attributes,

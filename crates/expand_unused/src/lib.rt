@@ -4,6 +4,7 @@
 //! or through others, and cuts the rest out of the text with the attributes before them.
 #![tactic(auto)]
 
+mod choice;
 mod cutting;
 mod fault;
 mod first;

@@ -1,9 +1,11 @@
 //! The place of a tree among its siblings, as far as it matters to what is cut.
 ghost use Rattle.std.specs.Prelude.{◌≡◌};
+ghost use Rattle.tt.specs.Iters.{rest_of};
 ghost use Rattle.expand_unused.specs.Places.{no_attributes, begun, passing, taking, is_sign, is_attribute, attributes_behind_leaf, attributes_behind_subtree, behind_subtree};
 
+use mbe_pattern::is_at_word;
 use syntax_edit::start_of;
-use tt::{DelimiterKind, Leaf};
+use tt::{DelimiterKind, Leaf, TtIter};
 
 /// The attributes right before a tree.
 #[derive(Clone, Copy)]
@@ -12,14 +14,16 @@ pub(crate) struct Attributes {
     pub(crate) since: Option<u32>,
     /// The byte at which a `#` begins that follows them.
     pub(crate) sign: Option<u32>,
+    /// Whether `#[macro_export]` is one of them.
+    pub(crate) is_exported: bool,
 }
 
 /// The place of a tree among its siblings, as far as it matters to what is cut.
 #[derive(Clone, Copy)]
 pub(crate) enum Place {
-    /// The tree is part of a definition that is noted, and so are as many trees behind it.
+    /// The tree is part of a definition that is noted, and so are as many trees after it.
     Passed(usize),
-    /// The tree is taken as it is, and so are as many trees behind it.
+    /// The tree is taken as it is, and so are as many trees after it.
     Taken(usize),
     /// Neither.
     Free(Attributes),
@@ -43,10 +47,11 @@ impl Attributes {
         Attributes {
             since: None,
             sign: None,
+            is_exported: false,
         }
     }
 
-    /// Returns the attributes behind a leaf.
+    /// Returns the attributes after a leaf.
     pub(crate) fn behind_leaf(self, leaf: &Leaf) -> Attributes
         ensures { result ≡ attributes_behind_leaf leaf.now self }
     {
@@ -59,6 +64,7 @@ impl Attributes {
                 Some(_) => None,
             },
             sign: Some(start_of(*leaf.span())),
+            is_exported: self.is_exported && self.sign.is_none(),
         }
     }
 
@@ -69,9 +75,9 @@ impl Attributes {
         kind == DelimiterKind::Bracket && self.sign.is_some()
     }
 
-    // Returns the attributes behind a subtree of a kind.
-    fn behind_subtree(self, kind: DelimiterKind) -> Attributes
-        ensures { result ≡ attributes_behind_subtree kind self }
+    // Returns the attributes after a subtree of a kind that contains these trees.
+    fn behind_subtree(self, kind: DelimiterKind, inside: TtIter<'_>) -> Attributes
+        ensures { result ≡ attributes_behind_subtree kind (rest_of inside.entry) self }
     {
         if kind != DelimiterKind::Bracket {
             return Attributes::none();
@@ -85,6 +91,7 @@ impl Attributes {
                 Some(first) => Some(first),
             },
             sign: None,
+            is_exported: self.is_exported || is_at_word(inside, "macro_export"),
         }
     }
 }
@@ -117,14 +124,14 @@ impl Place {
         }
     }
 
-    /// Returns the place behind a subtree of a kind.
-    pub(crate) fn behind_subtree(self, kind: DelimiterKind) -> Place
-        ensures { result ≡ behind_subtree kind self }
+    /// Returns the place after a subtree of a kind that contains these trees.
+    pub(crate) fn behind_subtree(self, kind: DelimiterKind, inside: TtIter<'_>) -> Place
+        ensures { result ≡ behind_subtree kind (rest_of inside.entry) self }
     {
         match self {
             Place::Passed(left) => Place::passing(left),
             Place::Taken(left) => Place::taking(left),
-            Place::Free(attributes) => Place::Free(attributes.behind_subtree(kind)),
+            Place::Free(attributes) => Place::Free(attributes.behind_subtree(kind, inside)),
         }
     }
 }

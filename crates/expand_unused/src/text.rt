@@ -2,6 +2,7 @@
 ghost use Rattle.std.specs.Prelude.{◌≡◌, option_map, IfOk, IfErr, string_bytes};
 ghost use Rattle.expand_unused.specs.Without.{IsWithout, IsDropRulesError};
 
+use crate::choice::Choice;
 use crate::cutting::without;
 use crate::fault::DropRulesError;
 use crate::needing::unneeded;
@@ -25,20 +26,24 @@ fn name_of(alloc: Global, only: Option<&str>) -> Result<Option<Symbol>, AllocErr
 
 /// Returns the text without the definitions of macros whose names are not needed, and without the attributes right before them. If a name
 /// is given, only definitions of that name may go. A name is needed if it occurs outside of the definitions that may go, or in the arms of
-/// one whose name is needed.
+/// one whose name is needed, or if a definition of it is under `#[macro_export]`, unless `drops_exported`.
 ///
 /// Time and memory are linear in the text.
 pub fn without_rules(
     alloc: Global,
     text: &str,
     only: Option<&str>,
+    drops_exported: bool,
 ) -> Result<String, DropRulesError>
-    ensures ok { IfOk result (λ it. IsWithout (option_map (λ name. name.now) only.entry) text.now (string_bytes it)) }
+    ensures ok { IfOk result (λ it. IsWithout (record { only = option_map (λ name. name.now) only.entry; drops_exported = drops_exported }) text.now (string_bytes it)) }
     ensures err { IfErr result (IsDropRulesError text.now) }
 {
     let tree = parse(alloc, text)?;
-    let only = name_of(alloc, only)?;
-    let parts = parts_in(alloc, tree.iter(), &only)?;
+    let choice = Choice {
+        only: name_of(alloc, only)?,
+        drops_exported,
+    };
+    let parts = parts_in(alloc, tree.iter(), &choice)?;
     let unneeded = unneeded(alloc, parts.as_slice())?;
     Ok(without(alloc, text, parts.as_slice(), &unneeded)?)
 }

@@ -3,16 +3,19 @@ ghost use Rattle.std.specs.Prelude.{◌≡◌, ◌++◌, IfOk, OnOk, map};
 ghost use Rattle.tt.specs.Iters.{rest_of};
 ghost use Rattle.tt.specs.Views.{trees_of};
 ghost use Rattle.expand_unused.specs.Firsts.{first_of};
-ghost use Rattle.expand_unused.specs.Parts.{first_parts, leaf_parts, leaf_words, word, words_in, part_of, parts_in};
+ghost use Rattle.expand_items.specs.Items.{definition_of};
+ghost use Rattle.expand_unused.specs.Parts.{exported_words, first_parts, leaf_parts, leaf_words, word, words_in, part_of, parts_in};
 ghost use Rattle.expand_unused.specs.Places.{begun, behind_first, first_in, behind_leaf};
 ghost use Rattle.expand_unused.specs.Steps.{IsStep, IsTaken, IsEntered};
 
+use crate::choice::Choice;
 use crate::first::{First, first_in, rules_from};
 use crate::part::Part;
 use crate::place::{Attributes, Place};
 use crate::words::{leaf_word, words_in};
+use expand_items::Definition;
 use std::alloc::{AllocError, Global};
-use tt::{DelimiterKind, Leaf, Symbol, TokenTreesView, TtElement, TtIter};
+use tt::{DelimiterKind, Leaf, TokenTreesView, TtElement, TtIter};
 
 // The trees of a subtree that are left, and the place before them.
 #[derive(Drop)]
@@ -68,21 +71,37 @@ fn take_held<'a>(
     Ok(Step::Past)
 }
 
-// Notes what begins with the leaf that comes first among trees, and returns the place behind that leaf.
+// Notes the name of a definition that is exported, unless exported ones may go too.
+fn note_exported(
+    parts: &mut Vec<Part>,
+    choice: &Choice,
+    attributes: Attributes,
+    definition: &Definition<'_>,
+) -> Result<(), AllocError>
+    ensures { OnOk result (map part_of parts.new.items ≡ map part_of parts.old.items ++ map word (exported_words choice.now attributes (definition_of definition.now))) }
+{
+    if attributes.is_exported && !choice.drops_exported {
+        parts.push(Part::Word(definition.name.sym.clone()?))?;
+    }
+    Ok(())
+}
+
+// Notes what begins with the leaf that comes first among trees, and returns the place after that leaf.
 fn note_first(
     alloc: Global,
     parts: &mut Vec<Part>,
     attributes: Attributes,
     leaf: Leaf,
     trees: TtIter<'_>,
-    only: &Option<Symbol>,
+    choice: &Choice,
 ) -> Result<Place, AllocError>
-    ensures parts { OnOk result (map part_of parts.new.items ≡ map part_of parts.old.items ++ first_parts (first_in only.now (rest_of trees.entry)) leaf attributes (rest_of trees.entry)) }
-    ensures place { IfOk result (λ place. place ≡ behind_first (first_in only.now (rest_of trees.entry)) leaf attributes) }
+    ensures parts { OnOk result (map part_of parts.new.items ≡ map part_of parts.old.items ++ first_parts choice.now (first_in choice.now (rest_of trees.entry)) leaf attributes (rest_of trees.entry)) }
+    ensures place { IfOk result (λ place. place ≡ behind_first (first_in choice.now (rest_of trees.entry)) leaf attributes) }
 {
-    match first_in(trees.remaining().iter(), only) {
+    match first_in(trees.remaining().iter(), choice) {
         First::Drops(definition) => {
             let len = definition.len;
+            note_exported(parts, choice, attributes, &definition)?;
             let rules = rules_from(alloc, attributes, definition, &leaf, trees)?;
             parts.push(Part::Rules(rules))?;
             Ok(Place::passing(len.saturating_sub(1)))
@@ -111,16 +130,16 @@ impl<'a> Level<'a> {
         }
     }
 
-    // Notes what the first tree, a leaf, begins; returns the place behind it.
+    // Notes what the first tree, a leaf, begins; returns the place after it.
     fn behind_leaf(
         &self,
         alloc: Global,
         parts: &mut Vec<Part>,
         leaf: Leaf,
-        only: &Option<Symbol>,
+        choice: &Choice,
     ) -> Result<Place, AllocError>
-        ensures parts { OnOk result (map part_of parts.new.items ≡ map part_of parts.old.items ++ leaf_parts (first_in only.now (rest_of self.now.rest)) leaf self.now.place (rest_of self.now.rest)) }
-        ensures place { IfOk result (λ place. place ≡ behind_leaf (first_in only.now (rest_of self.now.rest)) leaf self.now.place) }
+        ensures parts { OnOk result (map part_of parts.new.items ≡ map part_of parts.old.items ++ leaf_parts choice.now (first_in choice.now (rest_of self.now.rest)) leaf self.now.place (rest_of self.now.rest)) }
+        ensures place { IfOk result (λ place. place ≡ behind_leaf (first_in choice.now (rest_of self.now.rest)) leaf self.now.place) }
     {
         match self.place {
             Place::Passed(left) => Ok(Place::passing(left)),
@@ -130,7 +149,7 @@ impl<'a> Level<'a> {
             }
             Place::Free(attributes) => {
                 let trees = self.rest.remaining().iter();
-                note_first(alloc, parts, attributes, leaf, trees, only)
+                note_first(alloc, parts, attributes, leaf, trees, choice)
             }
         }
     }
@@ -163,21 +182,22 @@ impl<'a> Level<'a> {
         &mut self,
         alloc: Global,
         parts: &mut Vec<Part>,
-        only: &Option<Symbol>,
+        choice: &Choice,
     ) -> Result<Step<'a>, AllocError>
-        ensures { IfOk result (λ step. IsStep only.now self.old parts.old.items step self.new parts.new.items) }
+        ensures { IfOk result (λ step. IsStep choice.now self.old parts.old.items step self.new parts.new.items) }
     {
         match self.rest.peek() {
             None => Ok(Step::Over),
             Some(TtElement::Leaf(leaf)) => {
-                self.place = self.behind_leaf(alloc, parts, leaf, only)?;
+                self.place = self.behind_leaf(alloc, parts, leaf, choice)?;
                 self.rest.next();
                 Ok(Step::Past)
             }
             Some(TtElement::Subtree(header, children)) => {
                 let kind = header.delimiter.kind;
+                let inside = children.remaining().iter();
                 let step = self.enter(alloc, parts, kind, children)?;
-                self.place = self.place.behind_subtree(kind);
+                self.place = self.place.behind_subtree(kind, inside);
                 self.rest.next();
                 Ok(step)
             }
@@ -189,16 +209,16 @@ impl<'a> Level<'a> {
 pub(crate) fn parts_in(
     alloc: Global,
     trees: TtIter<'_>,
-    only: &Option<Symbol>,
+    choice: &Choice,
 ) -> Result<Vec<Part>, AllocError>
-    ensures { IfOk result (λ parts. map part_of parts.items ≡ parts_in only.now begun (rest_of trees.entry)) }
+    ensures { IfOk result (λ parts. map part_of parts.items ≡ parts_in choice.now begun (rest_of trees.entry)) }
 {
     let mut parts = Vec::new(alloc);
     let mut levels = Vec::new(alloc);
     levels.push(Level::begun(trees))?;
     // The innermost level comes last.
     'levels: while let Some(mut level) = levels.pop() {
-        match level.step(alloc, &mut parts, only)? {
+        match level.step(alloc, &mut parts, choice)? {
             Step::Over => {}
             Step::Past => {
                 levels.push(level)?;

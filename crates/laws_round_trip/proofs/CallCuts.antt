@@ -1,39 +1,102 @@
--- Where a call begins among the tokens of a text.
-use Rattle.std.proofs.Common.{◌≡◌, ◌≢◌, ◌<◌, ◌+◌, ◌++◌, ℕ, Bool, true, false, List, [], ◌∷◌, length, take, drop, Option, None, Result, Ok, Err, refl, sym, ap, ap₂, ◌∙◌, subst, arith}
+-- The shape of a token's pieces, and where a call begins among the chunks of a text.
+use Rattle.std.proofs.Common.{◌≡◌, ◌+◌, ℕ, true, false, List, [], ◌∷◌, length, Option, None, Some, refl, ◌++◌, Bool, sym, ap, ap₂, ◌∙◌, arith, length-append}
 use Rattle.std.proofs.lemmas.Bool.{and_parts, false≢true}
-use Rattle.std.proofs.lemmas.List.{drop-drop, length-take-le}
-use Rattle.std.proofs.lemmas.Str.{IsUtf8-drop, chars-nil}
 use Rattle.std.specs.Prelude.{◌&&◌, not}
-use Rattle.std.specs.Str.{chars, IsCharBoundary, IsUtf8}
-use Rattle.tt_base.specs.declared.span.SpanPart.{SpanPart}
-use Rattle.syntax_lex.specs.Reading.{AreTokensOf, bytes_of, first_token_of}
-use Rattle.syntax_lex.specs.declared.token.Token.{Token}
-use Rattle.syntax_lex.specs.declared.token.TokenKind.{TokenKind}
-use Rattle.syntax_lex.specs.declared.token.TokenKind.TheVariants as kinds
+use Rattle.laws_round_trip.proofs.Sources.{head_of, tail_of}
+use Rattle.laws_round_trip.proofs.Placed.{pieces_in}
 use Rattle.laws_round_trip.proofs.Roles.{leaf_valid, literal_two}
-use Rattle.laws_round_trip.proofs.Placed.{Within, chunk_within, within_append, within_wider}
-use Rattle.laws_round_trip.proofs.Sources.{source, source_chunks}
-use Rattle.laws_round_trip.proofs.PieceShapes.{NoCall, Shape, word, life, none, pieces_told}
-use Rattle.laws_round_trip.specs.Calls.{follows_value, is_call_sign, is_name, may_begin}
+use Rattle.laws_round_trip.proofs.Seams.{AreSound}
+use Rattle.laws_round_trip.proofs.SortFits.{sorts-append}
+use Rattle.laws_round_trip.specs.Calls.{is_name, is_call_sign, is_last, follows_value, may_begin}
 use Rattle.laws_round_trip.specs.Kept.{is_number}
 use Rattle.laws_round_trip.specs.Splices.{begins_with_name, ends_in_point, is_dot}
-use Rattle.syntax_parse.proofs.TextFacts.{cut}
-use Rattle.syntax_parse.specs.Faults.{fault_from, or_behind, step, step_as}
-use Rattle.syntax_parse.specs.Parsed.{next_kind, pieces_from}
-use Rattle.syntax_parse.specs.Pieces.{pieces_as, pieces_of}
+use Rattle.syntax_lex.specs.declared.token.DocStyle.TheVariants.{Outer, Inner}
+use Rattle.syntax_lex.specs.declared.token.DocStyle.{DocStyle}
+use Rattle.syntax_lex.specs.declared.token.Token.{Token}
+use Rattle.syntax_lex.specs.declared.token.TokenKind.TheVariants as kinds
+use Rattle.syntax_lex.specs.declared.token.TokenKind.{TokenKind}
+use Rattle.syntax_parse.specs.Doc.{block_text, line_text}
+use Rattle.syntax_parse.specs.Parsed.{next_kind}
+use Rattle.syntax_parse.specs.Pieces.{doc, leaves_of, pieces_as, pieces_of, placed, punct_char, puncts, spacing_before}
 use Rattle.syntax_parse.specs.Role.{role_in}
-use Rattle.syntax_parse.specs.Spelled.{Piece, Sort}
+use Rattle.syntax_parse.specs.Spelled.{Piece, sign, Sort}
 use Rattle.syntax_parse.specs.declared.fault.BadToken.{BadToken}
-use Rattle.syntax_parse.specs.declared.fault.Open.{Open}
-use Rattle.syntax_parse.specs.declared.fault.SyntaxFault.{SyntaxFault}
-use Rattle.syntax_parse.specs.declared.fault.SyntaxFault.TheVariants as fault
-use Rattle.syntax_parse.specs.declared.role.Role.TheVariants.{Bad}
+use Rattle.syntax_parse.specs.declared.role.Role.TheVariants.{Bad, Nothing, Opens, Closes, Leaf}
+use Rattle.syntax_parse.specs.declared.role.Role.{Role}
+use Rattle.syntax_unparse.proofs.Chunks.{AreChunks, Chunk, joined, means_of, tokens_of}
+use Rattle.syntax_unparse.specs.Settled.{sorts}
+use Rattle.syntax_unparse.specs.Writable.{is_name as is_name_kind}
+use Rattle.tt_base.specs.declared.punct.Spacing.{Spacing}
+use Rattle.tt_base.specs.declared.span.SpanPart.{SpanPart}
 
-pub head_of : {A : Type 0} {x y : A} {xs ys : List A} → x ∷ xs ≡ y ∷ ys → x ≡ y
-head_of e = cc
+-- no call begins among these pieces: no name comes before a `!` or a `:`, and the last is no name
+abbrev pub NoCall : List Piece → Type 0
+NoCall [] = Unit {0}
+NoCall (piece ∷ []) = is_name piece.sort ≡ false
+NoCall (piece ∷ next ∷ pieces) = ((is_name piece.sort && is_call_sign next.sort) ≡ false) × NoCall (next ∷ pieces)
 
-pub tail_of : {A : Type 0} {x y : A} {xs ys : List A} → x ∷ xs ≡ y ∷ ys → xs ≡ ys
-tail_of e = cc
+-- no call ends before the last of them
+abbrev pub NoEnd : List Piece → Type 0
+NoEnd [] = Unit {0}
+NoEnd (piece ∷ []) = Unit {0}
+NoEnd (piece ∷ next ∷ pieces) = (is_last piece.sort ≡ false) × NoEnd (next ∷ pieces)
+
+-- the last of them ends at a byte
+abbrev pub LastEnds : (stop : ℕ) → List Piece → Type 0
+LastEnds stop [] = Unit {0}
+LastEnds stop (piece ∷ []) = piece.end ≡ stop
+LastEnds stop (piece ∷ next ∷ pieces) = LastEnds stop (next ∷ pieces)
+
+-- where a call may begin among the pieces of a token: at a name that is the whole token, or at the name of a lifetime, after its `'`
+pub data Shape (kind : TokenKind) (at : ℕ) : List Piece → Type 0 where
+  word : (piece : Piece) → is_name_kind kind ≡ true → piece.start ≡ at → Shape kind at (piece ∷ [])
+  life : (quote piece : Piece) → (spacing : _) → quote.sort ≡ sign 39 spacing → Shape kind at (quote ∷ piece ∷ [])
+  none : {pieces : List Piece} → NoCall pieces → Shape kind at pieces
+
+-- facts about the pieces of a token
+pub record Told (kind : TokenKind) (at : ℕ) (stop : ℕ) (pieces : List Piece) : Type 0 where
+  pub shape : Shape kind at pieces
+  pub ends : NoEnd pieces
+  pub stops : LastEnds stop pieces
+
+module _ (part : SpanPart) (next : Option TokenKind) (at : ℕ) (text : List ℕ) where
+  one : (kind : TokenKind) (piece : Piece) → is_name piece.sort ≡ false → piece.end ≡ at + length text → Told kind at (at + length text) (piece ∷ [])
+  one kind piece other stop = record { shape = none other; ends = tt; stops = stop }
+
+  nothing : (kind : TokenKind) → Told kind at (at + length text) []
+  nothing kind = record { shape = none tt; ends = tt; stops = tt }
+
+  -- a punct, if there is one
+  punct : (kind : TokenKind) (c : Option ℕ) (spacing : Spacing) → Told kind at (at + length text) (placed part at (at + length text) (puncts c spacing))
+  punct kind None spacing = nothing kind
+  punct kind (Some c) spacing = one kind _ refl refl
+
+  -- a documenting comment
+  documents : (kind : TokenKind) (style : DocStyle) (words : List ℕ) → Told kind at (at + length text) (placed part at (at + length text) (doc style words))
+  documents kind Outer words = record { shape = none (refl, (refl, (refl, (refl, (refl, refl))))); ends = (refl, (refl, (refl, (refl, (refl, tt))))); stops = refl }
+  documents kind Inner words = record { shape = none (refl, (refl, (refl, (refl, (refl, (refl, refl)))))); ends = (refl, (refl, (refl, (refl, (refl, (refl, tt)))))); stops = refl }
+
+  -- The leaves of a token.
+  leaves_told : (kind : TokenKind) → Told kind at (at + length text) (leaves_of part kind next at text)
+  leaves_told (kinds.Lifetime digit) = record { shape = life _ _ _ refl; ends = (refl, tt); stops = refl }
+  leaves_told kinds.RawLifetime = record { shape = life _ _ _ refl; ends = (refl, tt); stops = refl }
+  leaves_told (kinds.LineComment (Some style)) = documents (kinds.LineComment (Some style)) style (line_text style text)
+  leaves_told (kinds.BlockComment (Some style) terminated) = documents (kinds.BlockComment (Some style) terminated) style (block_text style text)
+  leaves_told kinds.Ident = record { shape = word _ refl refl; ends = tt; stops = refl }
+  leaves_told kinds.RawIdent = record { shape = word _ refl refl; ends = tt; stops = refl }
+  leaves_told (kinds.Literal kind suffix_start) = one (kinds.Literal kind suffix_start) _ refl refl
+  leaves_told kind = punct kind (punct_char kind) (spacing_before next)
+
+  -- The pieces of a token.
+  pub pieces_told : (kind : TokenKind) → Told kind at (at + length text) (pieces_of part kind next at text)
+  pieces_told kind = by (role_in kind text)
+    where
+      by : (role : Role) → Told kind at (at + length text) (pieces_as role part kind next at text)
+      by (Bad why) = nothing kind
+      by Nothing = nothing kind
+      by (Opens _) = one kind _ refl refl
+      by (Closes _) = one kind _ refl refl
+      by Leaf = leaves_told kind
 
 -- the sorts before, after these pieces
 abbrev pub behind_pieces : List Piece → (before : List Sort) → List Sort
@@ -43,52 +106,6 @@ behind_pieces (piece ∷ pieces) before = behind_pieces pieces (piece.sort ∷ b
 pub behind_both : (xs ys : List Piece) (before : List Sort) → behind_pieces (xs ++ ys) before ≡ behind_pieces ys (behind_pieces xs before)
 behind_both [] ys before = refl
 behind_both (x ∷ xs) ys before = behind_both xs ys (x.sort ∷ before)
-
--- the rest of a text after its first token
-pub record Behind (t : List ℕ) (token : Token) (tokens : List Token) : Type 0 where
-  pub size : length (take token.len t) ≡ token.len
-  pub utf8 : IsUtf8 (drop token.len t)
-  pub read : AreTokensOf tokens (chars (drop token.len t))
-
-pub behind_token : (t : List ℕ) (token : Token) (tokens : List Token) → IsUtf8 t → AreTokensOf (token ∷ tokens) (chars t) → Behind t token tokens
-behind_token t token tokens utf8 (some, is, are) =
-    let k = cut t utf8 (not_empty t some) in
-    let same : (first_token_of (chars t)).len ≡ token.len = ap (λ x. x.len) (sym is) in
-    let ends : IsCharBoundary t token.len = subst (IsCharBoundary t) same k.boundary in
-    record {
-      size = length-take-le token.len t ends.0;
-      utf8 = IsUtf8-drop t token.len utf8 ends;
-      read = subst (AreTokensOf tokens) (sym (ap (λ n. chars (drop n t)) (sym same) ∙ k.left)) are;
-    }
-  where
-    not_empty : (bs : List ℕ) → chars bs ≢ [] → 0 < length bs
-    not_empty [] ne = absurd (ne chars-nil)
-    not_empty (b ∷ bs) ne = omega arith
-
--- A token that may be at its place, with no fault after it.
-pub record Steps (opens : List Open) (at : ℕ) (t : List ℕ) (token : Token) (tokens : List Token) : Type 0 where
-  pub next : List Open
-  pub takes : step opens at token.kind (take token.len t) ≡ Ok next
-  pub fine : fault_from next (at + token.len) (drop token.len t) tokens ≡ None
-
-steps_as : (found : Result (List Open) SyntaxFault) (behind : List Open → Option SyntaxFault) → or_behind found behind ≡ None → (next : List Open) × (found ≡ Ok next) × (behind next ≡ None)
-steps_as (Ok next) behind h = (next, refl, h)
-steps_as (Err fault) behind h = absurd (cc)
-
-pub steps : (opens : List Open) (at : ℕ) (t : List ℕ) (token : Token) (tokens : List Token) → fault_from opens at t (token ∷ tokens) ≡ None → Steps opens at t token tokens
-steps [] at t token tokens fine =
-    let (next, takes, behind) = steps_as (step [] at token.kind (take token.len t)) (λ next. fault_from next (at + token.len) (drop token.len t) tokens) fine in
-    record { next = next; takes = takes; fine = behind }
-steps (last ∷ before) at t token tokens fine =
-    let (next, takes, behind) = steps_as (step (last ∷ before) at token.kind (take token.len t)) (λ next. fault_from next (at + token.len) (drop token.len t) tokens) fine in
-    record { next = next; takes = takes; fine = behind }
-
--- So the token is not bad.
-pub not_bad : (opens : List Open) (at : ℕ) (kind : TokenKind) (text : List ℕ) (next : List Open) → step opens at kind text ≡ Ok next → (why : BadToken) → role_in kind text ≡ Bad why → ⊥
-not_bad opens at kind text next takes why bad = no (fault.BadToken why at) (ap (λ r. step_as r opens at) (sym bad) ∙ takes)
-  where
-    no : (fault : SyntaxFault) → Err fault ≡ Ok next → ⊥
-    no fault e = cc e
 
 -- A number that is not bad is a literal among the pieces, and no call begins after a point that follows it.
 number_value : (part : SpanPart) (next : Option TokenKind) (at : ℕ) (kind : TokenKind) (text : List ℕ) (before : List Sort) → ((why : BadToken) → role_in kind text ≡ Bad why → ⊥) → is_number kind ≡ true
@@ -114,59 +131,16 @@ ends_as (a ∷ []) = refl
 ends_as (a ∷ b ∷ []) = refl
 ends_as (a ∷ b ∷ c ∷ tokens) = ends_as (b ∷ c ∷ tokens)
 
--- the tokens of a text that begins at a byte: those before a call, and those from its begin on
-pub record FrontOf (part : SpanPart) (at : ℕ) (t : List ℕ) (tokens : List Token) (number point : Bool) (kept : List Piece) (first : Piece) (more : List Piece) : Type 0 where
-  pub before : List Token
-  pub back : List Token
-  pub parts : tokens ≡ before ++ back
-  pub begins : first.start ≡ at + bytes_of before
-  pub named : begins_with_name back ≡ true
-  pub apart : point_behind number point before ≡ false
-  pub within : Within at (at + bytes_of before) kept
-  pub left : pieces_from part (at + bytes_of before) (drop (bytes_of before) t) back ≡ first ∷ more
-  pub utf8 : IsUtf8 (drop (bytes_of before) t)
-  pub read : AreTokensOf back (chars (drop (bytes_of before) t))
-  pub opens : List Open
-  pub fine : fault_from opens (at + bytes_of before) (drop (bytes_of before) t) back ≡ None
-
--- The pieces of the first token of a text begin in its bytes.
-pub token_within : (part : SpanPart) (next : Option TokenKind) (at : ℕ) (t : List ℕ) (token : Token) (tokens : List Token) → IsUtf8 t → AreTokensOf (token ∷ tokens) (chars t)
-    → Within at (at + token.len) (pieces_of part token.kind next at (take token.len t))
-token_within part next at t token tokens utf8 read =
-    let chunks = source t (token ∷ tokens) utf8 read in
-    let behind = behind_token t token tokens utf8 read in
-    subst (λ n. Within at (at + n) (pieces_of part token.kind next at (take token.len t))) behind.size
-    (chunk_within part _ (source_chunks (drop token.len t) tokens) next at chunks.are.0)
-
--- Pieces of a token and others after it begin before the end of the others.
-pub both_within : (at len n : ℕ) (pieces left : List Piece) → Within at (at + len) pieces → Within (at + len) ((at + len) + n) left → Within at (at + (len + n)) (pieces ++ left)
-both_within at len n pieces left here there =
-    within_append at (at + (len + n)) pieces left (within_wider at (at + len) at (at + (len + n)) pieces (omega arith) (omega arith) here)
-    (within_wider (at + len) ((at + len) + n) at (at + (len + n)) left (omega arith) (omega arith) there)
-
--- One more token precedes the call.
-one_more : (part : SpanPart) (at : ℕ) (t : List ℕ) (token : Token) (tokens : List Token) (number point : Bool) (pieces left kept : List Piece) (first : Piece) (more : List Piece)
-    → kept ≡ pieces ++ left → Within at (at + token.len) pieces
-    → FrontOf part (at + token.len) (drop token.len t) tokens (is_number token.kind) (number && is_dot token.kind) left first more
-    → FrontOf part at t (token ∷ tokens) number point kept first more
-one_more part at t token tokens number point pieces left kept first more are here it =
-    let n = bytes_of it.before in
-    let place : (at + token.len) + n ≡ at + (token.len + n) = omega arith in
-    let text : drop n (drop token.len t) ≡ drop (token.len + n) t = drop-drop n token.len t in
-    record {
-      before = token ∷ it.before;
-      back = it.back;
-      parts = ap (λ ts. token ∷ ts) it.parts;
-      begins = it.begins ∙ place;
-      named = it.named;
-      apart = it.apart;
-      within = subst (Within at (at + (token.len + n))) (sym are) (both_within at token.len n pieces left here it.within);
-      left = ap₂ (λ a u. pieces_from part a u it.back) (sym place) (sym text) ∙ it.left;
-      utf8 = subst IsUtf8 text it.utf8;
-      read = subst (λ u. AreTokensOf it.back (chars u)) text it.read;
-      opens = it.opens;
-      fine = ap₂ (λ a u. fault_from it.opens a u it.back) (sym place) (sym text) ∙ it.fine;
-    }
+-- chunks that begin at a byte: those before a call, and those from its begin on
+pub record FrontOf (part : SpanPart) (at : ℕ) (chunks : List Chunk) (number point : Bool) (kept : List Piece) (first : Piece) (more : List Piece) : Type 0 where
+  pub before : List Chunk
+  pub back : List Chunk
+  pub parts : chunks ≡ before ++ back
+  pub means : means_of before ≡ sorts kept
+  pub named : begins_with_name (tokens_of back) ≡ true
+  pub apart : point_behind number point (tokens_of before) ≡ false
+  pub left : pieces_in part (at + length (joined before)) back ≡ first ∷ more
+  pub begins : first.start ≡ at + length (joined before)
 
 -- Pieces in which no call begins precede the call.
 within : (pieces rest kept : List Piece) (first second : Piece) (more : List Piece) → NoCall pieces → is_name first.sort ≡ true → is_call_sign second.sort ≡ true
@@ -183,69 +157,70 @@ within (p ∷ q ∷ pieces) rest (k ∷ kept) first second more free named signe
     let (left, same, behind) = within (q ∷ pieces) rest kept first second more free.1 named signed (tail_of e) in
     (left, ap₂ (λ x xs. x ∷ xs) (sym (head_of e)) same, behind)
 
--- The token at which a call begins, with the others before it.
-pub front : (part : SpanPart) (tokens : List Token) (at : ℕ) (t : List ℕ) (opens : List Open) (before : List Sort) (number point : Bool) (kept : List Piece) (first second : Piece) (more : List Piece)
-    → IsUtf8 t → AreTokensOf tokens (chars t) → fault_from opens at t tokens ≡ None
+-- The chunk at which a call begins, with the others before it.
+pub front : (part : SpanPart) (chunks : List Chunk) (at : ℕ) (before : List Sort) (number point : Bool) (kept : List Piece) (first second : Piece) (more : List Piece)
+    → AreChunks chunks → AreSound chunks
     → (number ≡ true → follows_value before ≡ true) → (point ≡ true → may_begin before ≡ false)
     → is_name first.sort ≡ true → is_call_sign second.sort ≡ true → may_begin (behind_pieces kept before) ≡ true
-    → pieces_from part at t tokens ≡ kept ++ (first ∷ second ∷ more) → FrontOf part at t tokens number point kept first (second ∷ more)
-front part [] at t opens before number point [] first second more utf8 read fine numbers points named signed may e = absurd (cc e)
-front part [] at t opens before number point (k ∷ kept) first second more utf8 read fine numbers points named signed may e = absurd (cc e)
-front part (token ∷ tokens) at t opens before number point kept first second more utf8 read fine numbers points named signed may e =
-    let stepped = steps opens at t token tokens fine in
-    let behind = behind_token t token tokens utf8 read in
-    go stepped (λ sorts left n p m others. front part tokens (at + token.len) (drop token.len t) stepped.next sorts (is_number token.kind) (number && is_dot token.kind) left first second more
-    behind.utf8 behind.read stepped.fine n p named signed m others)
-    (pieces_of part token.kind (next_kind tokens) at (take token.len t)) kept (pieces_told part (next_kind tokens) at (take token.len t) token.kind).shape refl e may
+    → pieces_in part at chunks ≡ kept ++ (first ∷ second ∷ more) → FrontOf part at chunks number point kept first (second ∷ more)
+front part [] at before number point [] first second more chunks sound numbers points named signed may e = absurd (cc e)
+front part [] at before number point (k ∷ kept) first second more chunks sound numbers points named signed may e = absurd (cc e)
+front part (x ∷ xs) at before number point kept first second more are sound numbers points named signed may e =
+    go (λ sorts left n p m others. front part xs (at + length x.text) sorts (is_number x.kind) (number && is_dot x.kind) left first second more are.1 sound.1 n p named signed m others)
+    (pieces_of part x.kind (next_kind (tokens_of xs)) at x.text) kept (pieces_told part (next_kind (tokens_of xs)) at x.text x.kind).shape refl e may
   where
-    -- the call begins after the token
+    rest : List Piece
+    rest = pieces_in part (at + length x.text) xs
+
+    -- if the call begins after the chunk, one more chunk precedes it
     Later : Type 0
     Later =
-        (sorts : List Sort) (left : List Piece) → (is_number token.kind ≡ true → follows_value sorts ≡ true) → ((number && is_dot token.kind) ≡ true → may_begin sorts ≡ false)
-        → may_begin (behind_pieces left sorts) ≡ true → pieces_from part (at + token.len) (drop token.len t) tokens ≡ left ++ (first ∷ second ∷ more)
-        → FrontOf part (at + token.len) (drop token.len t) tokens (is_number token.kind) (number && is_dot token.kind) left first (second ∷ more)
+        (sorts : List Sort) (left : List Piece) → (is_number x.kind ≡ true → follows_value sorts ≡ true) → ((number && is_dot x.kind) ≡ true → may_begin sorts ≡ false)
+        → may_begin (behind_pieces left sorts) ≡ true → rest ≡ left ++ (first ∷ second ∷ more) → FrontOf part (at + length x.text) xs (is_number x.kind) (number && is_dot x.kind) left first (second ∷ more)
 
-    rest : List Piece
-    rest = pieces_from part (at + token.len) (drop token.len t) tokens
-
-    on : Steps opens at t token tokens → Later → (pieces kept left : List Piece) → pieces ≡ pieces_of part token.kind (next_kind tokens) at (take token.len t) → kept ≡ pieces ++ left → rest ≡ left ++ (first ∷ second ∷ more)
-        → may_begin (behind_pieces kept before) ≡ true → FrontOf part at t (token ∷ tokens) number point kept first (second ∷ more)
-    on stepped later pieces kept left are same others may =
-        let sound = not_bad opens at token.kind (take token.len t) stepped.next stepped.takes in
-        one_more part at t token tokens number point pieces left kept first (second ∷ more) same
-        (subst (Within at (at + token.len)) (sym are) (token_within part (next_kind tokens) at t token tokens utf8 read))
-        (later (behind_pieces pieces before) left
-        (λ is. ap (λ ps. follows_value (behind_pieces ps before)) are ∙ number_value part (next_kind tokens) at token.kind (take token.len t) before sound is)
-        (λ is. let (was, dot) = and_parts number (is_dot token.kind) is in ap (λ ps. may_begin (behind_pieces ps before)) are ∙ point_sign part (next_kind tokens) at token.kind (take token.len t) before dot (numbers was))
-        (ap may_begin (sym (ap (λ ps. behind_pieces ps before) same ∙ behind_both pieces left before)) ∙ may) others)
+    on : Later → (pieces kept left : List Piece) → pieces ≡ pieces_of part x.kind (next_kind (tokens_of xs)) at x.text → kept ≡ pieces ++ left → rest ≡ left ++ (first ∷ second ∷ more)
+        → may_begin (behind_pieces kept before) ≡ true → FrontOf part at (x ∷ xs) number point kept first (second ∷ more)
+    on later pieces kept left here same others may =
+        let it =
+        later (behind_pieces pieces before) left
+        (λ is. ap (λ ps. follows_value (behind_pieces ps before)) here ∙ number_value part (next_kind (tokens_of xs)) at x.kind x.text before sound.0 is)
+        (λ is. let (was, dot) = and_parts number (is_dot x.kind) is in ap (λ ps. may_begin (behind_pieces ps before)) here ∙ point_sign part (next_kind (tokens_of xs)) at x.kind x.text before dot (numbers was))
+        (ap may_begin (sym (ap (λ ps. behind_pieces ps before) same ∙ behind_both pieces left before)) ∙ may) others in
+        let place : (at + length x.text) + length (joined it.before) ≡ at + length (x.text ++ joined it.before) = omega (arith, length-append x.text (joined it.before)) in
+        record {
+          before = x ∷ it.before;
+          back = it.back;
+          parts = ap (λ cs. x ∷ cs) it.parts;
+          means = ap₂ (λ a b. a ++ b) (sym (are.0.means part at) ∙ ap sorts (sym here)) it.means ∙ sym (ap sorts same ∙ sorts-append pieces left);
+          named = it.named;
+          apart = it.apart;
+          left = ap (λ a. pieces_in part a it.back) (sym place) ∙ it.left;
+          begins = it.begins ∙ place;
+        }
 
     no_point : (b : Bool) → (b ≡ true → may_begin before ≡ false) → may_begin before ≡ true → b ≡ false
     no_point true h k = absurd (false≢true (sym (h refl) ∙ k))
     no_point false h k = refl
 
-    go : Steps opens at t token tokens → Later → (pieces kept : List Piece) → Shape token.kind at pieces → pieces ≡ pieces_of part token.kind (next_kind tokens) at (take token.len t)
-        → pieces ++ rest ≡ kept ++ (first ∷ second ∷ more) → may_begin (behind_pieces kept before) ≡ true → FrontOf part at t (token ∷ tokens) number point kept first (second ∷ more)
-    go stepped later (p ∷ []) [] (word _ is start) are e may =
+    go : Later → (pieces kept : List Piece) → Shape x.kind at pieces → pieces ≡ pieces_of part x.kind (next_kind (tokens_of xs)) at x.text
+        → pieces ++ rest ≡ kept ++ (first ∷ second ∷ more) → may_begin (behind_pieces kept before) ≡ true → FrontOf part at (x ∷ xs) number point kept first (second ∷ more)
+    go later (p ∷ []) [] (word _ is start) here e may =
         let none : at + 0 ≡ at = omega arith in
         record {
           before = [];
-          back = token ∷ tokens;
+          back = x ∷ xs;
           parts = refl;
-          begins = ap (λ x. x.start) (sym (head_of e)) ∙ start ∙ sym none;
+          means = refl;
           named = is;
           apart = no_point point points may;
-          within = tt;
-          left = ap (λ a. pieces_from part a t (token ∷ tokens)) none ∙ ap (λ ps. ps ++ rest) (sym are) ∙ e;
-          utf8 = utf8;
-          read = read;
-          opens = opens;
-          fine = ap (λ a. fault_from opens a t (token ∷ tokens)) none ∙ fine;
+          left = ap (λ a. pieces_in part a (x ∷ xs)) none ∙ ap (λ ps. ps ++ rest) (sym here) ∙ e;
+          begins = ap (λ q. q.start) (sym (head_of e)) ∙ start ∙ sym none;
         }
-    go stepped later (p ∷ []) (k ∷ kept) (word _ is start) are e may = on stepped later (p ∷ []) (k ∷ kept) kept are (ap (λ x. x ∷ kept) (sym (head_of e))) (tail_of e) may
-    go stepped later (q ∷ p ∷ []) [] (life _ _ spacing is) are e may = absurd (false≢true (sym (ap is_name is) ∙ ap (λ x. is_name x.sort) (head_of e) ∙ named))
-    go stepped later (q ∷ p ∷ []) (k ∷ []) (life _ _ spacing is) are e may = absurd (false≢true (sym (ap (λ x. may_begin (x ∷ before)) (ap (λ x. x.sort) (sym (head_of e)) ∙ is)) ∙ may))
-    go stepped later (q ∷ p ∷ []) (k ∷ k2 ∷ kept) (life _ _ spacing is) are e may =
-        on stepped later (q ∷ p ∷ []) (k ∷ k2 ∷ kept) kept are (ap₂ (λ x y. x ∷ y ∷ kept) (sym (head_of e)) (sym (head_of (tail_of e)))) (tail_of (tail_of e)) may
-    go stepped later pieces kept (none free) are e may =
+    go later (p ∷ []) (k ∷ kept) (word _ is start) here e may = on later (p ∷ []) (k ∷ kept) kept here (ap (λ q. q ∷ kept) (sym (head_of e))) (tail_of e) may
+    go later (q ∷ p ∷ []) [] (life _ _ spacing is) here e may = absurd (false≢true (sym (ap is_name is) ∙ ap (λ r. is_name r.sort) (head_of e) ∙ named))
+    go later (q ∷ p ∷ []) (k ∷ []) (life _ _ spacing is) here e may = absurd (false≢true (sym (ap (λ r. may_begin (r ∷ before)) (ap (λ r. r.sort) (sym (head_of e)) ∙ is)) ∙ may))
+    go later (q ∷ p ∷ []) (k ∷ k2 ∷ kept) (life _ _ spacing is) here e may =
+        on later (q ∷ p ∷ []) (k ∷ k2 ∷ kept) kept here (ap₂ (λ r s. r ∷ s ∷ kept) (sym (head_of e)) (sym (head_of (tail_of e)))) (tail_of (tail_of e)) may
+    go later pieces kept (none free) here e may =
         let (left, same, others) = within pieces rest kept first second more free named signed e in
-        on stepped later pieces kept left are same others may
+        on later pieces kept left here same others may

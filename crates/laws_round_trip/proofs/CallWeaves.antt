@@ -1,204 +1,231 @@
--- Calls that are woven among the pieces of a text are places among its tokens.
-use Rattle.std.proofs.Common.{◌≡◌, ◌+◌, ◌-◌, ◌++◌, ℕ, true, false, List, [], ◌∷◌, drop, None, refl, sym, ap, ap₂, ◌∙◌, subst, arith, append_assoc, append-nil}
+-- Where a call ends among the chunks of a text; calls that are woven among its pieces are cuts among its chunks.
+use Rattle.std.proofs.Common.{◌≡◌, ◌+◌, ◌++◌, ◌⊎◌, inl, inr, ℕ, Bool, true, false, List, [], ◌∷◌, length, Option, Some, refl, sym, ap, ap₂, ◌∙◌, subst, arith, append_assoc, append-nil, length-append, if◌then◌else◌}
 use Rattle.std.proofs.lemmas.Bool.{false≢true}
-use Rattle.std.proofs.lemmas.List.{drop-drop}
-use Rattle.std.specs.Str.{chars, IsUtf8}
-use Rattle.tt_base.specs.Forest.{Forest, Root}
-use Rattle.tt_base.specs.declared.span.SpanPart.{SpanPart}
+use Rattle.std.specs.Str.{IsUtf8}
+use Rattle.laws_round_trip.proofs.Seams.{match_cons, AreSound}
+use Rattle.laws_round_trip.proofs.CallCuts.{front, behind_pieces, ends_as, LastEnds, NoEnd, Told, pieces_told}
+use Rattle.laws_round_trip.proofs.Sources.{head_of, tail_of, are_back, parsed, sound_back}
+use Rattle.laws_round_trip.proofs.Placed.{pieces_in}
+use Rattle.laws_round_trip.proofs.Spliced.{Cuts, whole, cut, Reads, cuts_read, reads_back, reads_fine, pieces_mean}
+use Rattle.laws_round_trip.specs.Calls.{is_last, BeginsCall, IsTaken, IsWoven, ends, keeps, gives_way, is_call_sign, is_name, may_begin}
+use Rattle.laws_round_trip.specs.Splices.{Splice, begins_with_name, replacements_of}
 use Rattle.syntax_edit.specs.Texts.{begun, with_all}
-use Rattle.syntax_lex.specs.Reading.{AreTokensOf, bytes_of}
-use Rattle.syntax_lex.specs.declared.token.Token.{Token}
-use Rattle.laws_round_trip.proofs.CallCuts.{FrontOf, front, behind_pieces, both_within, ends_as}
-use Rattle.laws_round_trip.proofs.CallEnds.{Balanced, EndOf, balanced_trees, call_end}
-use Rattle.laws_round_trip.proofs.Placed.{From, Within, all_from, before_front, from_back}
-use Rattle.laws_round_trip.proofs.Sources.{source, source_chunks}
-use Rattle.laws_round_trip.proofs.Woven.{no_fault_spliced, read_spliced}
-use Rattle.laws_round_trip.specs.Calls.{BeginsCall, IsTaken, IsWoven, ends, keeps, gives_way, is_call_sign, is_name, may_begin}
-use Rattle.laws_round_trip.specs.Splices.{Splice, ArePlaces, IsPlace, before_byte, from_byte, replacements_of, woven}
-use Rattle.syntax_parse.specs.Faults.{fault_from}
-use Rattle.syntax_parse.specs.Parsed.{IsParse, pieces_from}
+use Rattle.syntax_lex.specs.declared.token.DocStyle.TheVariants.{Outer, Inner}
+use Rattle.syntax_lex.specs.declared.token.TokenKind.TheVariants as kinds
+use Rattle.syntax_lex.specs.declared.token.TokenKind.{TokenKind}
+use Rattle.syntax_parse.specs.Faults.{kinds_of}
+use Rattle.syntax_parse.specs.Parsed.{next_kind, IsParse}
+use Rattle.syntax_parse.specs.Pieces.{leaves_of, pieces_as, pieces_of}
 use Rattle.syntax_parse.specs.Refusal.{IsFaultOf}
-use Rattle.syntax_parse.specs.Spelled.{Piece, Sort, spelled}
+use Rattle.syntax_parse.specs.Role.{kind_of, role_in, same_bracket}
+use Rattle.syntax_parse.specs.Spelled.{Piece, Sort, name, sign, value, opening, closing, at_span, spelled}
+use Rattle.syntax_parse.specs.declared.bracket.Bracket.TheVariants.{Parenthesis, Brace, Square}
+use Rattle.syntax_parse.specs.declared.bracket.Bracket.{Bracket}
+use Rattle.syntax_parse.specs.declared.fault.BadToken.{BadToken}
 use Rattle.syntax_parse.specs.declared.fault.Open.{Open}
 use Rattle.syntax_parse.specs.declared.fault.SyntaxFault.{SyntaxFault}
-use Rattle.syntax_unparse.proofs.Chunks.{joined}
+use Rattle.syntax_parse.specs.declared.role.Role.TheVariants.{Bad, Nothing, Opens, Closes, Leaf}
+use Rattle.syntax_parse.specs.declared.role.Role.{Role}
+use Rattle.syntax_unparse.proofs.Chunks.{AreChunks, Chunk, brackets, joined, match, match_as, tokens_of}
 use Rattle.syntax_unparse.specs.Marks.{marks}
 use Rattle.syntax_unparse.specs.Settled.{settled, sorts}
 use Rattle.syntax_unparse.specs.Writable.{IsWritable}
+use Rattle.tt_base.specs.Forest.{Forest, end, leaf, node, Root}
+use Rattle.tt_base.specs.declared.delimiter.DelimiterKind.{DelimiterKind}
+use Rattle.tt_base.specs.declared.leaf.Leaf.TheVariants as leaf_of
+use Rattle.tt_base.specs.declared.span.SpanPart.{SpanPart}
 
--- the first call among pieces that trees replace
-record First (before : List Sort) (pieces : List Piece) (it : Splice) (others : List Splice) (all : List Sort) : Type 0 where
-  kept : List Piece
-  call : List Piece
-  rest : List Piece
-  parts : pieces ≡ kept ++ (call ++ rest)
-  may : may_begin (behind_pieces kept before) ≡ true
-  taken : IsTaken call it.start it.end
-  writable : IsWritable it.trees
-  later : List Sort
-  behind : IsWoven [] rest others later
-  same : all ≡ sorts kept ++ (settled (marks 0 it.trees) ++ later)
+-- what holds after a piece if these brackets are open, innermost first
+abbrev BehindSort : Sort → (opens : List DelimiterKind) → (holds : List DelimiterKind → Type 0) → Type 0
+BehindSort (name text raw) opens holds = holds opens
+BehindSort (sign char spacing) opens holds = holds opens
+BehindSort (value kind symbol suffix) opens holds = holds opens
+BehindSort (opening kind) opens holds = holds (kind ∷ opens)
+BehindSort (closing kind) [] holds = ⊥
+BehindSort (closing kind) (last ∷ opens) holds = (last ≡ kind) × holds opens
+
+-- the brackets of these pieces match, if these are open
+abbrev pub Balanced : (opens : List DelimiterKind) → List Piece → Type 0
+Balanced opens [] = opens ≡ []
+Balanced opens (piece ∷ pieces) = BehindSort piece.sort opens (λ next. Balanced next pieces)
+
+-- The brackets of trees match.
+pub balanced_trees : (trees : Forest) (opens : List DelimiterKind) (more : List Piece) → Balanced opens more → Balanced opens (spelled trees ++ more)
+balanced_trees end opens more h = h
+balanced_trees (leaf (leaf_of.Literal it) rest) opens more h = balanced_trees rest opens more h
+balanced_trees (leaf (leaf_of.Punct it) rest) opens more h = balanced_trees rest opens more h
+balanced_trees (leaf (leaf_of.Ident it) rest) opens more h = balanced_trees rest opens more h
+balanced_trees (node delimiter children rest) opens more h =
+    let close = at_span (closing delimiter.kind) delimiter.close in
+    subst (Balanced (delimiter.kind ∷ opens)) (sym (append_assoc (spelled children) (close ∷ spelled rest) more))
+    (balanced_trees children (delimiter.kind ∷ opens) (close ∷ (spelled rest ++ more)) (refl, balanced_trees rest opens more h))
+
+-- The pieces of a leaf change no brackets.
+leaves_balanced : (part : SpanPart) (next : Option TokenKind) (at : ℕ) (text : List ℕ) (kind : TokenKind) (opens : List DelimiterKind) (more : List Piece)
+    → Balanced opens (leaves_of part kind next at text ++ more) → Balanced opens more
+leaves_balanced part next at text (kinds.LineComment (Some Outer)) opens more h = h.1
+leaves_balanced part next at text (kinds.LineComment (Some Inner)) opens more h = h.1
+leaves_balanced part next at text (kinds.BlockComment (Some Outer) terminated) opens more h = h.1
+leaves_balanced part next at text (kinds.BlockComment (Some Inner) terminated) opens more h = h.1
+leaves_balanced part next at text kind opens more h = h
+
+same_pair : (a b : Bracket) → kind_of a ≡ kind_of b → same_bracket a b ≡ true
+same_pair Parenthesis Parenthesis e = refl
+same_pair Brace Brace e = refl
+same_pair Square Square e = refl
+same_pair a b e = absurd (cc e)
+
+-- the brackets of a chunk match if those of its pieces do
+balances : (part : SpanPart) (next : Option TokenKind) (at : ℕ) (text : List ℕ) (kind : TokenKind) (role : Role) (more : List Piece) (fits : List Bracket → Bool) → ((why : BadToken) → role ≡ Bad why → ⊥)
+    → ((held : List Open) → Balanced (kinds_of held) more → fits (brackets held) ≡ true)
+    → (held : List Open) → Balanced (kinds_of held) (pieces_as role part kind next at text ++ more) → match_as (brackets held) role fits ≡ true
+balances part next at text kind (Bad why) more fits sound tell held h = absurd (sound why refl)
+balances part next at text kind Nothing more fits sound tell held h = tell held h
+balances part next at text kind Leaf more fits sound tell held h = tell held (leaves_balanced part next at text kind (kinds_of held) more h)
+balances part next at text kind (Opens pair) more fits sound tell held h = tell (record { bracket = pair; at = 0 } ∷ held) h
+balances part next at text kind (Closes pair) more fits sound tell [] h = absurd h
+balances part next at text kind (Closes pair) more fits sound tell (last ∷ held) h = ap (λ b. if b then fits (brackets held) else false) (same_pair last.bracket pair h.0) ∙ tell held h.1
+
+-- These pieces end a call, or precede its last piece.
+past_end : (pieces rest front : List Piece) (last : Piece) (behind : List Piece) → NoEnd pieces → is_last last.sort ≡ true → pieces ++ rest ≡ front ++ (last ∷ behind)
+    → ((left : List Piece) × (front ≡ pieces ++ left) × (rest ≡ left ++ (last ∷ behind))) ⊎ ((pieces ≡ front ++ last ∷ []) × (rest ≡ behind))
+past_end [] rest front last behind free is e = inl (front, refl, e)
+past_end (p ∷ []) rest [] last behind free is e = inr (ap (λ x. x ∷ []) (head_of e), tail_of e)
+past_end (p ∷ []) rest (f ∷ front) last behind free is e = inl (front, ap (λ x. x ∷ front) (sym (head_of e)), tail_of e)
+past_end (p ∷ q ∷ pieces) rest [] last behind free is e = absurd (false≢true (sym free.0 ∙ ap (λ x. is_last x.sort) (head_of e) ∙ is))
+past_end (p ∷ q ∷ pieces) rest (f ∷ front) last behind free is e = more (past_end (q ∷ pieces) rest front last behind free.1 is (tail_of e))
+  where
+    more : ((left : List Piece) × (front ≡ (q ∷ pieces) ++ left) × (rest ≡ left ++ (last ∷ behind))) ⊎ ((q ∷ pieces ≡ front ++ last ∷ []) × (rest ≡ behind))
+        → ((left : List Piece) × (f ∷ front ≡ (p ∷ q ∷ pieces) ++ left) × (rest ≡ left ++ (last ∷ behind))) ⊎ ((p ∷ q ∷ pieces ≡ (f ∷ front) ++ last ∷ []) × (rest ≡ behind))
+    more (inl (left, same, others)) = inl (left, ap₂ (λ x xs. x ∷ xs) (sym (head_of e)) same, others)
+    more (inr (same, others)) = inr (ap₂ (λ x xs. x ∷ xs) (head_of e) same, others)
+
+-- The last of them ends where they end.
+last_ends : (pieces front : List Piece) (last : Piece) (stop : ℕ) → LastEnds stop pieces → pieces ≡ front ++ last ∷ [] → last.end ≡ stop
+last_ends [] [] last stop stops e = absurd (cc e)
+last_ends [] (f ∷ front) last stop stops e = absurd (cc e)
+last_ends (p ∷ []) [] last stop stops e = ap (λ x. x.end) (sym (head_of e)) ∙ stops
+last_ends (p ∷ []) (f ∷ front) last stop stops e = last_ends [] front last stop tt (tail_of e)
+last_ends (p ∷ q ∷ pieces) [] last stop stops e = let none : q ∷ pieces ≡ [] = tail_of e in cc
+last_ends (p ∷ q ∷ pieces) (f ∷ front) last stop stops e = last_ends (q ∷ pieces) front last stop stops (tail_of e)
+
+none_open : (held : List Open) → Balanced (kinds_of held) [] → match (brackets held) [] ≡ true
+none_open [] h = refl
+none_open (last ∷ held) h = absurd (cc h)
+
+-- the chunks of a call at the front of others, and those after the call
+pub record EndOf (part : SpanPart) (at : ℕ) (chunks : List Chunk) (call : List Piece) (stop : ℕ) (pieces : List Piece) : Type 0 where
+  pub inside : List Chunk
+  pub behind : List Chunk
+  pub parts : chunks ≡ inside ++ behind
+  pub ends : stop ≡ at + length (joined inside)
+  pub matched : (held : List Open) → Balanced (kinds_of held) call → match (brackets held) inside ≡ true
+  pub left : pieces_in part (at + length (joined inside)) behind ≡ pieces
+
+-- The last chunk of a call.
+pub call_end : (part : SpanPart) (chunks : List Chunk) (at : ℕ) (front : List Piece) (last : Piece) (behind : List Piece) → AreChunks chunks → AreSound chunks → is_last last.sort ≡ true
+    → pieces_in part at chunks ≡ front ++ (last ∷ behind) → EndOf part at chunks (front ++ last ∷ []) last.end behind
+call_end part [] at [] last behind are sound is e = absurd (cc e)
+call_end part [] at (f ∷ front) last behind are sound is e = absurd (cc e)
+call_end part (x ∷ xs) at front last behind are sound is e = go (λ left others. call_end part xs (at + length x.text) left last behind are.1 sound.1 is others) (past_end pieces rest front last behind told.ends is e)
+  where
+    pieces : List Piece
+    pieces = pieces_of part x.kind (next_kind (tokens_of xs)) at x.text
+
+    rest : List Piece
+    rest = pieces_in part (at + length x.text) xs
+
+    told : Told x.kind at (at + length x.text) pieces
+    told = pieces_told part (next_kind (tokens_of xs)) at x.text x.kind
+
+    -- one more chunk is in the call
+    one : (call left : List Piece) → call ≡ pieces ++ left → EndOf part (at + length x.text) xs left last.end behind → EndOf part at (x ∷ xs) call last.end behind
+    one call left same it =
+        let place : (at + length x.text) + length (joined it.inside) ≡ at + length (x.text ++ joined it.inside) = omega (arith, length-append x.text (joined it.inside)) in
+        record {
+          inside = x ∷ it.inside;
+          behind = it.behind;
+          parts = ap (λ cs. x ∷ cs) it.parts;
+          ends = it.ends ∙ place;
+          matched = λ held h.
+              match_cons (brackets held) x it.inside
+              ∙ ap (λ role. match_as (brackets held) role (λ next. match next it.inside)) (sym are.0.role)
+              ∙ balances part (next_kind (tokens_of xs)) at x.text x.kind (role_in x.kind x.text) left (λ next. match next it.inside) sound.0 it.matched held (subst (Balanced (kinds_of held)) same h);
+          left = ap (λ a. pieces_in part a it.behind) (sym place) ∙ it.left;
+        }
+
+    go : ((left : List Piece) → rest ≡ left ++ (last ∷ behind) → EndOf part (at + length x.text) xs (left ++ last ∷ []) last.end behind)
+        → ((left : List Piece) × (front ≡ pieces ++ left) × (rest ≡ left ++ (last ∷ behind))) ⊎ ((pieces ≡ front ++ last ∷ []) × (rest ≡ behind)) → EndOf part at (x ∷ xs) (front ++ last ∷ []) last.end behind
+    go later (inl (left, same, others)) =
+        one (front ++ last ∷ []) (left ++ last ∷ []) (ap (λ ps. ps ++ last ∷ []) same ∙ append_assoc pieces left (last ∷ [])) (later left others)
+    go later (inr (same, others)) =
+        let none : (at + length x.text) + 0 ≡ at + length x.text = omega arith in
+        one (front ++ last ∷ []) [] (sym same ∙ sym (append-nil pieces)) (record {
+          inside = [];
+          behind = xs;
+          parts = refl;
+          ends = last_ends pieces front last (at + length x.text) told.stops same ∙ sym none;
+          matched = none_open;
+          left = ap (λ a. pieces_in part a xs) none ∙ others;
+        })
+
+-- the first call among pieces that trees replace: the pieces before it, its pieces, those after it, and what is woven of these
+abbrev First : (before : List Sort) (pieces : List Piece) (it : Splice) (others : List Splice) (all : List Sort) → Type 0
+First before pieces it others all =
+    (kept : List Piece) × (call : List Piece) × (rest : List Piece) × (later : List Sort) × (pieces ≡ kept ++ (call ++ rest)) × (may_begin (behind_pieces kept before) ≡ true)
+    × IsTaken call it.start it.end × IsWritable it.trees × IsWoven [] rest others later × (all ≡ sorts kept ++ (settled (marks 0 it.trees) ++ later))
 
 first_call : {before : List Sort} {pieces : List Piece} {it : Splice} {others : List Splice} {all : List Sort} → IsWoven before pieces (it ∷ others) all → First before pieces it others all
 first_call (keeps {piece = piece} is) =
-    let first = first_call is in
-    record {
-      kept = piece ∷ first.kept;
-      call = first.call;
-      rest = first.rest;
-      parts = ap (λ ps. piece ∷ ps) first.parts;
-      may = first.may;
-      taken = first.taken;
-      writable = first.writable;
-      later = first.later;
-      behind = first.behind;
-      same = ap (λ ss. piece.sort ∷ ss) first.same;
-    }
-first_call (gives_way {call = call} {pieces = rest} {woven = later} may taken writable is) = record {
-  kept = [];
-  call = call;
-  rest = rest;
-  parts = refl;
-  may = may;
-  taken = taken;
-  writable = writable;
-  later = later;
-  behind = is;
-  same = refl;
-}
+    let (kept, call, rest, later, parts, may, taken, writable, behind, same) = first_call is in
+    (piece ∷ kept, call, rest, later, ap (λ ps. piece ∷ ps) parts, may, taken, writable, behind, ap (λ ss. piece.sort ∷ ss) same)
+first_call (gives_way {call = call} {pieces = rest} {woven = later} may taken writable is) = ([], call, rest, later, refl, may, taken, writable, is, refl)
 
 no_call : {before : List Sort} {pieces : List Piece} {all : List Sort} → IsWoven before pieces [] all → all ≡ sorts pieces
 no_call ends = refl
 no_call (keeps {piece = piece} is) = ap (λ ss. piece.sort ∷ ss) (no_call is)
 
 -- a call begins with a name and a sign
-record Begins (start : ℕ) (call : List Piece) : Type 0 where
-  first : Piece
-  second : Piece
-  more : List Piece
-  are : call ≡ first ∷ second ∷ more
-  begins : first.start ≡ start
-  named : is_name first.sort ≡ true
-  signed : is_call_sign second.sort ≡ true
-
-begins_call : (start : ℕ) (call : List Piece) → BeginsCall start call → Begins start call
+begins_call : (start : ℕ) (call : List Piece) → BeginsCall start call → (first : Piece) × (second : Piece) × (more : List Piece) × (call ≡ first ∷ second ∷ more) × (first.start ≡ start) × (is_name first.sort ≡ true) × (is_call_sign second.sort ≡ true)
 begins_call start [] h = absurd h
 begins_call start (first ∷ []) h = absurd h
-begins_call start (first ∷ second ∷ more) h = record { first = first; second = second; more = more; are = refl; begins = h.0; named = h.1; signed = h.2 }
+begins_call start (first ∷ second ∷ more) h = (first, second, more, refl, h.0, h.1, h.2)
 
--- All pieces of a text that begins at a byte begin there or after it.
-tokens_from : (part : SpanPart) (at : ℕ) (t : List ℕ) (tokens : List Token) → IsUtf8 t → AreTokensOf tokens (chars t) → From at (pieces_from part at t tokens)
-tokens_from part at t tokens utf8 read =
-    let chunks = source t tokens utf8 read in
-    subst (λ u. From at (pieces_from part at u tokens)) chunks.text_is
-    (subst (λ ts. From at (pieces_from part at (joined (source_chunks t tokens)) ts)) chunks.tokens_are (all_from part at (source_chunks t tokens) chunks.are))
-
--- splices are places, and the text with them is read as what is woven
-record Places (splices : List Splice) (at : ℕ) (t : List ℕ) (tokens : List Token) (pieces : List Piece) (all : List Sort) : Type 0 where
-  are : ArePlaces splices at t tokens
-  same : woven splices pieces ≡ all
-
--- The first call, if the others are done.
-module _ (it : Splice) (others : List Splice) (part : SpanPart) (tokens : List Token) (at : ℕ) (t : List ℕ) (pieces : List Piece) (all : List Sort) (utf8 : IsUtf8 t) (read : AreTokensOf tokens (chars t))
-    (first : First [] pieces it others all) (call : Begins it.start first.call) (front : List Piece) (last : Piece) (whole : first.call ≡ front ++ last ∷ []) (stops : last.end ≡ it.end)
-    (f : FrontOf part at t tokens false false first.kept call.first (call.second ∷ (call.more ++ first.rest)))
-    (e : EndOf part (at + bytes_of f.before) (drop (bytes_of f.before) t) f.back 0 [] (front ++ last ∷ []) last.end first.rest) where
-  -- how many bytes precede the call, and how many it has
-  abbrev n : ℕ
-  n = bytes_of f.before
-
-  abbrev m : ℕ
-  m = bytes_of e.inside
-
-  start : it.start ≡ at + n
-  start = sym call.begins ∙ f.begins
-
-  stop : it.end ≡ (at + n) + m
-  stop = sym stops ∙ e.ends
-
-  place : IsPlace it at t tokens
-  place = record {
-    before = f.before;
-    inside = e.inside;
-    behind = e.behind;
-    parts = f.parts ∙ ap (λ ts. f.before ++ ts) e.parts;
-    begins = start;
-    ends = stop ∙ ap (λ k. k + m) (sym start);
-    named = sym e.first ∙ f.named;
-    matched = e.matched;
-    apart = ends_as f.before ∙ f.apart;
-    writable = first.writable;
-  }
-
-  left : drop m (drop n t) ≡ drop (it.end - at) t
-  left = drop-drop m n t ∙ ap (λ k. drop k t) (more stop)
-    where
-      more : it.end ≡ (at + n) + m → n + m ≡ it.end - at
-      more s = omega (arith, s)
-
-  -- the pieces of the call, and those after it
-  behind_kept : From it.start (first.call ++ first.rest)
-  behind_kept =
-      subst (λ k. From k (first.call ++ first.rest)) (sym start)
-      (subst (From (at + n)) (f.left ∙ ap (λ ps. ps ++ first.rest) (sym call.are)) (tokens_from part (at + n) (drop n t) f.back f.utf8 f.read))
-
-  behind_call : From it.end first.rest
-  behind_call = subst (λ k. From k first.rest) (sym stop) (subst (From ((at + n) + m)) e.left (tokens_from part ((at + n) + m) (drop m (drop n t)) e.behind e.utf8 e.read))
-
-  in_front : before_byte it.start pieces ≡ first.kept
-  in_front =
-      ap (before_byte it.start) first.parts
-      ∙ before_front at it.start first.kept (first.call ++ first.rest) (subst (λ k. Within at k first.kept) (sym start) f.within) behind_kept
-
-  at_back : from_byte it.end pieces ≡ first.rest
-  at_back =
-      ap (from_byte it.end) (first.parts ∙ sym (append_assoc first.kept first.call first.rest))
-      ∙ from_back at it.end (first.kept ++ first.call) first.rest both behind_call
-    where
-      both : Within at it.end (first.kept ++ first.call)
-      both =
-          subst (λ k. Within at k (first.kept ++ first.call)) (sum stop)
-          (both_within at n m first.kept first.call f.within (subst (Within (at + n) ((at + n) + m)) (sym whole) e.within))
-        where
-          sum : it.end ≡ (at + n) + m → at + (n + m) ≡ it.end
-          sum s = omega (arith, s)
-
-  one_place : Places others ((at + n) + m) (drop m (drop n t)) e.behind first.rest first.later → Places (it ∷ others) at t tokens pieces all
-  unfolding place
-  one_place later = record {
-    are = (place, subst (λ k. ArePlaces others k (drop (it.end - at) t) e.behind) (sym stop) (subst (λ u. ArePlaces others ((at + n) + m) u e.behind) left later.are));
-    same =
-        ap₂ (λ a b. sorts a ++ (settled (marks 0 it.trees) ++ woven others b)) in_front at_back
-        ∙ ap (λ ss. sorts first.kept ++ (settled (marks 0 it.trees) ++ ss)) later.same
-        ∙ sym first.same;
-  }
-
--- Calls that are woven among pieces are places.
-places : (splices : List Splice) (part : SpanPart) (tokens : List Token) (at : ℕ) (t : List ℕ) (opens : List Open) (pieces : List Piece) (all : List Sort) → IsUtf8 t → AreTokensOf tokens (chars t)
-    → fault_from opens at t tokens ≡ None → pieces_from part at t tokens ≡ pieces → IsWoven [] pieces splices all → Places splices at t tokens pieces all
-places [] part tokens at t opens pieces all utf8 read fine are is = record { are = tt; same = sym (no_call is) }
-places (it ∷ others) part tokens at t opens pieces all utf8 read fine are is =
-    let first = first_call is in
-    let call = begins_call it.start first.call first.taken.begins in
-    let (last_front, last, whole, stops, closed) = first.taken.ends in
-    let f = front part tokens at t opens [] false false first.kept call.first call.second (call.more ++ first.rest) utf8 read fine (λ e. absurd (false≢true e)) (λ e. absurd (false≢true e))
-    call.named call.signed first.may (are ∙ first.parts ∙ ap (λ c. first.kept ++ (c ++ first.rest)) call.are) in
-    let trees : Forest = first.taken.trees in
-    let matched : Balanced [] (last_front ++ last ∷ []) = subst (Balanced []) (append-nil (spelled trees) ∙ sym first.taken.spelled ∙ whole) (balanced_trees trees [] [] refl) in
-    let e = call_end part f.back (at + bytes_of f.before) (drop (bytes_of f.before) t) f.opens 0 [] last_front last first.rest f.utf8 f.read f.fine closed matched
-    (f.left ∙ ap (λ c. c ++ first.rest) (sym call.are ∙ whole) ∙ append_assoc last_front (last ∷ []) first.rest) in
-    one_place it others part tokens at t pieces all utf8 read first call last_front last whole stops f e
-    (places others part e.behind ((at + bytes_of f.before) + bytes_of e.inside) (drop (bytes_of e.inside) (drop (bytes_of f.before) t)) e.opens first.rest first.later e.utf8 e.read e.fine e.left first.behind)
+-- Calls that are woven among pieces are cuts.
+calls_cut : (part : SpanPart) (splices : List Splice) (at : ℕ) (chunks : List Chunk) (pieces : List Piece) (all : List Sort) → AreChunks chunks → AreSound chunks
+    → pieces_in part at chunks ≡ pieces → IsWoven [] pieces splices all → Cuts splices at chunks all
+calls_cut part [] at chunks pieces all are sound same is = subst (Cuts [] at chunks) (sym (pieces_mean part at chunks are) ∙ ap sorts same ∙ sym (no_call is)) whole
+calls_cut part (it ∷ others) at chunks pieces all are sound same is =
+    let (kept, call, rest, later, parts, may, taken, writable, behind, whole_is) = first_call is in
+    let (first, second, more, begins, start, named, signed) = begins_call it.start call taken.begins in
+    let (fronts, last, whole_call, stops, closed) = taken.ends in
+    let f = front part chunks at [] false false kept first second (more ++ rest) are sound (λ e. absurd (false≢true e)) (λ e. absurd (false≢true e)) named signed may
+    (same ∙ parts ∙ ap (λ c. kept ++ (c ++ rest)) begins) in
+    let backs = are_back f.before f.back (subst AreChunks f.parts are) in
+    let sounds = sound_back f.before f.back (subst AreSound f.parts sound) in
+    let e = call_end part f.back (at + length (joined f.before)) fronts last rest backs sounds closed
+    (f.left ∙ ap (λ c. c ++ rest) (sym begins ∙ whole_call) ∙ append_assoc fronts (last ∷ []) rest) in
+    let trees : Forest = taken.trees in
+    let balanced : Balanced [] (fronts ++ last ∷ []) = subst (Balanced []) (append-nil (spelled trees) ∙ sym taken.spelled ∙ whole_call) (balanced_trees trees [] [] refl) in
+    let begin : it.start ≡ at + length (joined f.before) = sym start ∙ f.begins in
+    let stop : it.end ≡ (at + length (joined f.before)) + length (joined e.inside) = sym stops ∙ e.ends in
+    let others_cut = calls_cut part others it.end e.behind rest later (are_back e.inside e.behind (subst AreChunks e.parts backs)) (sound_back e.inside e.behind (subst AreSound e.parts sounds))
+    (ap (λ a. pieces_in part a e.behind) stop ∙ e.left) behind in
+    subst (λ cs. Cuts (it ∷ others) at cs all) (sym (f.parts ∙ ap (λ cs. f.before ++ cs) e.parts))
+    (subst (Cuts (it ∷ others) at (f.before ++ (e.inside ++ e.behind))) (ap (λ ss. ss ++ (settled (marks 0 it.trees) ++ later)) f.means ∙ sym whole_is)
+    (cut f.before e.inside e.behind begin (stop ∙ ap (λ a. a + length (joined e.inside)) (sym begin)) (ap (λ cs. begins_with_name (tokens_of cs)) (sym e.parts) ∙ f.named) (e.matched [] balanced) (ends_as (tokens_of f.before) ∙ f.apart) writable others_cut))
 
 -- So a text in which trees replace such calls is read as what is woven, and has no fault of syntax.
+calls_read : (part : SpanPart) (text : List ℕ) (root : Root) (splices : List Splice) (all : List Sort) → IsUtf8 text → IsParse part text root → IsWoven [] (spelled root.children) splices all
+    → Reads (with_all (replacements_of splices) (begun text)) all
+calls_read part text root splices all utf8 parse is =
+    let it = parsed part text root utf8 parse in
+    cuts_read part text parse.tokens root.children splices all it (calls_cut part splices 0 it.chunks (spelled root.children) all it.are it.sound (sym it.pieces) is)
+
 pub read_woven : (part other : SpanPart) (text : List ℕ) (root again : Root) (splices : List Splice) (all : List Sort) → IsUtf8 text → IsParse part text root → IsWoven [] (spelled root.children) splices all
     → IsParse other (with_all (replacements_of splices) (begun text)) again → sorts (spelled again.children) ≡ all
-read_woven part other text root again splices all utf8 parse is new =
-    let found = places splices part parse.tokens 0 text [] (spelled root.children) all utf8 parse.read parse.fine (sym parse.spells) is in
-    read_spliced part other text root again splices utf8 parse found.are new ∙ found.same
+read_woven part other text root again splices all utf8 parse is new = reads_back other _ again all (calls_read part text root splices all utf8 parse is) new
 
 pub no_fault_woven : (part : SpanPart) (text : List ℕ) (root : Root) (splices : List Splice) (all : List Sort) (fault : SyntaxFault) → IsUtf8 text → IsParse part text root
     → IsWoven [] (spelled root.children) splices all → IsFaultOf (with_all (replacements_of splices) (begun text)) fault → ⊥
-no_fault_woven part text root splices all fault utf8 parse is found =
-    no_fault_spliced part text root splices fault utf8 parse
-    (places splices part parse.tokens 0 text [] (spelled root.children) all utf8 parse.read parse.fine (sym parse.spells) is).are found
+no_fault_woven part text root splices all fault utf8 parse is found = reads_fine _ all fault (calls_read part text root splices all utf8 parse is) found

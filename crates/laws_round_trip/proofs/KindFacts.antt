@@ -1,32 +1,36 @@
--- Facts about a token by its kind, and about its kind by its first characters.
-use Rattle.std.proofs.Common.{◌≡◌, ◌⊎◌, inl, inr, ℕ, ◌+◌, Bool, true, false, ◌==◌, ◌||◌, ◌&&◌, not, List, [], ◌∷◌, length, Option, None, Some, refl, sym, ap, ap₂, ◌∙◌}
-use Rattle.std.proofs.lemmas.Bool.{false≢true}
-use Rattle.tt_base.specs.declared.span.SpanPart.{SpanPart}
-use Rattle.syntax_lex.specs.Class.{is_decimal, is_emoji_mark, is_id_continue, is_whitespace}
-use Rattle.syntax_lex.specs.Front.{behind, first, second, skip}
-use Rattle.syntax_lex.specs.Opening.{opening, symbol}
-use Rattle.syntax_lex.specs.Quoted.{apostrophe, begins_lifetime, begins_raw_lifetime, literal}
-use Rattle.syntax_lex.specs.Reading.{reading, reading_of}
-use Rattle.syntax_lex.specs.Word.{begins_literal, word}
-use Rattle.syntax_lex.specs.declared.opening.Family.{Family}
-use Rattle.syntax_lex.specs.declared.opening.Family.TheVariants as opens
-use Rattle.syntax_lex.specs.declared.token.TokenKind.{TokenKind}
-use Rattle.syntax_lex.specs.declared.token.TokenKind.TheVariants as kinds
+-- Facts about a token by its kind, and what the first characters of a text say about its first token.
+use Rattle.std.proofs.Common.{◌≡◌, ◌⊎◌, inl, inr, ℕ, ◌+◌, true, false, List, [], ◌∷◌, length, Option, None, Some, refl, sym, ap, ◌∙◌, ◌==◌, not, ◌++◌, ap₂}
+use Rattle.std.proofs.lemmas.Bool.{eqb-true, false≢true, not-false}
 use Rattle.laws_round_trip.proofs.Roles.{leaf_valid, literal_closed, literal_two}
-use Rattle.laws_round_trip.specs.Kept.{is_sound}
+use Rattle.laws_round_trip.proofs.Tokens.{block_more}
+use Rattle.laws_round_trip.proofs.ToldKinds.{apostrophe_kind, word_kind}
+use Rattle.laws_round_trip.specs.Kept.{is_sound, is_line}
 use Rattle.laws_tokens.proofs.KeepFacts.{not_true}
 use Rattle.laws_tokens.proofs.Tables.{Known, known, opening_facts, symbol_passes}
 use Rattle.laws_tokens.specs.Stops.{is_ended}
-use Rattle.laws_round_trip.proofs.ToldKinds.{lifetime_as, named_as, word_as}
+use Rattle.syntax_lex.proofs.ByteFacts.{behind_head}
+use Rattle.syntax_lex.specs.Class.{is_whitespace}
+use Rattle.syntax_lex.specs.Comments.{block_comment}
+use Rattle.syntax_lex.specs.Front.{behind, first, second, skip}
+use Rattle.syntax_lex.specs.Opening.{opening, symbol}
+use Rattle.syntax_lex.specs.Quoted.{literal}
+use Rattle.syntax_lex.specs.Reading.{reading, reading_of}
+use Rattle.syntax_lex.specs.Stop.{is_in_line}
+use Rattle.syntax_lex.specs.declared.opening.Family.TheVariants as opens
+use Rattle.syntax_lex.specs.declared.opening.Family.{Family}
+use Rattle.syntax_lex.specs.declared.token.TokenKind.TheVariants as kinds
+use Rattle.syntax_lex.specs.declared.token.TokenKind.{TokenKind}
+use Rattle.syntax_parse.proofs.ShapeParts.{begins}
 use Rattle.syntax_parse.specs.Pieces.{leaves_of, pieces_as, pieces_of, placed, punct_char, puncts, sorts_of, spacing_before}
 use Rattle.syntax_parse.specs.Role.{role_in}
 use Rattle.syntax_parse.specs.Spelled.{Sort}
-use Rattle.syntax_parse.specs.declared.fault.BadToken.{BadToken}
 use Rattle.syntax_parse.specs.declared.fault.BadToken.TheVariants as bad
-use Rattle.syntax_parse.specs.declared.role.Role.{Role}
+use Rattle.syntax_parse.specs.declared.fault.BadToken.{BadToken}
 use Rattle.syntax_parse.specs.declared.role.Role.TheVariants.{Bad, Nothing, Opens, Closes, Leaf}
+use Rattle.syntax_parse.specs.declared.role.Role.{Role}
 use Rattle.syntax_unparse.specs.Settled.{sorts}
 use Rattle.syntax_unparse.specs.Writable.{is_lifetime}
+use Rattle.tt_base.specs.declared.span.SpanPart.{SpanPart}
 
 -- a token that is not bad is sound
 pub sound_role : (kind : TokenKind) (text : List ℕ) → ((why : BadToken) → role_in kind text ≡ Bad why → ⊥) → is_sound kind ≡ true
@@ -44,7 +48,8 @@ sound_role kind text fine = refl
 abbrev pub some_part : SpanPart
 some_part = record { anchor = record { file_id = record { 0 = 0 }; ast_id = record { 0 = 0 } }; ctx = record { 0 = 0 } }
 
-placed_sorts : (part : SpanPart) (start end : ℕ) (ss : List Sort) → sorts (placed part start end ss) ≡ ss
+-- sorts with one span
+pub placed_sorts : (part : SpanPart) (start end : ℕ) (ss : List Sort) → sorts (placed part start end ss) ≡ ss
 placed_sorts part start end [] = refl
 placed_sorts part start end (s ∷ ss) = ap (λ t. s ∷ t) (placed_sorts part start end ss)
 
@@ -83,86 +88,63 @@ pieces_same part other kind n m at to text same = by (role_in kind text)
     by (Closes pair) = refl
     by Leaf = leaves_same part other kind n m at to text same
 
--- a family that is no white space and no comment
-abbrev is_proper : Family → Bool
-is_proper opens.LineComment = false
-is_proper opens.BlockComment = false
-is_proper opens.Whitespace = false
-is_proper _ = true
+-- white space is a token to its end
+pub blank_read : (c : ℕ) (cs : List ℕ) → is_whitespace c ≡ true → reading (c ∷ cs) ≡ (kinds.Whitespace, behind is_whitespace cs)
+unfolding reading reading_of opening
+blank_read c cs is = rw is refl
 
--- two slashes, or a slash and an asterisk
-abbrev pub opens_comment : (c d : ℕ) → Bool
-opens_comment c d = (c == 47) && ((d == 47) || (d == 42))
-
-proper_opening : (c d e : ℕ) → is_whitespace c ≡ false → opens_comment c d ≡ false → is_proper (opening c d e) ≡ true
-proper_opening c d e space comment = by (opening c d e) (opening_facts c d e)
-  where
-    by : (family : Family) → Known family c d → is_proper family ≡ true
-    by opens.LineComment (known (is, marks)) = absurd (false≢true (sym comment ∙ ap₂ opens_comment is marks))
-    by opens.BlockComment (known (is, marks)) = absurd (false≢true (sym comment ∙ ap₂ opens_comment is marks))
-    by opens.Whitespace (known is) = absurd (false≢true (sym space ∙ is))
-    by family k = refl
-
-named_ended : (text : List ℕ) (quote hash number : Bool) (left : List ℕ) → is_sound (named_as text quote hash number left).0 ≡ true → is_ended (named_as text quote hash number left).0 ≡ true
-unfolding literal
-named_ended text true hash number left h = h
-named_ended text false true number left h = absurd (false≢true h)
-named_ended text false false number left h = refl
-
-life_ended : (text cs : List ℕ) → is_sound (apostrophe text cs).0 ≡ true → is_ended (apostrophe text cs).0 ≡ true
-unfolding apostrophe literal
-life_ended text cs = by (begins_lifetime cs) (begins_raw_lifetime cs)
-  where
-    by : (b raw : Bool) → is_sound (lifetime_as text b raw cs (behind is_id_continue (skip cs))).0 ≡ true → is_ended (lifetime_as text b raw cs (behind is_id_continue (skip cs))).0 ≡ true
-    by true true h = refl
-    by true false h =
-        let left = behind is_id_continue (skip cs) in
-        named_ended text (first left == 39) ((first left == 35) && not (is_decimal (first cs))) (is_decimal (first cs)) left h
-    by false raw h = h
-
-word_ended : (quote emoji : Bool) (cs : List ℕ) → is_sound (word_as quote emoji cs).0 ≡ true → is_ended (word_as quote emoji cs).0 ≡ true
-word_ended true emoji cs h = absurd (false≢true h)
-word_ended false true cs h = absurd (false≢true h)
-word_ended false false cs h = refl
-
-family_ended : (family : Family) (c : ℕ) (cs : List ℕ) → is_proper family ≡ true → is_sound (reading_of family (c ∷ cs) cs).0 ≡ true → is_ended (reading_of family (c ∷ cs) cs).0 ≡ true
-unfolding reading_of literal word
-family_ended opens.LineComment c cs proper sound = absurd (false≢true proper)
-family_ended opens.BlockComment c cs proper sound = absurd (false≢true proper)
-family_ended opens.Whitespace c cs proper sound = absurd (false≢true proper)
-family_ended opens.RawIdent c cs proper sound = refl
-family_ended opens.RawStr c cs proper sound = sound
-family_ended opens.Byte c cs proper sound = sound
-family_ended opens.ByteStr c cs proper sound = sound
-family_ended opens.RawByteStr c cs proper sound = sound
-family_ended opens.CStr c cs proper sound = sound
-family_ended opens.RawCStr c cs proper sound = sound
-family_ended opens.Word c cs proper sound = let left = behind is_id_continue cs in word_ended (begins_literal (first left)) (is_emoji_mark (first left)) left sound
-family_ended opens.Number c cs proper sound = sound
-family_ended opens.Guarded c cs proper sound = absurd (false≢true sound)
-family_ended opens.Apostrophe c cs proper sound = life_ended (c ∷ cs) cs sound
-family_ended opens.Str c cs proper sound = sound
-family_ended opens.OddWord c cs proper sound = absurd (false≢true sound)
-family_ended opens.Symbol c cs proper sound =
-    symbol_passes (λ n kind. is_ended kind) refl c refl
-
--- a sound token that is no white space and no comment is ended
-pub proper_ended : (c : ℕ) (cs : List ℕ) → is_whitespace c ≡ false → opens_comment c (first cs) ≡ false → is_sound (reading (c ∷ cs)).0 ≡ true → is_ended (reading (c ∷ cs)).0 ≡ true
-unfolding reading
-proper_ended c cs space comment sound = family_ended (opening c (first cs) (second cs)) c cs (proper_opening c (first cs) (second cs) space comment) sound
+-- a slash and an asterisk begin a block comment
+star : (cs : List ℕ) → reading (47 ∷ 42 ∷ cs) ≡ block_comment cs
+unfolding reading reading_of opening
+star cs = refl
 
 -- a lifetime begins with a quote
 pub life_first : (c : ℕ) (cs : List ℕ) → is_lifetime (reading (c ∷ cs)).0 ≡ true → c ≡ 39
-unfolding reading reading_of literal word
+unfolding reading reading_of literal
 life_first c cs = by (opening c (first cs) (second cs)) (opening_facts c (first cs) (second cs))
   where
-    word_no_life : (quote emoji : Bool) (ds : List ℕ) → is_lifetime (word_as quote emoji ds).0 ≡ false
-    word_no_life true emoji ds = refl
-    word_no_life false true ds = refl
-    word_no_life false false ds = refl
-
     by : (family : Family) → Known family c (first cs) → is_lifetime (reading_of family (c ∷ cs) cs).0 ≡ true → c ≡ 39
     by opens.Apostrophe (known is) h = is
     by opens.Symbol k h = absurd (false≢true (sym (not_true (is_lifetime (symbol c)) (symbol_passes (λ n kind. not (is_lifetime kind)) refl c refl)) ∙ h))
-    by opens.Word k h = let left = behind is_id_continue cs in absurd (false≢true (sym (word_no_life (begins_literal (first left)) (is_emoji_mark (first left)) left) ∙ h))
+    by opens.Word k h = absurd (false≢true (sym (word_kind (λ t. is_lifetime t ≡ false) refl refl refl cs) ∙ h))
     by family k h = absurd (false≢true h)
+
+-- the end of the line follows a comment to the end of the line
+pub line_left : (c : ℕ) (cs : List ℕ) (kind : TokenKind) (f : ℕ) (fs : List ℕ) → reading (c ∷ cs) ≡ (kind, f ∷ fs) → is_line kind ≡ true → f ≡ 10
+unfolding reading reading_of literal
+line_left c cs kind f fs read line = by (opening c (first cs) (second cs)) read
+  where
+    by : (family : Family) → reading_of family (c ∷ cs) cs ≡ (kind, f ∷ fs) → f ≡ 10
+    by opens.LineComment h = eqb-true f 10 (not-false (f == 10) (behind_head is_in_line (skip cs) f fs (ap (λ p. p.1) h)))
+    by opens.Symbol h = absurd (false≢true (sym (not_true (is_line (symbol c)) (symbol_passes (λ n t. not (is_line t)) refl c refl)) ∙ ap (λ p. is_line p.0) h ∙ line))
+    by opens.Word h = absurd (false≢true (sym (word_kind (λ t. is_line t ≡ false) refl refl refl cs) ∙ ap (λ p. is_line p.0) h ∙ line))
+    by opens.Apostrophe h = absurd (false≢true (sym (apostrophe_kind (λ t. is_line t ≡ false) refl refl (λ digit. refl) (λ closed start. refl) (c ∷ cs) cs) ∙ ap (λ p. is_line p.0) h ∙ line))
+    by family h = absurd (false≢true (ap (λ p. is_line p.0) h ∙ line))
+
+-- a token is the same whatever follows it, or it is ended
+abbrev pub Last : (c : ℕ) → (cs : List ℕ) → TokenKind → Type 0
+Last c cs kind = (((r : List ℕ) → reading (c ∷ (cs ++ r)) ≡ (kind, r)) × (punct_char kind ≡ None)) ⊎ (is_ended kind ≡ true)
+
+-- this holds for each sound token that is no white space and no comment to the end of the line
+pub last_is : (c : ℕ) (cs : List ℕ) (kind : TokenKind) → is_whitespace c ≡ false → reading (c ∷ cs) ≡ (kind, []) → is_sound kind ≡ true → is_line kind ≡ false → Last c cs kind
+unfolding reading reading_of literal
+last_is c cs kind space read sound line = by (opening c (first cs) (second cs)) (opening_facts c (first cs) (second cs)) read
+  where
+    more : c ≡ 47 → first cs ≡ 42 → block_comment (skip cs) ≡ (kind, []) → (r : List ℕ) → reading (c ∷ (cs ++ r)) ≡ (kind, r)
+    more is mark h r = ap₂ (λ d ds. reading (d ∷ (ds ++ r))) is (begins cs 41 mark) ∙ star (skip cs ++ r) ∙ block_more (skip cs) r kind h sound
+
+    -- a kind that is ended if it is sound
+    ends : (p : TokenKind × List ℕ) → p ≡ (kind, []) → (is_sound p.0 ≡ true → is_ended p.0 ≡ true) → Last c cs kind
+    ends p h ended = inr (sym (ap (λ q. is_ended q.0) h) ∙ ended (ap (λ q. is_sound q.0) h ∙ sound))
+
+    by : (family : Family) → Known family c (first cs) → reading_of family (c ∷ cs) cs ≡ (kind, []) → Last c cs kind
+    by opens.LineComment k h = absurd (false≢true (sym line ∙ ap (λ p. is_line p.0) (sym h)))
+    by opens.BlockComment (known (is, mark)) h = inl (more is mark h, ap (λ p. punct_char p.0) (sym h))
+    by opens.Whitespace (known is) h = absurd (false≢true (sym space ∙ is))
+    by opens.Guarded k h = absurd (false≢true (ap (λ p. is_sound p.0) h ∙ sound))
+    by opens.OddWord k h = absurd (false≢true (ap (λ p. is_sound p.0) h ∙ sound))
+    by opens.Symbol k h = ends _ h (λ s. symbol_passes (λ n t. is_ended t) refl c refl)
+    by opens.Word k h = ends _ h (word_kind (λ t. is_sound t ≡ true → is_ended t ≡ true) (λ s. absurd (false≢true s)) (λ s. absurd (false≢true s)) (λ s. refl) cs)
+    by opens.Apostrophe k h =
+        ends _ h (apostrophe_kind (λ t. is_sound t ≡ true → is_ended t ≡ true) (λ s. refl) (λ s. absurd (false≢true s)) (λ digit s. refl) (λ closed start s. s) (c ∷ cs) cs)
+    by family k h = ends _ h (λ s. s)

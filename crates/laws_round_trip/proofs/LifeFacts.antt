@@ -1,62 +1,38 @@
 -- A lifetime is a `'` and a name.
-use Rattle.std.proofs.Common.{◌≡◌, ℕ, ◌≤◌, nat_le, Bool, true, false, ◌==◌, ◌||◌, ◌&&◌, not, IsTrue, List, [], ◌∷◌, refl, sym, ap, ap₂, ◌∙◌, subst, arith, ⊎_elim, if◌then◌else◌}
-use Rattle.std.proofs.lemmas.Bool.{and_parts, cases_eq, eqb-true, false≢true, leb-true, ne_eqb}
+use Rattle.std.proofs.Common.{◌≡◌, ⊎_elim, ℕ, ◌≤◌, nat_le, Bool, true, false, ◌==◌, ◌||◌, ◌&&◌, not, IsTrue, List, [], ◌∷◌, refl, sym, ap, ap₂, ◌∙◌, subst, arith, if◌then◌else◌}
+use Rattle.std.proofs.Math.Bool.{and-false}
+use Rattle.std.proofs.lemmas.Bool.{and_parts, eqb-true, false≢true, leb-true, lt-leb, ne_eqb, or_cases}
 use Rattle.syntax_lex.specs.Class.{is_decimal, is_emoji_mark, is_id_continue, is_id_start, is_whitespace}
 use Rattle.syntax_lex.specs.Front.{behind, first, second, skip}
-use Rattle.syntax_lex.specs.Opening.{begins_raw, opening, opening_b, opening_c, opening_r, symbol}
+use Rattle.syntax_lex.specs.Opening.{begins_raw, opening, opening_b, opening_c, opening_r}
 use Rattle.syntax_lex.specs.Quoted.{apostrophe, begins_lifetime, begins_raw_lifetime, literal}
 use Rattle.syntax_lex.specs.Reading.{reading, reading_of}
-use Rattle.syntax_lex.specs.Word.{begins_literal, word, word_before}
+use Rattle.syntax_lex.specs.Word.{word, word_before}
 use Rattle.syntax_lex.specs.declared.opening.Family.{Family}
 use Rattle.syntax_lex.specs.declared.opening.Family.TheVariants as opens
 use Rattle.syntax_lex.specs.declared.token.TokenKind.{TokenKind}
 use Rattle.syntax_lex.specs.declared.token.TokenKind.TheVariants as kinds
+use Rattle.laws_round_trip.proofs.KindFacts.{life_first}
 use Rattle.laws_round_trip.proofs.Roles.{name_kind}
-use Rattle.laws_round_trip.proofs.ToldKinds.{lifetime_as, named_as, word_as}
-use Rattle.laws_tokens.proofs.KeepFacts.{no_start, not_true, plain_null}
-use Rattle.laws_tokens.proofs.Tables.{Known, known, opening_facts, symbol_passes}
+use Rattle.laws_round_trip.proofs.ToldKinds.{lifetime_as, named_as}
+use Rattle.laws_tokens.proofs.KeepFacts.{no_start, plain_null}
+use Rattle.syntax_unparse.proofs.Fronts.{not_nil}
 use Rattle.syntax_unparse.specs.Writable.{is_lifetime}
 use Rattle.unicode_ident.proofs.Computing.{unicode_ident}
 use Rattle.unicode_ident.proofs.IdentLemmas.{is_xid_continue-ascii}
 
--- whether a family begins with a single quote
-abbrev is_quote : Family → Bool
-is_quote opens.Apostrophe = true
-is_quote _ = false
-
-quote_first : (d e f : ℕ) → is_quote (opening d e f) ≡ true → d ≡ 39
-quote_first d e f = by (opening d e f) (opening_facts d e f)
-  where
-    by : (family : Family) → Known family d e → is_quote family ≡ true → d ≡ 39
-    by opens.Apostrophe (known k) h = k
-    by family k h = absurd (false≢true h)
-
-symbol_no_life : (d : ℕ) → is_lifetime (symbol d) ≡ false
-symbol_no_life d = not_true (is_lifetime (symbol d)) (symbol_passes (λ n kind. not (is_lifetime kind)) refl d refl)
-
-word_no_life : (quote emoji : Bool) (cs : List ℕ) → is_lifetime (word_as quote emoji cs).0 ≡ false
-word_no_life true emoji cs = refl
-word_no_life false true cs = refl
-word_no_life false false cs = refl
-
 -- if all characters of a text continue a name, its first is no character that does not
 front_other : (t : List ℕ) (n : ℕ) → behind is_id_continue t ≡ [] → is_id_continue n ≡ false → (0 == n) ≡ false → (first t == n) ≡ false
 front_other [] n all no_part no_null = no_null
-front_other (c ∷ cs) n all no_part no_null = ne_eqb c n (λ e. cc_not (sym (ap (λ b. if b then behind is_id_continue cs else c ∷ cs) (ap is_id_continue e ∙ no_part)) ∙ all))
-  where
-    cc_not : ◌≡◌ {A = List ℕ} (c ∷ cs) [] → ⊥
-    cc_not k = cc
+front_other (c ∷ cs) n all no_part no_null = ne_eqb c n (λ e. not_nil c cs (sym (ap (λ b. if b then behind is_id_continue cs else c ∷ cs) (ap is_id_continue e ∙ no_part)) ∙ all))
 
 skip_all : (t : List ℕ) → behind is_id_continue t ≡ [] → behind is_id_continue (skip t) ≡ []
 skip_all [] all = refl
 skip_all (c ∷ cs) all = go (is_id_continue c) refl
   where
-    cc_not : ◌≡◌ {A = List ℕ} (c ∷ cs) [] → ⊥
-    cc_not k = cc
-
     go : (b : Bool) → is_id_continue c ≡ b → behind is_id_continue cs ≡ []
     go true e = sym (ap (λ b. if b then behind is_id_continue cs else c ∷ cs) e) ∙ all
-    go false e = absurd (cc_not (sym (ap (λ b. if b then behind is_id_continue cs else c ∷ cs) e) ∙ all))
+    go false e = absurd (not_nil c cs (sym (ap (λ b. if b then behind is_id_continue cs else c ∷ cs) e) ∙ all))
 
 part_34 : is_id_continue 34 ≡ false
 part_34 = is_xid_continue-ascii 34 (omega arith)
@@ -64,29 +40,10 @@ part_34 = is_xid_continue-ascii 34 (omega arith)
 part_35 : is_id_continue 35 ≡ false
 part_35 = is_xid_continue-ascii 35 (omega arith)
 
-part_39 : is_id_continue 39 ≡ false
-part_39 = is_xid_continue-ascii 39 (omega arith)
-
 -- a name begins with no white space
-start_85 : is_id_start 0x85 ≡ false
+no_starts : (is_id_start 0x85 ≡ false) × (is_id_start 0x200e ≡ false) × (is_id_start 0x200f ≡ false) × (is_id_start 0x2028 ≡ false) × (is_id_start 0x2029 ≡ false)
 unfolding unicode_ident
-start_85 = refl
-
-start_200e : is_id_start 0x200e ≡ false
-unfolding unicode_ident
-start_200e = refl
-
-start_200f : is_id_start 0x200f ≡ false
-unfolding unicode_ident
-start_200f = refl
-
-start_2028 : is_id_start 0x2028 ≡ false
-unfolding unicode_ident
-start_2028 = refl
-
-start_2029 : is_id_start 0x2029 ≡ false
-unfolding unicode_ident
-start_2029 = refl
+no_starts = (refl, refl, refl, refl, refl)
 
 start_is : (x n : ℕ) → is_id_start x ≡ true → is_id_start n ≡ false → (x == n) ≡ false
 start_is x n start none = ne_eqb x n (λ e. false≢true (sym none ∙ ap is_id_start (sym e) ∙ start))
@@ -95,29 +52,22 @@ start_is x n start none = ne_eqb x n (λ e. false≢true (sym none ∙ ap is_id_
 no_control : (x : ℕ) → is_id_start x ≡ true → (nat_le 9 x && nat_le x 13) ≡ false
 no_control x start = go (nat_le 9 x && nat_le x 13) refl
   where
-    go : (b : Bool) → (nat_le 9 x && nat_le x 13) ≡ b → (nat_le 9 x && nat_le x 13) ≡ false
-    go false e = e
+    go : (b : Bool) → (nat_le 9 x && nat_le x 13) ≡ b → b ≡ false
+    go false e = refl
     go true e =
-        let low : 9 ≤ x = leb-true 9 x (and_parts (nat_le 9 x) (nat_le x 13) e).0 in
         let high : x ≤ 13 = leb-true x 13 (and_parts (nat_le 9 x) (nat_le x 13) e).1 in
-        ⊎_elim (λ k. absurd (false≢true (sym (no_start 9 (omega arith) refl refl) ∙ ap is_id_start (sym k) ∙ start))) (λ n9.
-        ⊎_elim (λ k. absurd (false≢true (sym (no_start 10 (omega arith) refl refl) ∙ ap is_id_start (sym k) ∙ start))) (λ n10.
-        ⊎_elim (λ k. absurd (false≢true (sym (no_start 11 (omega arith) refl refl) ∙ ap is_id_start (sym k) ∙ start))) (λ n11.
-        ⊎_elim (λ k. absurd (false≢true (sym (no_start 12 (omega arith) refl refl) ∙ ap is_id_start (sym k) ∙ start))) (λ n12.
-        ⊎_elim (λ k. absurd (false≢true (sym (no_start 13 (omega arith) refl refl) ∙ ap is_id_start (sym k) ∙ start))) (λ n13.
-        absurd (omega (arith, low, high, n9, n10, n11, n12, n13)))
-        (cases_eq x 13)) (cases_eq x 12)) (cases_eq x 11)) (cases_eq x 10)) (cases_eq x 9)
+        absurd (false≢true (sym (no_start x (omega (arith, high)) (rw (lt-leb 65 x (omega (arith, high)), lt-leb 97 x (omega (arith, high))) refl) (ne_eqb x 95 (λ is. omega (arith, high, is)))) ∙ start))
 
 no_white : (x : ℕ) → is_id_start x ≡ true → is_whitespace x ≡ false
 no_white x start =
     rw (
       no_control x start,
       start_is x 32 start (no_start 32 (omega arith) refl refl),
-      start_is x 0x85 start start_85,
-      start_is x 0x200e start start_200e,
-      start_is x 0x200f start start_200f,
-      start_is x 0x2028 start start_2028,
-      start_is x 0x2029 start start_2029,
+      start_is x 0x85 start no_starts.0,
+      start_is x 0x200e start no_starts.1,
+      start_is x 0x200f start no_starts.2,
+      start_is x 0x2028 start no_starts.3,
+      start_is x 0x2029 start no_starts.4,
     )
     refl
 
@@ -132,23 +82,14 @@ opens_word x xs start all = rw (no_white x start, start_is x 47 start (no_start 
     raws : begins_raw (second xs) ≡ false
     raws = rw (front_other (skip xs) 34 (skip_all xs all) part_34 refl, front_other (skip xs) 35 (skip_all xs all) part_35 refl) refl
 
-    and_false : (b : Bool) → (b && false) ≡ false
-    and_false true = refl
-    and_false false = refl
-
     raw_none : ((first xs == 114) && begins_raw (second xs)) ≡ false
-    raw_none = ap (λ b. (first xs == 114) && b) raws ∙ and_false (first xs == 114)
+    raw_none = ap (λ b. (first xs == 114) && b) raws ∙ and-false (first xs == 114)
 
     b_word : opening_b (first xs) (second xs) ≡ opens.Word
-    b_word =
-        ap₂ (λ p q. if p then opens.Byte else (if q then opens.ByteStr else (if (first xs == 114) && begins_raw (second xs) then opens.RawByteStr else opens.Word)))
-        (front_other xs 39 all part_39 refl) (front_other xs 34 all part_34 refl)
-        ∙ ap (λ b. if b then opens.RawByteStr else opens.Word) raw_none
+    b_word = rw (front_other xs 39 all (is_xid_continue-ascii 39 (omega arith)) refl, front_other xs 34 all part_34 refl, raw_none) refl
 
     c_word : opening_c (first xs) (second xs) ≡ opens.Word
-    c_word =
-        ap (λ q. if q then opens.CStr else (if (first xs == 114) && begins_raw (second xs) then opens.RawCStr else opens.Word)) (front_other xs 34 all part_34 refl)
-        ∙ ap (λ b. if b then opens.RawCStr else opens.Word) raw_none
+    c_word = rw (front_other xs 34 all part_34 refl, raw_none) refl
 
     rest : Bool → Family
     rest b =
@@ -182,14 +123,8 @@ pub record Life (lifetime : TokenKind) (front : List ℕ) : Type 0 where
   pub read : reading rest ≡ (name_kind lifetime, [])
 
 no_digit_life : (x : ℕ) (xs : List ℕ) → begins_lifetime (x ∷ xs) ≡ true → is_decimal x ≡ false → is_id_start x ≡ true
-no_digit_life x xs begins none = go (is_id_start x) (ap (λ b. is_id_start x || b) (sym none)) (and_parts (not (first xs == 39)) (is_id_start x || is_decimal x) begins).1
-  where
-    go : (b : Bool) → (is_id_start x || false) ≡ (is_id_start x || is_decimal x) → (is_id_start x || is_decimal x) ≡ true → is_id_start x ≡ true
-    go b e h = or_false (is_id_start x) (e ∙ h)
-      where
-        or_false : (c : Bool) → (c || false) ≡ true → c ≡ true
-        or_false true k = refl
-        or_false false k = k
+no_digit_life x xs begins none =
+    ⊎_elim (λ start. start) (λ digit. absurd (false≢true (sym none ∙ digit))) (or_cases (is_id_start x) (is_decimal x) (and_parts (not (first xs == 39)) (is_id_start x || is_decimal x) begins).1)
 
 quote_life : (cs : List ℕ) (kind : TokenKind) → apostrophe (39 ∷ cs) cs ≡ (kind, []) → IsTrue (is_lifetime kind) → (kind ≡ kinds.Lifetime true → ⊥) → Life kind (39 ∷ cs)
 unfolding apostrophe literal
@@ -210,19 +145,16 @@ quote_life cs kind read living fine = go (begins_lifetime cs) refl (begins_raw_l
     plain d (x ∷ xs) begins none all = record { rest = x ∷ xs; are = refl; read = name_read x xs (no_digit_life x xs begins none) all }
 
     raw_life : (t : List ℕ) → begins_raw_lifetime t ≡ true → behind is_id_continue (skip (skip (skip t))) ≡ [] → Life kinds.RawLifetime (39 ∷ t)
-    raw_life t begins all = three t begins all
-      where
-        three : (t : List ℕ) → begins_raw_lifetime t ≡ true → behind is_id_continue (skip (skip (skip t))) ≡ [] → Life kinds.RawLifetime (39 ∷ t)
-        three [] h k = absurd (false≢true h)
-        three (x ∷ []) h k = absurd (false≢true (and_parts (x == 114) (0 == 35) (and_parts ((x == 114) && (0 == 35)) (is_id_start 0) h).0).1)
-        three (x ∷ y ∷ []) h k = absurd (false≢true (sym plain_null.no_start ∙ (and_parts ((x == 114) && (y == 35)) (is_id_start 0) h).1))
-        three (x ∷ y ∷ z ∷ zs) h k =
-            let both = and_parts (x == 114) (y == 35) (and_parts ((x == 114) && (y == 35)) (is_id_start z) h).0 in
-            let start = (and_parts ((x == 114) && (y == 35)) (is_id_start z) h).1 in record {
-              rest = x ∷ y ∷ z ∷ zs;
-              are = refl;
-              read = ap₂ (λ a b. reading (a ∷ b ∷ z ∷ zs)) (eqb-true x 114 both.0) (eqb-true y 35 both.1) ∙ raw_name_read z zs start k;
-            }
+    raw_life [] h k = absurd (false≢true h)
+    raw_life (x ∷ []) h k = absurd (false≢true (and_parts (x == 114) (0 == 35) (and_parts ((x == 114) && (0 == 35)) (is_id_start 0) h).0).1)
+    raw_life (x ∷ y ∷ []) h k = absurd (false≢true (sym plain_null.no_start ∙ (and_parts ((x == 114) && (y == 35)) (is_id_start 0) h).1))
+    raw_life (x ∷ y ∷ z ∷ zs) h k =
+        let both = and_parts (x == 114) (y == 35) (and_parts ((x == 114) && (y == 35)) (is_id_start z) h).0 in
+        let start = (and_parts ((x == 114) && (y == 35)) (is_id_start z) h).1 in record {
+          rest = x ∷ y ∷ z ∷ zs;
+          are = refl;
+          read = ap₂ (λ a b. reading (a ∷ b ∷ z ∷ zs)) (eqb-true x 114 both.0) (eqb-true y 35 both.1) ∙ raw_name_read z zs start k;
+        }
 
     named_go : (quote hash : Bool) → begins_lifetime cs ≡ true → named_as (39 ∷ cs) quote hash (is_decimal (first cs)) left ≡ (kind, []) → Life kind (39 ∷ cs)
     named_go true hash begins e = absurd (no_literal _ refl e)
@@ -239,32 +171,15 @@ quote_life cs kind read living fine = go (begins_lifetime cs) refl (begins_raw_l
         let is = sym (ap₂ (λ b v. lifetime_as (39 ∷ cs) b v cs left) e f) ∙ h in
         named_go (first left == 39) ((first left == 35) && not (is_decimal (first cs))) e is
 
+-- a quote begins a lifetime or a character
+quote_read : (cs : List ℕ) → reading (39 ∷ cs) ≡ apostrophe (39 ∷ cs) cs
+unfolding reading reading_of opening
+quote_read cs = rw (no_start 39 (omega arith) refl refl) refl
+
 -- a lifetime alone is a `'` and a name
 pub life_back : (front : List ℕ) (kind : TokenKind) → reading front ≡ (kind, []) → IsTrue (is_lifetime kind) → (kind ≡ kinds.Lifetime true → ⊥) → Life kind front
-unfolding reading reading_of literal word
+unfolding reading
 life_back [] kind read living fine = absurd (false≢true (ap (λ p. is_lifetime p.0) read ∙ living))
-life_back (d ∷ ds) kind read living fine = go (opening d (first ds) (second ds)) refl read
-  where
-    none : (p : TokenKind × List ℕ) → is_lifetime p.0 ≡ false → p ≡ (kind, []) → ⊥
-    none p other e = false≢true (sym other ∙ ap (λ p. is_lifetime p.0) e ∙ living)
-
-    go : (family : Family) → opening d (first ds) (second ds) ≡ family → reading_of family (d ∷ ds) ds ≡ (kind, []) → Life kind (d ∷ ds)
-    go opens.Apostrophe e h =
-        let is : d ≡ 39 = quote_first d (first ds) (second ds) (ap is_quote e) in
-        subst (λ n. Life kind (n ∷ ds)) (sym is) (quote_life ds kind (ap (λ n. apostrophe (n ∷ ds) ds) (sym is) ∙ h) living fine)
-    go opens.Symbol e h = absurd (none _ (symbol_no_life d) h)
-    go opens.Word e h = let left = behind is_id_continue ds in absurd (none _ (word_no_life (begins_literal (first left)) (is_emoji_mark (first left)) left) h)
-    go opens.LineComment e h = absurd (none _ refl h)
-    go opens.BlockComment e h = absurd (none _ refl h)
-    go opens.Whitespace e h = absurd (none _ refl h)
-    go opens.RawIdent e h = absurd (none _ refl h)
-    go opens.RawStr e h = absurd (none _ refl h)
-    go opens.Byte e h = absurd (none _ refl h)
-    go opens.ByteStr e h = absurd (none _ refl h)
-    go opens.RawByteStr e h = absurd (none _ refl h)
-    go opens.CStr e h = absurd (none _ refl h)
-    go opens.RawCStr e h = absurd (none _ refl h)
-    go opens.Number e h = absurd (none _ refl h)
-    go opens.Guarded e h = absurd (none _ refl h)
-    go opens.Str e h = absurd (none _ refl h)
-    go opens.OddWord e h = absurd (none _ refl h)
+life_back (d ∷ ds) kind read living fine =
+    let is : d ≡ 39 = life_first d ds (ap (λ p. is_lifetime p.0) read ∙ living) in
+    subst (λ n. Life kind (n ∷ ds)) (sym is) (quote_life ds kind (sym (quote_read ds) ∙ ap (λ n. reading (n ∷ ds)) (sym is) ∙ read) living fine)

@@ -1,24 +1,21 @@
 -- The pieces of chunks, and those that begin before a byte of the text.
-use Rattle.laws_round_trip.proofs.SortFits.{sorts-append}
-use Rattle.laws_tokens.proofs.Twins.{end_le}
-use Rattle.std.proofs.Common.{◌≡◌, ◌≢◌, ℕ, suc, ◌+◌, ◌<◌, ◌≤◌, Bool, true, false, ◌||◌, ◌&&◌, List, [], ◌∷◌, ◌++◌, length, Option, refl, sym, ap, ap₂, ◌∙◌, subst, arith, append_assoc, length-append, if◌then◌else◌}
+use Rattle.std.proofs.Common.{◌≡◌, ℕ, ◌+◌, ◌<◌, ◌≤◌, true, false, List, [], ◌∷◌, ◌++◌, length, Option, refl, sym, ap, ap₂, ◌∙◌, arith, append_assoc, length-append, if◌then◌else◌}
 use Rattle.std.proofs.lemmas.Bool.{false≢true, le-ltb, lt-ltb}
-use Rattle.std.proofs.lemmas.Str.{chars-nil, encode_ascii, encodes-chars}
 use Rattle.std.proofs.Math.Seq.{drop-append_seam, take-append_seam}
-use Rattle.std.proofs.Math.Utf8.{encodes}
-use Rattle.std.specs.Str.{chars, IsUtf8}
+use Rattle.std.specs.Str.{chars}
 use Rattle.tt_base.specs.declared.span.SpanPart.{SpanPart}
-use Rattle.syntax_lex.proofs.EndFacts.{behind_end, named_end, skip_end}
-use Rattle.syntax_lex.specs.Class.{is_decimal, is_id_continue}
-use Rattle.syntax_lex.specs.Front.{behind, skip}
+use Rattle.syntax_lex.proofs.FrontFacts.{length-chars-le}
 use Rattle.syntax_lex.specs.Opening.{opening}
-use Rattle.syntax_lex.specs.Quoted.{apostrophe, begins_lifetime, begins_raw_lifetime, literal}
+use Rattle.syntax_lex.specs.Quoted.{apostrophe, literal}
 use Rattle.syntax_lex.specs.Reading.{reading, reading_of}
 use Rattle.syntax_lex.specs.declared.token.TokenKind.{TokenKind}
 use Rattle.syntax_lex.specs.declared.token.TokenKind.TheVariants as kinds
 use Rattle.laws_round_trip.proofs.KindFacts.{life_first}
-use Rattle.laws_round_trip.proofs.ToldKinds.{lifetime_as}
+use Rattle.laws_round_trip.proofs.SortFits.{sorts-append}
+use Rattle.laws_round_trip.proofs.Tokens.{token_alone}
+use Rattle.laws_round_trip.proofs.Words.{some_bytes}
 use Rattle.laws_round_trip.specs.Splices.{before_byte, from_byte}
+use Rattle.laws_round_trip.specs.Whole.{is_whole}
 use Rattle.laws_tokens.proofs.KeepFacts.{no_start, plain_null}
 use Rattle.syntax_parse.specs.Parsed.{next_kind, pieces_from}
 use Rattle.syntax_parse.specs.Pieces.{leaves_of, pieces_as, pieces_of, placed, sorts_of}
@@ -27,165 +24,125 @@ use Rattle.syntax_parse.specs.Spelled.{Piece, Sort}
 use Rattle.syntax_parse.specs.declared.role.Role.{Role}
 use Rattle.syntax_parse.specs.declared.role.Role.TheVariants.{Bad, Nothing, Opens, Closes, Leaf}
 use Rattle.syntax_unparse.proofs.Chunks.{AreChunks, Chunk, IsChunk, joined, means_of, tokens_of}
-use Rattle.syntax_unparse.proofs.Fronts.{ascii_first, text}
 use Rattle.syntax_unparse.specs.Settled.{sorts}
 use Rattle.syntax_unparse.specs.Writable.{is_lifetime}
 
--- a quote begins a lifetime or a character
-quote_read : (cs : List ℕ) → reading (39 ∷ cs) ≡ apostrophe (39 ∷ cs) cs
-unfolding reading reading_of opening
-quote_read cs = rw (no_start 39 (omega arith) refl refl) refl
+-- the pieces of chunks that begin at a byte
+abbrev pub pieces_in : SpanPart → (at : ℕ) → List Chunk → List Piece
+pieces_in part at [] = []
+pieces_in part at (x ∷ xs) = pieces_of part x.kind (next_kind (tokens_of xs)) at x.text ++ pieces_in part (at + length x.text) xs
 
--- a lifetime takes more than its quote
-life_takes : (text cs : List ℕ) → is_lifetime (apostrophe text cs).0 ≡ true → length (apostrophe text cs).1 < length cs
-unfolding apostrophe literal
-life_takes text [] life =
-    absurd (false≢true (subst (λ b. is_lifetime (lifetime_as text (true && (b || false)) (begins_raw_lifetime []) [] (behind is_id_continue [])).0 ≡ true) plain_null.no_start life))
-life_takes text (c ∷ cs) life = go (begins_lifetime (c ∷ cs)) (begins_raw_lifetime (c ∷ cs)) life
+-- they are those of the tokens of their text
+pub pieces_in-is : (part : SpanPart) (at : ℕ) (chunks : List Chunk) → pieces_from part at (joined chunks) (tokens_of chunks) ≡ pieces_in part at chunks
+pieces_in-is part at [] = refl
+pieces_in-is part at (x ∷ xs) =
+    let here = λ (t : List ℕ). pieces_of part x.kind (next_kind (tokens_of xs)) at t in
+    ap₂ (λ t u. here t ++ pieces_from part (at + length x.text) u (tokens_of xs)) (take-append_seam x.text (joined xs)) (drop-append_seam x.text (joined xs))
+    ∙ ap (λ ps. here x.text ++ ps) (pieces_in-is part (at + length x.text) xs)
+
+-- a quote alone is no lifetime
+quote_alone : is_lifetime (reading (39 ∷ [])).0 ≡ false
+unfolding reading reading_of opening apostrophe literal
+quote_alone = rw (no_start 39 (omega arith) refl refl) (rw plain_null.no_start refl)
+
+life_whole : (kind : TokenKind) → is_lifetime kind ≡ true → is_whole kind ≡ true
+life_whole (kinds.Lifetime digit) h = refl
+life_whole kinds.RawLifetime h = refl
+life_whole kind h = absurd (false≢true h)
+
+-- so a lifetime has two bytes or more
+two_bytes : (x : Chunk) (xs : List Chunk) → IsChunk x xs → is_lifetime x.kind ≡ true → 1 < length x.text
+two_bytes x xs it life = go (chars x.text) refl (token_alone (chars x.text) (chars (joined xs)) x.kind it.some it.reads (life_whole x.kind life))
   where
-    go : (b raw : Bool) → is_lifetime (lifetime_as text b raw (c ∷ cs) (behind is_id_continue cs)).0 ≡ true → length (lifetime_as text b raw (c ∷ cs) (behind is_id_continue cs)).1 < suc (length cs)
-    go true true h = omega (arith, end_le (behind_end is_id_continue (skip (skip cs))), end_le (skip_end (skip cs)), end_le (skip_end cs))
-    go true false h = omega (arith, end_le (named_end text (is_decimal c) (behind is_id_continue cs)), end_le (behind_end is_id_continue cs))
-    go false raw h = absurd (false≢true h)
+    go : (letters : List ℕ) → chars x.text ≡ letters → reading letters ≡ (x.kind, []) → 1 < length x.text
+    go [] e read = absurd (it.some e)
+    go (c ∷ []) e read =
+        let is : is_lifetime (reading (c ∷ [])).0 ≡ true = ap (λ p. is_lifetime p.0) read ∙ life in
+        absurd (false≢true (sym quote_alone ∙ ap (λ n. is_lifetime (reading (n ∷ [])).0) (sym (life_first c [] is)) ∙ is))
+    go (c ∷ d ∷ ds) e read = omega (arith, length-chars-le x.text it.utf8, ap length e)
 
--- so it has two characters
-life_two : (c : ℕ) (cs r : List ℕ) (kind : TokenKind) → reading (c ∷ (cs ++ r)) ≡ (kind, r) → is_lifetime kind ≡ true → (c ≡ 39) × (0 < length cs)
-life_two c cs r kind read life =
-    let is : c ≡ 39 = life_first c (cs ++ r) (ap (λ p. is_lifetime p.0) read ∙ life) in
-    let at : apostrophe (39 ∷ (cs ++ r)) (cs ++ r) ≡ (kind, r) = sym (quote_read (cs ++ r)) ∙ ap (λ n. reading (n ∷ (cs ++ r))) (sym is) ∙ read in
-    (is, omega (arith, life_takes (39 ∷ (cs ++ r)) (cs ++ r) (ap (λ p. is_lifetime p.0) at ∙ life), ap (λ p. length p.1) at, length-append cs r))
+-- something for the byte at which each piece begins
+abbrev pub Every : (ℕ → Type 0) → List Piece → Type 0
+Every P [] = Unit {0}
+Every P (p ∷ ps) = P p.start × Every P ps
 
--- and two bytes or more
-life_bytes : (t : List ℕ) (c : ℕ) (cs : List ℕ) → IsUtf8 t → chars t ≡ c ∷ cs → c ≡ 39 → 0 < length cs → 1 < length t
-life_bytes t c [] utf8 letters is some = absurd (omega (arith, some))
-life_bytes t c (d ∷ ds) utf8 letters is some = go (encodes (d ∷ ds)) whole
+pub every_append : (P : ℕ → Type 0) (ps qs : List Piece) → Every P ps → Every P qs → Every P (ps ++ qs)
+every_append P [] qs h k = k
+every_append P (p ∷ ps) qs h k = (h.0, every_append P ps qs h.1 k)
+
+pub every_more : (P Q : ℕ → Type 0) → ((n : ℕ) → P n → Q n) → (ps : List Piece) → Every P ps → Every Q ps
+every_more P Q more [] h = tt
+every_more P Q more (p ∷ ps) h = (more p.start h.0, every_more P Q more ps h.1)
+
+every_placed : (P : ℕ → Type 0) (part : SpanPart) (start end : ℕ) (ss : List Sort) → P start → Every P (placed part start end ss)
+every_placed P part start end [] h = tt
+every_placed P part start end (s ∷ ss) h = (h, every_placed P part start end ss h)
+
+-- the pieces of a token begin at its first byte; the name of a lifetime begins at the second
+every_pieces : (P : ℕ → Type 0) (part : SpanPart) (kind : TokenKind) (next : Option TokenKind) (at : ℕ) (t : List ℕ) → P at → (is_lifetime kind ≡ true → P (at + 1)) → Every P (pieces_of part kind next at t)
+every_pieces P part kind next at t one two = by (role_in kind t)
   where
-    whole : t ≡ 39 ∷ encodes (d ∷ ds)
-    whole = sym (encodes-chars t utf8) ∙ ap encodes (letters ∙ ap (λ n. n ∷ d ∷ ds) is) ∙ ap (λ u. u ++ encodes (d ∷ ds)) (encode_ascii 39 (omega arith))
+    leaves : (kind : TokenKind) → (is_lifetime kind ≡ true → P (at + 1)) → Every P (leaves_of part kind next at t)
+    leaves (kinds.Lifetime digit) two = (one, (two refl, tt))
+    leaves kinds.RawLifetime two = (one, (two refl, tt))
+    leaves kind two = every_placed P part at (at + length t) (sorts_of kind next t) one
 
-    go : (rest : List ℕ) → t ≡ 39 ∷ rest → 1 < length t
-    go [] e = absurd (omega (arith, ap length (sym letters ∙ ap chars e ∙ ascii_first 39 [] (omega arith)), ap length chars-nil))
-    go (b ∷ bs) e = subst (λ u. 1 < length u) (sym e) (omega arith)
-
--- each piece begins from a byte on and before another
-abbrev pub Within : (from to : ℕ) → List Piece → Type 0
-Within from to [] = Unit {0}
-Within from to (p ∷ ps) = (from ≤ p.start) × (p.start < to) × Within from to ps
-
--- each piece begins at the byte or after it
-abbrev pub From : (from : ℕ) → List Piece → Type 0
-From from [] = Unit {0}
-From from (p ∷ ps) = (from ≤ p.start) × From from ps
-
-pub within_append : (from to : ℕ) (ps qs : List Piece) → Within from to ps → Within from to qs → Within from to (ps ++ qs)
-within_append from to [] qs h k = k
-within_append from to (p ∷ ps) qs h k = (h.0, h.1, within_append from to ps qs h.2 k)
-
-pub within_wider : (from to from2 to2 : ℕ) (ps : List Piece) → from2 ≤ from → to ≤ to2 → Within from to ps → Within from2 to2 ps
-within_wider from to from2 to2 [] le le2 h = tt
-within_wider from to from2 to2 (p ∷ ps) le le2 h = (omega (arith, le, h.0), omega (arith, le2, h.1), within_wider from to from2 to2 ps le le2 h.2)
-
-within_placed : (part : SpanPart) (start end to : ℕ) (ss : List Sort) → start < to → Within start to (placed part start end ss)
-within_placed part start end to [] lt = tt
-within_placed part start end to (s ∷ ss) lt = (omega arith, lt, within_placed part start end to ss lt)
-
-within_leaves : (part : SpanPart) (kind : TokenKind) (next : Option TokenKind) (at : ℕ) (t : List ℕ) → 0 < length t → (is_lifetime kind ≡ true → 1 < length t) → Within at (at + length t) (leaves_of part kind next at t)
-within_leaves part (kinds.Lifetime digit) next at t some two = let more = two refl in (omega arith, omega (arith, more), (omega arith, omega (arith, more), tt))
-within_leaves part kinds.RawLifetime next at t some two = let more = two refl in (omega arith, omega (arith, more), (omega arith, omega (arith, more), tt))
-within_leaves part kind next at t some two = within_placed part at (at + length t) (at + length t) (sorts_of kind next t) (omega (arith, some))
-
-within_pieces : (part : SpanPart) (kind : TokenKind) (next : Option TokenKind) (at : ℕ) (t : List ℕ) → 0 < length t → (is_lifetime kind ≡ true → 1 < length t) → Within at (at + length t) (pieces_of part kind next at t)
-within_pieces part kind next at t some two = by (role_in kind t)
-  where
-    by : (role : Role) → Within at (at + length t) (pieces_as role part kind next at t)
+    by : (role : Role) → Every P (pieces_as role part kind next at t)
     by (Bad why) = tt
     by Nothing = tt
-    by (Opens pair) = (omega arith, omega (arith, some), tt)
-    by (Closes pair) = (omega arith, omega (arith, some), tt)
-    by Leaf = within_leaves part kind next at t some two
+    by (Opens pair) = (one, tt)
+    by (Closes pair) = (one, tt)
+    by Leaf = leaves kind two
 
--- the pieces of a chunk begin in its bytes
-pub chunk_within : (part : SpanPart) (x : Chunk) (xs : List Chunk) (next : Option TokenKind) (at : ℕ) → IsChunk x xs → Within at (at + length x.text) (pieces_of part x.kind next at x.text)
-chunk_within part x xs next at it = within_pieces part x.kind next at x.text (some x.text it.some) (two (chars x.text) refl)
-  where
-    some : (t : List ℕ) → chars t ≢ [] → 0 < length t
-    some [] h = absurd (h chars-nil)
-    some (b ∷ t) h = omega arith
+-- a byte is among those of a text
+abbrev Within : (at len n : ℕ) → Type 0
+Within at len n = (at ≤ n) × (n < at + len)
 
-    two : (letters : List ℕ) → chars x.text ≡ letters → is_lifetime x.kind ≡ true → 1 < length x.text
-    two [] e life = absurd (it.some e)
-    two (c ∷ cs) e life =
-        let known = life_two c cs (text xs) x.kind (ap (λ t. reading (t ++ text xs)) (sym e) ∙ it.reads) life in
-        life_bytes x.text c cs it.utf8 e known.0 known.1
+chunk_within : (part : SpanPart) (x : Chunk) (xs : List Chunk) (next : Option TokenKind) (at : ℕ) → IsChunk x xs → Every (Within at (length x.text)) (pieces_of part x.kind next at x.text)
+chunk_within part x xs next at it = every_pieces (Within at (length x.text)) part x.kind next at x.text (omega arith, omega (arith, some_bytes x.text it.some)) (λ life. (omega arith, omega (arith, two_bytes x xs it life)))
 
 -- the pieces of the first chunks, and those of the others
 pub record Front (part : SpanPart) (at : ℕ) (front back : List Chunk) : Type 0 where
   pub pieces : List Piece
-  pub are : pieces_from part at (joined (front ++ back)) (tokens_of (front ++ back)) ≡ pieces ++ pieces_from part (at + length (joined front)) (joined back) (tokens_of back)
+  pub are : pieces_in part at (front ++ back) ≡ pieces ++ pieces_in part (at + length (joined front)) back
   pub means : sorts pieces ≡ means_of front
-  pub within : Within at (at + length (joined front)) pieces
+  pub below : Every (λ n. n < at + length (joined front)) pieces
 
 pub front_pieces : (part : SpanPart) (at : ℕ) (front back : List Chunk) → AreChunks (front ++ back) → Front part at front back
-front_pieces part at [] back are = record { pieces = []; are = ap (λ n. pieces_from part n (joined back) (tokens_of back)) (omega arith); means = refl; within = tt }
+front_pieces part at [] back are = record { pieces = []; are = ap (λ n. pieces_in part n back) (omega arith); means = refl; below = tt }
 front_pieces part at (x ∷ front) back are =
     let n = length x.text in
-    let rest = joined (front ++ back) in
-    let tokens = tokens_of (front ++ back) in
-    let here = pieces_of part x.kind (next_kind tokens) at x.text in
+    let here = pieces_of part x.kind (next_kind (tokens_of (front ++ back))) at x.text in
     let inner = front_pieces part (at + n) front back are.1 in
     let ends : (at + n) + length (joined front) ≡ at + length (x.text ++ joined front) = omega (arith, length-append x.text (joined front)) in
     record {
       pieces = here ++ inner.pieces;
-      are =
-          ap₂ (λ t u. pieces_of part x.kind (next_kind tokens) at t ++ pieces_from part (at + n) u tokens) (take-append_seam x.text rest) (drop-append_seam x.text rest)
-          ∙ ap (λ ps. here ++ ps) (inner.are ∙ ap (λ m. inner.pieces ++ pieces_from part m (joined back) (tokens_of back)) ends)
-          ∙ sym (append_assoc here inner.pieces (pieces_from part (at + length (x.text ++ joined front)) (joined back) (tokens_of back)));
+      are = ap (λ ps. here ++ ps) (inner.are ∙ ap (λ m. inner.pieces ++ pieces_in part m back) ends) ∙ sym (append_assoc here inner.pieces _);
       means = sorts-append here inner.pieces ∙ ap₂ (λ a b. a ++ b) (are.0.means part at) inner.means;
-      within =
-          within_append at (at + length (x.text ++ joined front)) here inner.pieces
-          (within_wider at (at + n) at (at + length (x.text ++ joined front)) here (omega arith) (omega (arith, length-append x.text (joined front))) (chunk_within part x (front ++ back) (next_kind tokens) at are.0))
-          (within_wider (at + n) ((at + n) + length (joined front)) at (at + length (x.text ++ joined front)) inner.pieces (omega arith) (omega (arith, ends)) inner.within);
+      below =
+          every_append (λ m. m < at + length (x.text ++ joined front)) here inner.pieces
+          (every_more (Within at n) _ (λ m h. omega (arith, h.1, length-append x.text (joined front))) here (chunk_within part x (front ++ back) (next_kind (tokens_of (front ++ back))) at are.0))
+          (every_more (λ m. m < (at + n) + length (joined front)) _ (λ m h. omega (arith, h, ends)) inner.pieces inner.below);
     }
 
-pub from_within : (from to : ℕ) (ps : List Piece) → Within from to ps → From from ps
-from_within from to [] h = tt
-from_within from to (p ∷ ps) h = (h.0, from_within from to ps h.2)
-
-pub from_append : (from : ℕ) (ps qs : List Piece) → From from ps → From from qs → From from (ps ++ qs)
-from_append from [] qs h k = k
-from_append from (p ∷ ps) qs h k = (h.0, from_append from ps qs h.1 k)
-
-pub from_less : (from less : ℕ) (ps : List Piece) → less ≤ from → From from ps → From less ps
-from_less from less [] le h = tt
-from_less from less (p ∷ ps) le h = (omega (arith, le, h.0), from_less from less ps le h.1)
-
 -- all pieces of chunks begin where the chunks begin, or after it
-pub all_from : (part : SpanPart) (at : ℕ) (chunks : List Chunk) → AreChunks chunks → From at (pieces_from part at (joined chunks) (tokens_of chunks))
+pub all_from : (part : SpanPart) (at : ℕ) (chunks : List Chunk) → AreChunks chunks → Every (λ n. at ≤ n) (pieces_in part at chunks)
 all_from part at [] are = tt
 all_from part at (x ∷ xs) are =
-    let n = length x.text in
-    let tokens = tokens_of xs in
-    let here = pieces_of part x.kind (next_kind tokens) at x.text in
-    let whole = ap₂ (λ t u. pieces_of part x.kind (next_kind tokens) at t ++ pieces_from part (at + n) u tokens) (take-append_seam x.text (joined xs)) (drop-append_seam x.text (joined xs)) in
-    subst (From at) (sym whole)
-    (from_append at here (pieces_from part (at + n) (joined xs) tokens) (from_within at (at + n) here (chunk_within part x xs (next_kind tokens) at are.0))
-    (from_less (at + n) at (pieces_from part (at + n) (joined xs) tokens) (omega arith) (all_from part (at + n) xs are.1)))
-
-before_none : (at : ℕ) (ps : List Piece) → From at ps → before_byte at ps ≡ []
-before_none at [] h = refl
-before_none at (p ∷ ps) h = ap (λ b. if b then p ∷ before_byte at ps else before_byte at ps) (le-ltb p.start at h.0) ∙ before_none at ps h.1
+    let here = pieces_of part x.kind (next_kind (tokens_of xs)) at x.text in
+    every_append (λ n. at ≤ n) here (pieces_in part (at + length x.text) xs)
+    (every_more (Within at (length x.text)) _ (λ m h. h.0) here (chunk_within part x xs (next_kind (tokens_of xs)) at are.0))
+    (every_more (λ n. at + length x.text ≤ n) _ (λ m h. omega (arith, h)) _ (all_from part (at + length x.text) xs are.1))
 
 -- the pieces that begin before a byte are those at the front
-pub before_front : (from at : ℕ) (ps qs : List Piece) → Within from at ps → From at qs → before_byte at (ps ++ qs) ≡ ps
-before_front from at [] qs h k = before_none at qs k
-before_front from at (p ∷ ps) qs h k =
-    ap (λ b. if b then p ∷ before_byte at (ps ++ qs) else before_byte at (ps ++ qs)) (lt-ltb p.start at h.1) ∙ ap (λ t. p ∷ t) (before_front from at ps qs h.2 k)
-
-from_all : (at : ℕ) (ps : List Piece) → From at ps → from_byte at ps ≡ ps
-from_all at [] h = refl
-from_all at (p ∷ ps) h = ap (λ b. if b then from_byte at ps else p ∷ from_byte at ps) (le-ltb p.start at h.0) ∙ ap (λ t. p ∷ t) (from_all at ps h.1)
+pub before_front : (at : ℕ) (ps qs : List Piece) → Every (λ n. n < at) ps → Every (λ n. at ≤ n) qs → before_byte at (ps ++ qs) ≡ ps
+before_front at [] [] h k = refl
+before_front at [] (q ∷ qs) h k = ap (λ b. if b then q ∷ before_byte at qs else before_byte at qs) (le-ltb q.start at k.0) ∙ before_front at [] qs h k.1
+before_front at (p ∷ ps) qs h k =
+    ap (λ b. if b then p ∷ before_byte at (ps ++ qs) else before_byte at (ps ++ qs)) (lt-ltb p.start at h.0) ∙ ap (λ t. p ∷ t) (before_front at ps qs h.1 k)
 
 -- and the others begin there or after it
-pub from_back : (from at : ℕ) (ps qs : List Piece) → Within from at ps → From at qs → from_byte at (ps ++ qs) ≡ qs
-from_back from at [] qs h k = from_all at qs k
-from_back from at (p ∷ ps) qs h k = ap (λ b. if b then from_byte at (ps ++ qs) else p ∷ from_byte at (ps ++ qs)) (lt-ltb p.start at h.1) ∙ from_back from at ps qs h.2 k
+pub from_back : (at : ℕ) (ps qs : List Piece) → Every (λ n. n < at) ps → Every (λ n. at ≤ n) qs → from_byte at (ps ++ qs) ≡ qs
+from_back at [] [] h k = refl
+from_back at [] (q ∷ qs) h k = ap (λ b. if b then from_byte at qs else q ∷ from_byte at qs) (le-ltb q.start at k.0) ∙ ap (λ t. q ∷ t) (from_back at [] qs h k.1)
+from_back at (p ∷ ps) qs h k = ap (λ b. if b then from_byte at (ps ++ qs) else p ∷ from_byte at (ps ++ qs)) (lt-ltb p.start at h.0) ∙ from_back at ps qs h.1 k

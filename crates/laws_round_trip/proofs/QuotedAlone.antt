@@ -20,7 +20,7 @@ use Rattle.syntax_lex.specs.Reading.{reading}
 use Rattle.syntax_lex.specs.declared.token.LiteralKind.{LiteralKind}
 use Rattle.syntax_lex.specs.declared.token.LiteralKind.TheVariants as literals
 use Rattle.syntax_lex.specs.declared.token.TokenKind.TheVariants as kinds
-use Rattle.laws_round_trip.proofs.Quotes.{Quoted, has_quotes, is_quoted, lit_of}
+use Rattle.laws_round_trip.proofs.Quotes.{Quoted, has_quotes, is_quoted, lit_of, text_in}
 use Rattle.laws_round_trip.proofs.Roles.{literal_kept}
 use Rattle.laws_tokens.proofs.TwinWords.{byte_length-is}
 use Rattle.laws_round_trip.proofs.Words.{scalars-back, scalars-front, whole_token}
@@ -70,71 +70,41 @@ raw_closing : (n : ℕ) → IsPlain (34 ∷ replicate n 35)
 raw_closing n = letter 34 _ (omega arith) refl (hashes_plain n)
 
 -- the characters that open and close a literal are ASCII
-opening_plain : (kind : LitKind) → IsPlain (opening_quote kind)
-opening_plain lit.Byte = letter 98 _ (omega arith) refl apostrophe
-opening_plain lit.Char = apostrophe
-opening_plain lit.Integer = no_text
-opening_plain lit.Float = no_text
-opening_plain lit.Str = quote
-opening_plain (lit.StrRaw count) = raw_opening count
-opening_plain lit.ByteStr = letter 98 _ (omega arith) refl quote
-opening_plain (lit.ByteStrRaw count) = letter 98 _ (omega arith) refl (raw_opening count)
-opening_plain lit.CStr = letter 99 _ (omega arith) refl quote
-opening_plain (lit.CStrRaw count) = letter 99 _ (omega arith) refl (raw_opening count)
-opening_plain (lit.Err unit) = no_text
-
-closing_plain : (kind : LitKind) → IsPlain (closing_quote kind)
-closing_plain lit.Byte = apostrophe
-closing_plain lit.Char = apostrophe
-closing_plain lit.Integer = no_text
-closing_plain lit.Float = no_text
-closing_plain lit.Str = quote
-closing_plain (lit.StrRaw count) = raw_closing count
-closing_plain lit.ByteStr = quote
-closing_plain (lit.ByteStrRaw count) = raw_closing count
-closing_plain lit.CStr = quote
-closing_plain (lit.CStrRaw count) = raw_closing count
-closing_plain (lit.Err unit) = no_text
+quotes_plain : (kind : LitKind) → IsPlain (opening_quote kind) × IsPlain (closing_quote kind)
+quotes_plain lit.Byte = (letter 98 _ (omega arith) refl apostrophe, apostrophe)
+quotes_plain lit.Char = (apostrophe, apostrophe)
+quotes_plain lit.Integer = (no_text, no_text)
+quotes_plain lit.Float = (no_text, no_text)
+quotes_plain lit.Str = (quote, quote)
+quotes_plain (lit.StrRaw count) = (raw_opening count, raw_closing count)
+quotes_plain lit.ByteStr = (letter 98 _ (omega arith) refl quote, quote)
+quotes_plain (lit.ByteStrRaw count) = (letter 98 _ (omega arith) refl (raw_opening count), raw_closing count)
+quotes_plain lit.CStr = (letter 99 _ (omega arith) refl quote, quote)
+quotes_plain (lit.CStrRaw count) = (letter 99 _ (omega arith) refl (raw_opening count), raw_closing count)
+quotes_plain (lit.Err unit) = (no_text, no_text)
 
 -- the scan gives the lengths of both
 hashes_long : (n : ℕ) → length {A = ℕ} (replicate n 35 ++ 34 ∷ []) ≡ n + 1
 hashes_long n = length-append (replicate n 35) (34 ∷ []) ∙ omega (arith, length-replicate {A = ℕ} n 35)
 
 opening_long : (kind : LiteralKind) → opening_len (scan_of kind) ≡ length (opening_quote (lit_of kind))
-opening_long (literals.Int base empty) = refl
-opening_long (literals.Float base empty) = refl
-opening_long (literals.Char terminated) = refl
-opening_long (literals.Byte terminated) = refl
-opening_long (literals.Str terminated) = refl
-opening_long (literals.ByteStr terminated) = refl
-opening_long (literals.CStr terminated) = refl
 opening_long (literals.RawStr hashes) = omega (arith, hashes_long (unwrap_or hashes 0))
 opening_long (literals.RawByteStr hashes) = omega (arith, hashes_long (unwrap_or hashes 0))
 opening_long (literals.RawCStr hashes) = omega (arith, hashes_long (unwrap_or hashes 0))
+opening_long kind = refl
 
 closing_long : (kind : LiteralKind) → is_quoted kind ≡ true → closing_len (scan_of kind) ≡ length (closing_quote (lit_of kind))
 closing_long (literals.Int base empty) is = absurd (false≢true is)
 closing_long (literals.Float base empty) is = absurd (false≢true is)
-closing_long (literals.Char terminated) is = ap quote_len is
-closing_long (literals.Byte terminated) is = ap quote_len is
-closing_long (literals.Str terminated) is = ap quote_len is
-closing_long (literals.ByteStr terminated) is = ap quote_len is
-closing_long (literals.CStr terminated) is = ap quote_len is
 closing_long (literals.RawStr hashes) is = omega (arith, length-replicate {A = ℕ} (unwrap_or hashes 0) 35)
 closing_long (literals.RawByteStr hashes) is = omega (arith, length-replicate {A = ℕ} (unwrap_or hashes 0) 35)
 closing_long (literals.RawCStr hashes) is = omega (arith, length-replicate {A = ℕ} (unwrap_or hashes 0) 35)
+closing_long kind is = ap quote_len is
 
 no_number : (kind : LiteralKind) → is_quoted kind ≡ true → is_number (lit_of kind) ≡ false
 no_number (literals.Int base empty) is = absurd (false≢true is)
 no_number (literals.Float base empty) is = absurd (false≢true is)
-no_number (literals.Char terminated) is = refl
-no_number (literals.Byte terminated) is = refl
-no_number (literals.Str terminated) is = refl
-no_number (literals.ByteStr terminated) is = refl
-no_number (literals.CStr terminated) is = refl
-no_number (literals.RawStr hashes) is = refl
-no_number (literals.RawByteStr hashes) is = refl
-no_number (literals.RawCStr hashes) is = refl
+no_number kind is = refl
 
 -- the parts of a text with a value between quotes and a rest after them
 parts_are : (kind : LiteralKind) (word value rest : List ℕ) (start : ℕ) → is_quoted kind ≡ true → word ≡ opening_quote (lit_of kind) ++ (value ++ (closing_quote (lit_of kind) ++ rest))
@@ -154,15 +124,11 @@ parts_are kind word value rest start is are place =
     let inner : slice_range word (opening_len (scan_of kind)) (start - closing_len (scan_of kind)) ≡ value = ap₂ (λ n t. take n t) long behind ∙ take-append_seam value (after ++ rest) in
     ap₂ (λ v t. told word (lit_of kind) v (suffix_told t)) inner left
 
--- the text of a literal in quotes
-abbrev pub text_in : LiteralKind → (body : List ℕ) → List ℕ
-text_in kind body = opening_quote (lit_of kind) ++ (body ++ closing_quote (lit_of kind))
-
--- its bytes
+-- the bytes of the text of a literal in quotes
 pub text_bytes : (kind : LiteralKind) (body : List ℕ) → encodes (text_in kind body) ≡ text_in kind (encodes body)
 text_bytes kind body =
-    let before = opening_plain (lit_of kind) in
-    let after = closing_plain (lit_of kind) in
+    let before = (quotes_plain (lit_of kind)).0 in
+    let after = (quotes_plain (lit_of kind)).1 in
     encodes-append (opening_quote (lit_of kind)) (body ++ closing_quote (lit_of kind))
     ∙ ap₂ (λ a b. a ++ b) before.bytes (encodes-append body (closing_quote (lit_of kind)) ∙ ap (λ b. encodes body ++ b) after.bytes)
 
@@ -191,7 +157,7 @@ written_alone kind body start is fine read place role literal symbol sort len =
     word = encodes (text_in kind body)
 
     scalar : scalars (text_in kind body) ≡ true
-    scalar = scalars-join (opening_quote (lit_of kind)) _ (opening_plain (lit_of kind)).fine (scalars-join body (closing_quote (lit_of kind)) fine (closing_plain (lit_of kind)).fine)
+    scalar = scalars-join (opening_quote (lit_of kind)) _ (quotes_plain (lit_of kind)).0.fine (scalars-join body (closing_quote (lit_of kind)) fine (quotes_plain (lit_of kind)).1.fine)
 
     whole : IsOneToken word × (first_kind word ≡ kinds.Literal kind start)
     whole = whole_token word (text_in kind body) (kinds.Literal kind start) (text_in kind body, (scalar, refl)) (chars-encodes (text_in kind body) scalar) read role
@@ -221,20 +187,8 @@ quoted_alone kind word front start it is bytes fine role quotes literal symbol s
     text : List ℕ
     text = text_in kind it.body
 
-    are : front ≡ opening_quote (lit_of kind) ++ (it.body ++ (closing_quote (lit_of kind) ++ it.rest))
-    are = it.are ∙ ap₂ (λ a b. a ++ (it.body ++ (b ++ it.rest))) it.opens it.closes
-
-    same : it.before ++ (it.body ++ it.after) ≡ text
-    same = ap₂ (λ a b. a ++ (it.body ++ b)) it.opens it.closes
-
-    whole : front ≡ text ++ it.rest
-    whole = are ∙ sym (append_assoc (opening_quote (lit_of kind)) (it.body ++ closing_quote (lit_of kind)) it.rest ∙ ap (λ t. opening_quote (lit_of kind) ++ t) (append_assoc it.body (closing_quote (lit_of kind)) it.rest))
-
-    place : start ≡ byte_length text
-    place = it.place ∙ ap byte_length same
-
     words : word ≡ encodes text ++ encodes it.rest
-    words = bytes ∙ ap encodes whole ∙ encodes-append text it.rest
+    words = bytes ∙ ap encodes it.are ∙ encodes-append text it.rest
 
     value : List ℕ
     value = encodes it.body
@@ -247,13 +201,13 @@ quoted_alone kind word front start it is bytes fine role quotes literal symbol s
         parts_are kind word value (encodes it.rest) start is
         (words ∙ ap (λ t. t ++ encodes it.rest) (text_bytes kind it.body) ∙ append_assoc (opening_quote (lit_of kind)) (value ++ closing_quote (lit_of kind)) (encodes it.rest)
         ∙ ap (λ t. opening_quote (lit_of kind) ++ t) (append_assoc value (closing_quote (lit_of kind)) (encodes it.rest)))
-        (place ∙ byte_length-is text ∙ ap length (text_bytes kind it.body))
+        (it.place ∙ byte_length-is text ∙ ap length (text_bytes kind it.body))
 
     scalar : scalars it.body ≡ true
-    scalar = scalars-front it.body (closing_quote (lit_of kind) ++ it.rest) (scalars-back (opening_quote (lit_of kind)) _ (subst (λ t. scalars t ≡ true) are fine))
+    scalar = scalars-front it.body (closing_quote (lit_of kind)) (scalars-back (opening_quote (lit_of kind)) _ (scalars-front text it.rest (subst (λ t. scalars t ≡ true) it.are fine)))
 
     leaf : role_in (kinds.Literal kind start) (encodes text) ≡ Leaf
-    leaf = literal_kept kind start (encodes text) (encodes it.rest) (place ∙ byte_length-is text) (subst (λ w. role_in (kinds.Literal kind start) w ≡ Leaf) words role)
+    leaf = literal_kept kind start (encodes text) (encodes it.rest) (it.place ∙ byte_length-is text) (subst (λ w. role_in (kinds.Literal kind start) w ≡ Leaf) words role)
 
     made : LiteralParts
     made = record { kind = lit_of kind; value = value; suffix = suffix }
@@ -264,4 +218,4 @@ quoted_alone kind word front start it is bytes fine role quotes literal symbol s
     go false e has s k l = absurd (false≢true has)
     go true e has s k l =
         let none : suffix ≡ [] = (bytes_eq-Decides suffix []).0 (sym (ap (λ b. b || bytes_eq suffix []) (no_number kind is)) ∙ e) in
-        written_alone kind it.body start is scalar (ap reading (sym same) ∙ it.alone) place leaf literal (s ∙ ap (λ t. value ++ t) none ∙ append-nil value) k (l ∙ ap length none)
+        written_alone kind it.body start is scalar it.alone it.place leaf literal (s ∙ ap (λ t. value ++ t) none ∙ append-nil value) k (l ∙ ap length none)

@@ -1,32 +1,113 @@
--- A literal in quotes that is read from a text: its quotes, the text between them, and the rest of the
--- token. Without that rest it is the same.
-use Rattle.std.proofs.Common.{◌≡◌, ℕ, ◌-◌, ◌<◌, Bool, true, false, List, [], ◌∷◌, ◌++◌, length, replicate, Option, Some, is_some, refl, sym, ap, ap₂, ◌∙◌, subst, arith, append-nil, append_assoc, if◌then◌else◌}
-use Rattle.std.proofs.lemmas.Bool.{false≢true}
-use Rattle.tt_base.specs.LeafText.{closing_quote, opening_quote}
-use Rattle.tt_base.specs.Scan.{kind_told}
-use Rattle.tt_base.specs.declared.literal.LitKind.{LitKind}
-use Rattle.tt_base.specs.declared.literal.LitKind.TheVariants as lit
-use Rattle.syntax_lex.proofs.GrammarFacts.{string_closed, string_read}
+-- A literal in quotes that is read from a text: its quotes, the text between them, and the rest of the token. Without that rest it is the same.
+use Rattle.std.proofs.Common.{◌≡◌, ℕ, zero, suc, ◌<◌, Bool, true, false, ◌==◌, ◌&&◌, List, [], ◌∷◌, ◌++◌, replicate, drop, Option, None, Some, is_some, refl, sym, ap, ◌∙◌, arith, append-nil, if◌then◌else◌, ◌-◌, not, length, ap₂, subst, append_assoc}
+use Rattle.std.proofs.lemmas.Bool.{and_parts, eqb-true, false≢true, lt-ltb, ltb-true}
+use Rattle.std.specs.Prelude.{nat_lt}
+use Rattle.laws_tokens.proofs.KeepFacts.{no_start, plain_null}
+use Rattle.laws_tokens.proofs.TwinQuotes.{char_twins}
+use Rattle.laws_tokens.proofs.TwinWords.{byte_length-append, byte_length-is}
+use Rattle.laws_tokens.proofs.Twins.{ended, plain, twin_is, twins_of}
+use Rattle.laws_tokens.specs.Stops.{is_closed, is_number_kind}
+use Rattle.syntax_lex.proofs.GrammarFacts.{hashes_front, raw_closed, raw_read, string_closed, string_read}
 use Rattle.syntax_lex.proofs.TokenFacts.{byte_length-nil}
 use Rattle.syntax_lex.specs.Class.{is_id_continue}
-use Rattle.syntax_lex.specs.Closing.{behind_quote, raw_text}
-use Rattle.syntax_lex.specs.Front.{behind, behind_name, byte_length}
+use Rattle.syntax_lex.specs.Closing.{behind_raw, counted, hashes_of, raw_body, raw_text, behind_quote}
+use Rattle.syntax_lex.specs.Front.{first, second, skip, behind, behind_name, byte_length}
 use Rattle.syntax_lex.specs.Grammar.{IsRawText}
 use Rattle.syntax_lex.specs.Literals.{quoted, raw}
+use Rattle.syntax_lex.specs.Opening.{opening}
 use Rattle.syntax_lex.specs.Quoted.{literal, quoted_char}
 use Rattle.syntax_lex.specs.Reading.{reading}
+use Rattle.syntax_lex.specs.declared.opening.Family.TheVariants as opens
 use Rattle.syntax_lex.specs.declared.token.LiteralKind.{LiteralKind}
-use Rattle.syntax_lex.specs.declared.token.LiteralKind.TheVariants as literals
-use Rattle.syntax_lex.specs.declared.token.TokenKind.{TokenKind}
 use Rattle.syntax_lex.specs.declared.token.TokenKind.TheVariants as kinds
-use Rattle.laws_round_trip.proofs.Numbers.{is_literal_token}
-use Rattle.laws_tokens.proofs.TwinQuotes.{char_twins}
-use Rattle.laws_round_trip.proofs.RawReads.{raw_text_back, raw_text_whole}
-use Rattle.laws_tokens.proofs.TwinWords.{byte_length-append, byte_length-is}
-use Rattle.laws_tokens.proofs.KeepFacts.{plain_null}
-use Rattle.laws_tokens.proofs.Twins.{ended, plain, twin_is, twins_of}
-use Rattle.syntax_parse.proofs.ShapeParts.{char_closed}
+use Rattle.syntax_lex.specs.declared.token.TokenKind.{TokenKind}
+use Rattle.syntax_parse.proofs.ShapeParts.{begins, char_closed}
 use Rattle.syntax_parse.specs.Pieces.{scan_of}
+use Rattle.tt_base.specs.LeafText.{closing_quote, opening_quote}
+use Rattle.tt_base.specs.Scan.{kind_told}
+use Rattle.tt_base.specs.declared.literal.LitKind.TheVariants as lit
+use Rattle.tt_base.specs.declared.literal.LitKind.{LitKind}
+
+-- exactly `n` hashes precede a quote
+hashes_counted : (n : ℕ) (t : List ℕ) → hashes_of (replicate n 35 ++ 34 ∷ t) ≡ n
+hashes_counted zero t = refl
+hashes_counted (suc n) t = ap suc (hashes_counted n t)
+
+drop_counted : (n : ℕ) (t : List ℕ) → drop n (replicate n 35 ++ t) ≡ t
+drop_counted zero t = refl
+drop_counted (suc n) t = drop_counted n t
+
+-- a raw text of fewer than 256 hashes, with nothing after it
+raw_text_whole : (n : ℕ) (body : List ℕ) → n < 256 → IsRawText n body → raw_text (replicate n 35 ++ 34 ∷ (body ++ 34 ∷ replicate n 35)) ≡ (Some n, [])
+unfolding raw_text
+raw_text_whole n body few is =
+    let inner : List ℕ = body ++ 34 ∷ replicate n 35 in
+    let told : counted true n ≡ Some n = rw (lt-ltb n 256 few) refl in
+    ap (λ k. raw_body k (drop k (replicate n 35 ++ 34 ∷ inner))) (hashes_counted n inner)
+    ∙ ap (raw_body n) (drop_counted n (34 ∷ inner))
+    ∙ ap (λ found. (counted found.0 n, found.1)) (ap (λ t. behind_raw n (body ++ 34 ∷ t)) (sym (append-nil (replicate n 35))) ∙ raw_read n body [] is)
+    ∙ ap (λ c. (c, [])) told
+
+-- an `r` before hashes and a quote begins a raw string
+pub raw_opens : (n : ℕ) (t : List ℕ) → opening 114 (first (replicate n 35 ++ 34 ∷ t)) (second (replicate n 35 ++ 34 ∷ t)) ≡ opens.RawStr
+unfolding opening
+raw_opens zero t = refl
+raw_opens (suc zero) t = rw (no_start 34 (omega arith) refl refl) refl
+raw_opens (suc (suc n)) t = rw (no_start 35 (omega arith) refl refl) refl
+
+-- so do a `b` or a `c` before that
+pub raw_byte_opens : (n : ℕ) (t : List ℕ) → opening 98 114 (first (replicate n 35 ++ 34 ∷ t)) ≡ opens.RawByteStr
+unfolding opening
+raw_byte_opens zero t = refl
+raw_byte_opens (suc n) t = refl
+
+pub raw_c_opens : (n : ℕ) (t : List ℕ) → opening 99 114 (first (replicate n 35 ++ 34 ∷ t)) ≡ opens.RawCStr
+unfolding opening
+raw_c_opens zero t = refl
+raw_c_opens (suc n) t = refl
+
+-- by whether it begins with a quote
+abbrev body_as : (n : ℕ) → (quote : Bool) → List ℕ → Option ℕ × List ℕ
+body_as n quote cs = if quote then (counted (behind_raw n (skip cs)).0 n, (behind_raw n (skip cs)).1) else (None, skip cs)
+
+-- a number that is counted is there
+some_told : (b : Bool) (n : ℕ) → is_some (if b then Some n else None) ≡ true → b ≡ true
+some_told true n some = refl
+some_told false n some = absurd (false≢true some)
+
+-- a closed raw text: its hashes, a quote, its inside, a quote and as many hashes, and the rest
+pub record RawText (cs : List ℕ) (found : Option ℕ × List ℕ) : Type 0 where
+  pub count : ℕ
+  pub body : List ℕ
+  pub few : count < 256
+  pub kept : IsRawText count body
+  pub told : found.0 ≡ Some count
+  pub are : cs ≡ replicate count 35 ++ 34 ∷ (body ++ 34 ∷ (replicate count 35 ++ found.1))
+
+pub raw_text_back : (cs : List ℕ) → is_some (raw_text cs).0 ≡ true → RawText cs (raw_text cs)
+unfolding raw_text
+raw_text_back cs = go (first rest == 34) refl
+  where
+    n : ℕ
+    n = hashes_of cs
+
+    rest : List ℕ
+    rest = drop n cs
+
+    go : (b : Bool) → (first rest == 34) ≡ b → is_some (body_as n b rest).0 ≡ true → RawText cs (body_as n b rest)
+    go false e some = absurd (false≢true some)
+    go true e some =
+        let found = behind_raw n (skip rest) in
+        let both : (found.0 && nat_lt n 256) ≡ true = some_told (found.0 && nat_lt n 256) n some in
+        let parts = and_parts found.0 (nat_lt n 256) both in
+        let it = raw_closed n (skip rest) found.1 (ap (λ b. (b, found.1)) parts.0) in record {
+          count = n;
+          body = it.0;
+          few = ltb-true n 256 parts.1;
+          kept = it.1;
+          told = ap (λ b. if b then Some n else None) both;
+          are = hashes_front n cs (omega arith) ∙ ap (λ t. replicate n 35 ++ t) (begins rest 33 (eqb-true (first rest) 34 e) ∙ ap (λ t. 34 ∷ t) it.2);
+        }
 
 -- whether a literal of a kind has quotes: all except numbers, and literals with a suffix that they may not have
 abbrev pub has_quotes : LitKind → Bool
@@ -37,41 +118,28 @@ has_quotes _ = true
 
 -- whether a kind is that of a literal in quotes that is closed
 abbrev pub is_quoted : LiteralKind → Bool
-is_quoted (literals.Int base empty) = false
-is_quoted (literals.Float base empty) = false
-is_quoted (literals.Char terminated) = terminated
-is_quoted (literals.Byte terminated) = terminated
-is_quoted (literals.Str terminated) = terminated
-is_quoted (literals.ByteStr terminated) = terminated
-is_quoted (literals.CStr terminated) = terminated
-is_quoted (literals.RawStr hashes) = is_some hashes
-is_quoted (literals.RawByteStr hashes) = is_some hashes
-is_quoted (literals.RawCStr hashes) = is_some hashes
+is_quoted kind = not (is_number_kind kind) && is_closed kind
 
 -- whether a token is such a literal
 abbrev pub is_quoted_token : TokenKind → Bool
 is_quoted_token (kinds.Literal kind start) = is_quoted kind
 is_quoted_token _ = false
 
-pub no_quoted : (kind : TokenKind) → is_literal_token kind ≡ false → is_quoted_token kind ≡ false
-no_quoted (kinds.Literal kind start) h = absurd (false≢true (sym h))
-no_quoted kind h = refl
-
 -- the literal for a lexer's kind
 abbrev pub lit_of : LiteralKind → LitKind
 lit_of kind = kind_told (scan_of kind)
 
+-- the text of a literal in quotes
+abbrev pub text_in : LiteralKind → (body : List ℕ) → List ℕ
+text_in kind body = opening_quote (lit_of kind) ++ (body ++ closing_quote (lit_of kind))
+
 -- a literal in quotes and the rest of its token: without that rest the text is one token of the same kind
 pub record Quoted (kind : LiteralKind) (front : List ℕ) (start : ℕ) : Type 0 where
-  pub before : List ℕ
   pub body : List ℕ
-  pub after : List ℕ
   pub rest : List ℕ
-  pub opens : before ≡ opening_quote (lit_of kind)
-  pub closes : after ≡ closing_quote (lit_of kind)
-  pub are : front ≡ before ++ (body ++ (after ++ rest))
-  pub place : start ≡ byte_length (before ++ (body ++ after))
-  pub alone : reading (before ++ (body ++ after)) ≡ (kinds.Literal kind start, [])
+  pub are : front ≡ text_in kind body ++ rest
+  pub place : start ≡ byte_length (text_in kind body)
+  pub alone : reading (text_in kind body) ≡ (kinds.Literal kind start, [])
 
 -- a token that is such a literal
 abbrev pub QuotedAs : TokenKind → List ℕ → Type 0
@@ -85,20 +153,12 @@ IsAll kind text = reading text ≡ (kinds.Literal kind (byte_length text - byte_
 pub quoted_as : (kind : LiteralKind) (front before body after rest : List ℕ) → before ≡ opening_quote (lit_of kind) → after ≡ closing_quote (lit_of kind)
     → front ≡ before ++ (body ++ (after ++ rest)) → IsAll kind (before ++ (body ++ after)) → Quoted kind front (byte_length front - byte_length rest)
 quoted_as kind front before body after rest opens closes are read =
-    let text : List ℕ = before ++ (body ++ after) in
-    let whole : front ≡ text ++ rest = are ∙ sym (append_assoc before (body ++ after) rest ∙ ap (λ t. before ++ t) (append_assoc body after rest)) in
+    let text : List ℕ = text_in kind body in
+    let same : before ++ (body ++ after) ≡ text = ap₂ (λ a b. a ++ (body ++ b)) opens closes in
+    let whole : front ≡ text ++ rest = are ∙ sym (append_assoc before (body ++ after) rest ∙ ap (λ t. before ++ t) (append_assoc body after rest)) ∙ ap (λ t. t ++ rest) same in
     let place : byte_length front - byte_length rest ≡ byte_length text = omega (arith, ap byte_length whole, byte_length-append text rest, byte_length-is text) in
-    let all : byte_length text - byte_length [] ≡ byte_length front - byte_length rest = omega (arith, place, byte_length-nil) in record {
-      before = before;
-      body = body;
-      after = after;
-      rest = rest;
-      opens = opens;
-      closes = closes;
-      are = are;
-      place = place;
-      alone = read ∙ ap (λ n. (kinds.Literal kind n, [])) all;
-    }
+    let all : byte_length text - byte_length [] ≡ byte_length front - byte_length rest = omega (arith, place, byte_length-nil) in
+    record { body = body; rest = rest; are = whole; place = place; alone = subst (IsAll kind) same read ∙ ap (λ n. (kinds.Literal kind n, [])) all }
 
 -- an empty text has no name
 name_nil : behind_name [] ≡ []

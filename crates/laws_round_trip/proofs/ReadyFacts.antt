@@ -1,6 +1,6 @@
 -- What may follow what was written last, and a token of a text.
-use Rattle.std.proofs.Common.{◌≡◌, ◌≢◌, ◌⊎◌, ℕ, Bool, true, false, ◌==◌, ◌||◌, IsTrue, inl, inr, List, [], ◌∷◌, ◌++◌, Option, None, Some, refl, sym, ap, ap₂, ◌∙◌, subst, arith, if◌then◌else◌}
-use Rattle.std.proofs.Math.Utf8.{encodes, scalars}
+use Rattle.std.proofs.Common.{◌≡◌, ◌≢◌, ◌⊎◌, ℕ, Bool, true, false, ◌==◌, ◌||◌, IsTrue, inl, inr, List, [], ◌∷◌, ◌++◌, Option, None, Some, is_some, refl, sym, ap, ap₂, ◌∙◌, subst, arith, if◌then◌else◌}
+use Rattle.std.proofs.Math.Bool.{or-true}
 use Rattle.std.specs.Str.{chars, IsUtf8}
 use Rattle.tt_base.specs.Token.{rawness_of, without_raw_prefix}
 use Rattle.tt_base.specs.TreeText.{is_alone}
@@ -10,11 +10,11 @@ use Rattle.syntax_lex.specs.Front.{first}
 use Rattle.syntax_lex.specs.Opening.{opening}
 use Rattle.syntax_lex.specs.Reading.{reading, reading_of}
 use Rattle.syntax_lex.specs.declared.token.TokenKind.{TokenKind}
-use Rattle.laws_round_trip.proofs.Names.{name_alone}
+use Rattle.syntax_lex.specs.declared.token.TokenKind.TheVariants as kinds
+use Rattle.laws_round_trip.proofs.Words.{name_alone, whole_token}
 use Rattle.laws_round_trip.proofs.Tokens.{token_alone}
 use Rattle.laws_round_trip.proofs.SortFits.{IsPair, NameAlone, NoQuote, QuoteFits, SignFollows, SortFits, begins_sign, settled_before}
-use Rattle.laws_round_trip.proofs.ToldKinds.{Told, line, block, blank, wrong, opened, closed, wordy, valued, living, sign as sign_kind, punct_back, told}
-use Rattle.laws_round_trip.proofs.Words.{whole_token}
+use Rattle.laws_round_trip.proofs.ToldKinds.{no_punct, punct_back}
 use Rattle.laws_round_trip.specs.Whole.{is_whole}
 use Rattle.laws_tokens.proofs.KeepFacts.{no_start}
 use Rattle.syntax_parse.specs.Pieces.{punct_char, spacing_before}
@@ -23,11 +23,10 @@ use Rattle.syntax_parse.specs.Spelled.{Sort}
 use Rattle.syntax_parse.specs.declared.bracket.Bracket.{Bracket}
 use Rattle.syntax_parse.specs.declared.bracket.Bracket.TheVariants.{Parenthesis, Brace, Square}
 use Rattle.syntax_parse.specs.declared.role.Role.TheVariants.{Leaf}
-use Rattle.syntax_unparse.proofs.KindFacts.{lifetime_cases, punct_known}
 use Rattle.syntax_unparse.specs.Text.{behind_punct}
 use Rattle.syntax_unparse.specs.Writable.{IsOneToken, first_kind, is_name}
 use Rattle.syntax_unparse.specs.declared.behind.Behind.{Behind}
-use Rattle.syntax_unparse.specs.declared.behind.Behind.TheVariants.{Opening, Apart, Joint, Slash, Pound, Quote}
+use Rattle.syntax_unparse.specs.declared.behind.Behind.TheVariants.{Apart, Joint, Slash, Pound, Quote}
 
 -- the rest of a text may follow what was written last
 abbrev pub Ready : Behind → (letters : List ℕ) → (next : Option TokenKind) → Type 0
@@ -44,53 +43,37 @@ pub alone_joint : Alone ≡ JointSpacing → ⊥
 alone_joint h = cc
 
 pub ready_no_quote : (behind : Behind) (cs : List ℕ) (next : Option TokenKind) → Ready behind cs next → NoQuote behind
-ready_no_quote Opening cs next ready = tt
-ready_no_quote Apart cs next ready = tt
-ready_no_quote Joint cs next ready = tt
-ready_no_quote Slash cs next ready = tt
-ready_no_quote Pound cs next ready = tt
 ready_no_quote Quote cs next ready = absurd ready
+ready_no_quote behind cs next ready = tt
 
 -- no token that makes a punct alone follows a joint one
 pub ready_blank : (behind : Behind) (cs left : List ℕ) (kind : TokenKind) (next : Option TokenKind) → spacing_before (Some kind) ≡ Alone → Ready behind cs (Some kind) → Ready behind left next
-ready_blank Opening cs left kind next alone ready = tt
-ready_blank Apart cs left kind next alone ready = tt
-ready_blank Joint cs left kind next alone ready = tt
 ready_blank Slash cs left kind next alone ready = absurd (alone_joint (sym alone ∙ ready.1))
 ready_blank Pound cs left kind next alone ready = absurd (alone_joint (sym alone ∙ ready.1))
 ready_blank Quote cs left kind next alone ready = absurd ready
+ready_blank behind cs left kind next alone ready = tt
 
 pub ready_sign : (behind : Behind) (cs : List ℕ) (next : Option TokenKind) (c : ℕ) → Ready behind cs next → first cs ≡ c → SignFollows behind c
-ready_sign Opening cs next c ready is = tt
-ready_sign Apart cs next c ready is = tt
-ready_sign Joint cs next c ready is = tt
 ready_sign Slash cs next c ready is = ap (λ n. (n == 47) || (n == 42)) (sym is) ∙ ready.0
 ready_sign Pound cs next c ready is = ap (λ n. n == 35) (sym is) ∙ ready.0
 ready_sign Quote cs next c ready is = absurd ready
+ready_sign behind cs next c ready is = tt
 
 pub ready_quote : (behind : Behind) (cs : List ℕ) (next : Option TokenKind) (c : ℕ) → Ready behind cs next → (((c == 47) || (c == 42)) ≡ false) → (c == 35) ≡ false → SignFollows behind c
-ready_quote Opening cs next c ready slash pound = tt
-ready_quote Apart cs next c ready slash pound = tt
-ready_quote Joint cs next c ready slash pound = tt
 ready_quote Slash cs next c ready slash pound = slash
 ready_quote Pound cs next c ready slash pound = pound
 ready_quote Quote cs next c ready slash pound = absurd ready
+ready_quote behind cs next c ready slash pound = tt
 
 pub ready_doc : (behind : Behind) (cs : List ℕ) (kind : TokenKind) → spacing_before (Some kind) ≡ Alone → Ready behind cs (Some kind) → SignFollows behind 35
-ready_doc Opening cs kind alone ready = tt
-ready_doc Apart cs kind alone ready = tt
-ready_doc Joint cs kind alone ready = tt
 ready_doc Slash cs kind alone ready = refl
 ready_doc Pound cs kind alone ready = absurd (alone_joint (sym alone ∙ ready.1))
 ready_doc Quote cs kind alone ready = absurd ready
+ready_doc behind cs kind alone ready = tt
 
 pub ready_name : (behind : Behind) (cs : List ℕ) (next : Option TokenKind) (text : List ℕ) → Ready behind cs next → QuoteFits behind (without_raw_prefix text) (rawness_of text)
-ready_name Opening cs next text ready = tt
-ready_name Apart cs next text ready = tt
-ready_name Joint cs next text ready = tt
-ready_name Slash cs next text ready = tt
-ready_name Pound cs next text ready = tt
 ready_name Quote cs next text ready = absurd ready
+ready_name behind cs next text ready = tt
 
 pub pair_is : (pair : Bracket) → IsPair (kind_of pair)
 pair_is Parenthesis = tt
@@ -100,34 +83,24 @@ pair_is Square = tt
 -- a token is alone or joint
 pub spacing_two : (next : Option TokenKind) → (spacing_before next ≡ Alone) ⊎ (spacing_before next ≡ JointSpacing)
 spacing_two None = inl refl
-spacing_two (Some kind) = go kind (told kind)
+spacing_two (Some (kinds.Lifetime digit)) = inr refl
+spacing_two (Some kinds.RawLifetime) = inr refl
+spacing_two (Some kind) = by (is_some (punct_char kind))
   where
-    go : (kind : TokenKind) → Told kind → (spacing_before (Some kind) ≡ Alone) ⊎ (spacing_before (Some kind) ≡ JointSpacing)
-    go kind (line style) = inl refl
-    go kind (block style terminated) = inl refl
-    go kind (blank role alone) = inl alone
-    go kind (wrong why role alone) = inl alone
-    go kind (opened pair role alone) = inl alone
-    go kind (closed pair role alone) = inl alone
-    go kind (wordy named alone) = inl alone
-    go kind (valued it start) = inl refl
-    go kind (living life) = lifetime_cases (λ k. (spacing_before (Some k) ≡ Alone) ⊎ (spacing_before (Some k) ≡ JointSpacing)) kind (λ digit. inr refl) (inr refl) life
-    go kind (sign_kind c is) = inr (punct_known kind c is).joint
+    by : (b : Bool) → ((if b then JointSpacing else Alone) ≡ Alone) ⊎ ((if b then JointSpacing else Alone) ≡ JointSpacing)
+    by true = inr refl
+    by false = inl refl
 
 -- a token of a text
 pub record Read (word letters left : List ℕ) (kind : TokenKind) : Type 0 where
-  pub front : List ℕ
-  pub letters_are : letters ≡ front ++ left
-  pub read : reading (front ++ left) ≡ (kind, left)
-  pub some : front ≢ []
-  pub fine : scalars front ≡ true
-  pub bytes : word ≡ encodes front
+  pub letters_are : letters ≡ chars word ++ left
+  pub read : reading (chars word ++ left) ≡ (kind, left)
+  pub some : chars word ≢ []
   pub utf8 : IsUtf8 word
-  pub chars_are : chars word ≡ front
 
 -- a token alone is one token
 pub one : (word letters left : List ℕ) (kind : TokenKind) → Read word letters left kind → is_whole kind ≡ true → role_in kind word ≡ Leaf → IsOneToken word × (first_kind word ≡ kind)
-one word letters left kind it is fine = whole_token word it.front kind it.utf8 it.chars_are (token_alone it.front left kind it.some it.read is) fine
+one word letters left kind it is fine = whole_token word (chars word) kind it.utf8 refl (token_alone (chars word) left kind it.some it.read is) fine
 
 pub name_reads : (word letters left : List ℕ) (kind : TokenKind) → Read word letters left kind → is_whole kind ≡ true → role_in kind word ≡ Leaf → IsTrue (is_name kind) → NameAlone (without_raw_prefix word) (rawness_of word)
 name_reads word letters left kind it is fine named ident text raw =
@@ -136,16 +109,13 @@ name_reads word letters left kind it is fine named ident text raw =
 
 -- a punct's text
 pub sign_letters : (word letters left : List ℕ) (kind : TokenKind) (c : ℕ) → Read word letters left kind → punct_char kind ≡ Some c → letters ≡ c ∷ left
-sign_letters word letters left kind c it is = go it.front it.letters_are it.read it.some
+sign_letters word letters left kind c it is = go (chars word) it.letters_are it.read it.some
   where
     go : (front : List ℕ) → letters ≡ front ++ left → reading (front ++ left) ≡ (kind, left) → front ≢ [] → letters ≡ c ∷ left
     go [] are read some = absurd (some refl)
     go (d ∷ ds) are read some =
         let back = punct_back d (ds ++ left) c (ap (λ p. punct_char p.0) read ∙ is) in
         are ∙ ap₂ (λ n t. n ∷ t) back.0 (sym back.1 ∙ ap (λ p. p.1) read)
-
-pub no_punct : (c : ℕ) → None ≡ Some c → ⊥
-no_punct c h = cc
 
 pub slash_apart : (left : List ℕ) (c : ℕ) → punct_char (reading (47 ∷ left)).0 ≡ Some c → ((first left == 47) || (first left == 42)) ≡ false
 unfolding reading reading_of opening
@@ -160,14 +130,10 @@ pub pound_apart : (left : List ℕ) (c : ℕ) → punct_char (reading (35 ∷ le
 unfolding reading reading_of opening
 pound_apart left c is = go (first left == 35) refl
   where
-    or_true : (b : Bool) → (b || true) ≡ true
-    or_true true = refl
-    or_true false = refl
-
     go : (a : Bool) → (first left == 35) ≡ a → (first left == 35) ≡ false
     go false e = e
     go true e =
-        let glued : ((first left == 34) || (first left == 35)) ≡ true = ap (λ b. (first left == 34) || b) e ∙ or_true (first left == 34) in
+        let glued : ((first left == 34) || (first left == 35)) ≡ true = ap (λ b. (first left == 34) || b) e ∙ or-true (first left == 34) in
         let none : punct_char (reading (35 ∷ left)).0 ≡ None = rw (no_start 35 (omega arith) refl refl, glued) refl in
         absurd (no_punct c (sym none ∙ is))
 

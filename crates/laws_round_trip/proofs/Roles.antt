@@ -1,5 +1,5 @@
 -- What the roles of tokens say about their texts: all facts about their shape that are used.
-use Rattle.std.proofs.Common.{◌≡◌, ◌⊎◌, ℕ, ◌<◌, Bool, true, false, IsTrue, inl, inr, List, ◌∷◌, ◌++◌, ◌&&◌, length, not, take, drop, is_none, Option, None, Some, refl, sym, ap, ap₂, ◌∙◌, arith, length-append, if◌then◌else◌}
+use Rattle.std.proofs.Common.{◌≡◌, ◌⊎◌, ℕ, Bool, true, false, IsTrue, inl, inr, List, ◌∷◌, ◌++◌, ◌&&◌, length, take, drop, is_none, Option, None, Some, refl, sym, ap, ap₂, ◌∙◌, arith, length-append, if◌then◌else◌}
 use Rattle.std.proofs.Math.Seq.{drop-length, take-append_seam, take-length}
 use Rattle.std.specs.Prelude.{nat_lt}
 use Rattle.syntax_lex.specs.declared.token.Base.TheVariants.{Binary, Octal, Decimal, Hexadecimal}
@@ -9,18 +9,17 @@ use Rattle.syntax_lex.specs.declared.token.LiteralKind.TheVariants as literals
 use Rattle.syntax_lex.specs.declared.token.TokenKind.{TokenKind}
 use Rattle.syntax_lex.specs.declared.token.TokenKind.TheVariants as kinds
 use Rattle.laws_tokens.specs.Stops.{is_closed}
-use Rattle.syntax_parse.proofs.Hashes.{block_few as block_wants, line_few as line_wants, none_wrong}
-use Rattle.syntax_parse.specs.Doc.{block_text, hashes_wanted, line_text}
+use Rattle.syntax_parse.proofs.Hashes.{none_wrong}
+use Rattle.syntax_parse.specs.Doc.{block_text, line_text}
 use Rattle.syntax_parse.specs.Inside.{bare_return, before_suffix, block_fault, fault_if, first_of, hashes_fault, inner_return, inside_fault, line_fault, literal_fault, return_fault, suffix_fault, takes_suffix}
 use Rattle.syntax_parse.specs.RawLiteral.{raw_fault}
-use Rattle.syntax_parse.specs.RawName.{behind_apostrophe, raw_name_fault}
 use Rattle.syntax_parse.specs.Role.{literal_role, role_in, with_inside}
 use Rattle.syntax_parse.specs.declared.fault.BadToken.{BadToken}
 use Rattle.syntax_parse.specs.declared.fault.BadToken.TheVariants as bad
 use Rattle.syntax_parse.specs.declared.role.Role.{Role}
-use Rattle.syntax_parse.specs.declared.role.Role.TheVariants.{Bad, Closes, Leaf, Nothing, Opens}
-use Rattle.syntax_unparse.proofs.KindFacts.{closed_leaf, lifetime_cases, name_cases}
-use Rattle.syntax_unparse.specs.Writable.{is_lifetime, is_name}
+use Rattle.syntax_parse.specs.declared.role.Role.TheVariants.{Bad, Leaf}
+use Rattle.syntax_unparse.proofs.KindFacts.{closed_leaf, lifetime_cases}
+use Rattle.syntax_unparse.specs.Writable.{is_lifetime}
 
 -- a leaf, or bad
 abbrev pub IsEither : Role → Type 0
@@ -47,47 +46,27 @@ other_base false None = inr (bad.FloatOfAnotherBase, refl)
 other_base false (Some why) = inr (bad.FloatOfAnotherBase, refl)
 
 literal_either : (kind : LiteralKind) (text : List ℕ) (inside : Option BadToken) → IsEither (with_inside (literal_role kind text) inside)
-literal_either (literals.Int base empty) text inside = leaf_or_bad empty bad.NoDigits inside
 literal_either (literals.Float Decimal empty) text inside = leaf_or_bad empty bad.EmptyExponent inside
 literal_either (literals.Float Binary empty) text inside = other_base empty inside
 literal_either (literals.Float Octal empty) text inside = other_base empty inside
 literal_either (literals.Float Hexadecimal empty) text inside = other_base empty inside
-literal_either (literals.Char terminated) text inside = leaf_or_bad (not terminated) bad.UnterminatedLiteral inside
-literal_either (literals.Byte terminated) text inside = leaf_or_bad (not terminated) bad.UnterminatedLiteral inside
-literal_either (literals.Str terminated) text inside = leaf_or_bad (not terminated) bad.UnterminatedLiteral inside
-literal_either (literals.ByteStr terminated) text inside = leaf_or_bad (not terminated) bad.UnterminatedLiteral inside
-literal_either (literals.CStr terminated) text inside = leaf_or_bad (not terminated) bad.UnterminatedLiteral inside
-literal_either (literals.RawStr hashes) text inside = leaf_or_bad (is_none hashes) (raw_fault (drop 1 text)) inside
-literal_either (literals.RawByteStr hashes) text inside = leaf_or_bad (is_none hashes) (raw_fault (drop 2 text)) inside
-literal_either (literals.RawCStr hashes) text inside = leaf_or_bad (is_none hashes) (raw_fault (drop 2 text)) inside
+literal_either kind text inside = leaf_or_bad _ _ inside
 
 -- a token that is a leaf is one whatever its text is
 role_leaf : (role : Role) (inside : Option BadToken) → with_inside role inside ≡ Leaf → role ≡ Leaf
 role_leaf Leaf inside h = refl
-role_leaf (Bad why) None h = h
-role_leaf (Bad why) (Some other) h = h
-role_leaf Nothing None h = h
-role_leaf Nothing (Some other) h = h
-role_leaf (Opens pair) None h = h
-role_leaf (Opens pair) (Some other) h = h
-role_leaf (Closes pair) None h = h
-role_leaf (Closes pair) (Some other) h = h
+role_leaf role None h = h
+role_leaf role (Some other) h = h
 
 leaf_stays : (wrong : Bool) (why other : BadToken) → (if wrong then Bad why else Leaf) ≡ Leaf → (if wrong then Bad other else Leaf) ≡ Leaf
 leaf_stays true why other h = absurd (bad_leaf why h)
 leaf_stays false why other h = refl
 
 literal_stays : (kind : LiteralKind) (text other : List ℕ) → literal_role kind text ≡ Leaf → literal_role kind other ≡ Leaf
-literal_stays (literals.Int base empty) text other h = h
-literal_stays (literals.Float base empty) text other h = h
-literal_stays (literals.Char terminated) text other h = h
-literal_stays (literals.Byte terminated) text other h = h
-literal_stays (literals.Str terminated) text other h = h
-literal_stays (literals.ByteStr terminated) text other h = h
-literal_stays (literals.CStr terminated) text other h = h
 literal_stays (literals.RawStr hashes) text other h = leaf_stays (is_none hashes) (raw_fault (drop 1 text)) (raw_fault (drop 1 other)) h
 literal_stays (literals.RawByteStr hashes) text other h = leaf_stays (is_none hashes) (raw_fault (drop 2 text)) (raw_fault (drop 2 other)) h
 literal_stays (literals.RawCStr hashes) text other h = leaf_stays (is_none hashes) (raw_fault (drop 2 text)) (raw_fault (drop 2 other)) h
+literal_stays kind text other h = h
 
 first_none : (a b : Option BadToken) → first_of a b ≡ None → a ≡ None
 first_none None b h = refl
@@ -129,54 +108,19 @@ raw_role n start word place quiet =
 
 none_if : (wrong : Bool) → fault_if wrong bad.BareReturn ≡ None → wrong ≡ false
 none_if false h = refl
-none_if true h = absurd (some_none bad.BareReturn h)
-  where
-    some_none : (why : BadToken) → Some why ≡ None → ⊥
-    some_none why e = cc
+none_if true h = cc
 
--- a documenting comment of one line; if it is a leaf, it has no carriage return except before an end of a line
-pub line_two : (style : DocStyle) (word : List ℕ) → IsEither (role_in (kinds.LineComment (Some style)) word)
-line_two style word = leaf_or_bad false bad.BareReturn (line_fault style word)
+-- a leaf, if nothing is wrong inside
+pub leaf_two : (inside : Option BadToken) → IsEither (with_inside Leaf inside)
+leaf_two inside = leaf_or_bad false bad.BareReturn inside
 
+-- a documenting comment of one line that is a leaf has no carriage return except before an end of a line
 pub line_role : (style : DocStyle) (word : List ℕ) → role_in (kinds.LineComment (Some style)) word ≡ Leaf → inner_return word ≡ false
 line_role style word fine = none_if (inner_return word) (first_none (fault_if (inner_return word) bad.BareReturn) (hashes_fault (line_text style word)) (none_wrong Leaf (line_fault style word) fine))
 
--- and the hashes that its text needs fit into a byte
-pub line_few : (style : DocStyle) (word : List ℕ) → role_in (kinds.LineComment (Some style)) word ≡ Leaf → hashes_wanted (line_text style word) < 256
-line_few style word fine = line_wants style word fine
-
--- a documenting block comment; if it is a leaf, it is closed and has no bare carriage return
-pub block_two : (style : DocStyle) (terminated : Bool) (word : List ℕ) → IsEither (role_in (kinds.BlockComment (Some style) terminated) word)
-block_two style true word = leaf_or_bad false bad.BareReturn (block_fault style word)
-block_two style false word = leaf_or_bad true bad.UnterminatedComment (block_fault style word)
-
+-- a documenting block comment that is a leaf has no bare carriage return
 pub block_role : (style : DocStyle) (word : List ℕ) → role_in (kinds.BlockComment (Some style) true) word ≡ Leaf → bare_return word ≡ false
 block_role style word fine = none_if (bare_return word) (first_none (return_fault word) (hashes_fault (block_text style word)) (none_wrong Leaf (block_fault style word) fine))
-
-pub block_few : (style : DocStyle) (word : List ℕ) → role_in (kinds.BlockComment (Some style) true) word ≡ Leaf → hashes_wanted (block_text style word) < 256
-block_few style word fine = block_wants style true word fine
-
-pub block_open : (style : DocStyle) (word : List ℕ) → role_in (kinds.BlockComment (Some style) false) word ≡ Leaf → ⊥
-block_open style word fine = go (block_fault style word) fine
-  where
-    go : (inside : Option BadToken) → with_inside (Bad bad.UnterminatedComment) inside ≡ Leaf → ⊥
-    go None h = bad_leaf bad.UnterminatedComment h
-    go (Some why) h = bad_leaf bad.UnterminatedComment h
-
--- a name
-pub name_two : (kind : TokenKind) (word : List ℕ) → IsTrue (is_name kind) → IsEither (role_in kind word)
-name_two kind word named = name_cases (λ k. IsEither (role_in k word)) kind (inl refl) (leaf_or_bad false bad.NeverRaw (raw_name_fault word)) named
-
--- a lifetime; if it is a leaf, it begins with no digit
-pub life_two : (kind : TokenKind) (word : List ℕ) → IsTrue (is_lifetime kind) → IsEither (role_in kind word)
-life_two kind word lasts = lifetime_cases (λ k. IsEither (role_in k word)) kind (λ digit. by digit) (leaf_or_bad false bad.NeverRaw (raw_name_fault (behind_apostrophe word))) lasts
-  where
-    by : (digit : Bool) → IsEither (role_in (kinds.Lifetime digit) word)
-    by true = inr (bad.LifetimeBeginsWithDigit, refl)
-    by false = inl refl
-
-pub no_digit : (word : List ℕ) → role_in (kinds.Lifetime true) word ≡ Leaf → ⊥
-no_digit word fine = bad_leaf bad.LifetimeBeginsWithDigit fine
 
 -- the kind of the name of a lifetime
 abbrev pub name_kind : TokenKind → TokenKind

@@ -1,5 +1,5 @@
 -- Sorts of leaves and brackets that can be written one after another, and trees that they spell.
-use Rattle.std.proofs.Common.{◌≡◌, ◌⊎◌, ℕ, ◌+◌, Bool, true, false, ◌==◌, ◌||◌, IsTrue, inl, inr, List, [], ◌∷◌, ◌++◌, None, Some, refl, sym, ap, ap₂, ◌∙◌, subst, append-nil, append_assoc, if◌then◌else◌}
+use Rattle.std.proofs.Common.{◌≡◌, ◌⊎◌, ℕ, ◌+◌, Bool, true, false, ◌==◌, ◌||◌, IsTrue, inl, inr, List, [], ◌∷◌, ◌++◌, None, Some, refl, sym, ap, ap₂, ◌∙◌, subst, if◌then◌else◌}
 use Rattle.tt_base.specs.Forest.{Forest, end, leaf, node, size}
 use Rattle.tt_base.specs.LeafText.{ident_text}
 use Rattle.tt_base.specs.TreeText.{is_alone}
@@ -7,14 +7,13 @@ use Rattle.tt_base.specs.declared.delimiter.DelimiterKind.{DelimiterKind}
 use Rattle.tt_base.specs.declared.delimiter.DelimiterKind.TheVariants as delimits
 use Rattle.tt_base.specs.declared.ident.Ident.{Ident}
 use Rattle.tt_base.specs.declared.ident.IdentIsRaw.{IdentIsRaw}
-use Rattle.tt_base.specs.declared.leaf.Leaf.{Leaf}
 use Rattle.tt_base.specs.declared.leaf.Leaf.TheVariants as leaf_of
 use Rattle.tt_base.specs.declared.literal.Literal.{Literal}
 use Rattle.tt_base.specs.declared.punct.Punct.{Punct}
 use Rattle.tt_base.specs.declared.punct.Spacing.{Spacing}
 use Rattle.tt_base.specs.declared.punct.Spacing.TheVariants.{Alone, Joint as JointSpacing}
 use Rattle.syntax_lex.specs.declared.token.TokenKind.{TokenKind}
-use Rattle.laws_round_trip.proofs.Names.{punct_alone}
+use Rattle.laws_round_trip.proofs.Words.{punct_alone}
 use Rattle.tt_base.specs.Literal.{kind_of as literal_kind, suffix_len_of, symbol_of}
 use Rattle.tt_base.specs.declared.literal.LitKind.{LitKind}
 use Rattle.syntax_parse.specs.Pieces.{punct_char}
@@ -26,7 +25,7 @@ use Rattle.syntax_unparse.specs.Settled.{joins, settled, sorts}
 use Rattle.syntax_unparse.specs.Text.{behind_punct}
 use Rattle.syntax_unparse.specs.Writable.{IsFirstRefused, MakesLifetime, MayEnd, MayFollow, ReadsAlone, ReadsAs}
 use Rattle.syntax_unparse.specs.declared.behind.Behind.{Behind}
-use Rattle.syntax_unparse.specs.declared.behind.Behind.TheVariants.{Opening, Apart, Joint, Slash, Pound, Quote}
+use Rattle.syntax_unparse.specs.declared.behind.Behind.TheVariants.{Opening, Apart, Slash, Pound, Quote}
 
 -- marks as sorts
 abbrev pub raw : List Mark → List Sort
@@ -112,36 +111,26 @@ settled_are behind (opening pair ∷ rest) f = let (no_quote, is, more) = f in a
 settled_are behind (closing pair ∷ rest) f = let (no_quote, is, more) = f in ap (λ t. closing_sort (kind_of pair) ∷ t) (settled_are Apart rest more)
 
 name_follows : (behind : Behind) (ident : Ident) → QuoteFits behind ident.sym ident.is_raw → MayFollow behind (leaf_of.Ident ident)
-name_follows Opening ident f = tt
-name_follows Apart ident f = tt
-name_follows Joint ident f = tt
 name_follows Slash ident f = refl
 name_follows Pound ident f = refl
 name_follows Quote ident f = f ident refl refl
+name_follows behind ident f = tt
 
 literal_follows : (behind : Behind) (literal : Literal) → NoQuote behind → MayFollow behind (leaf_of.Literal literal)
-literal_follows Opening literal f = tt
-literal_follows Apart literal f = tt
-literal_follows Joint literal f = tt
 literal_follows Slash literal f = refl
 literal_follows Pound literal f = refl
 literal_follows Quote literal f = absurd f
+literal_follows behind literal f = tt
 
 sign_follows : (behind : Behind) (punct : Punct) → SignFollows behind punct.char → MayFollow behind (leaf_of.Punct punct)
-sign_follows Opening punct f = tt
-sign_follows Apart punct f = tt
-sign_follows Joint punct f = tt
 sign_follows Slash punct f = f
 sign_follows Pound punct f = f
 sign_follows Quote punct f = absurd f
+sign_follows behind punct f = tt
 
 may_end : (behind : Behind) → NoQuote behind → MayEnd behind
-may_end Opening f = tt
-may_end Apart f = tt
-may_end Joint f = tt
-may_end Slash f = tt
-may_end Pound f = tt
 may_end Quote f = absurd f
+may_end behind f = tt
 
 sign_alone : (punct : Punct) → SignAlone punct.char → ReadsAlone (leaf_of.Punct punct)
 sign_alone punct (inl quote) = inl quote
@@ -159,22 +148,28 @@ writable last behind (word at (leaf_of.Punct punct) ∷ rest) f =
 writable last behind (opening pair ∷ rest) f = inl (may_end behind f.0, writable last Opening rest f.2)
 writable last behind (closing pair ∷ rest) f = inl (may_end behind f.0, writable last Apart rest f.2)
 
+-- a bracket is one of a pair
+abbrev IsPaired : Sort → Type 0
+IsPaired (opening_sort kind) = IsPair kind
+IsPaired (closing_sort kind) = IsPair kind
+IsPaired _ = Unit {0}
+
 -- the brackets among sorts are pairs
 abbrev Paired : List Sort → Type 0
 Paired [] = Unit {0}
-Paired (name text is_raw ∷ rest) = Paired rest
-Paired (sign c spacing ∷ rest) = Paired rest
-Paired (value kind symbol suffix_len ∷ rest) = Paired rest
-Paired (opening_sort kind ∷ rest) = IsPair kind × Paired rest
-Paired (closing_sort kind ∷ rest) = IsPair kind × Paired rest
+Paired (s ∷ rest) = IsPaired s × Paired rest
 
 paired : (behind : Behind) (ss : List Sort) → SortFits behind ss → Paired ss
 paired behind [] f = tt
-paired behind (name text is_raw ∷ rest) f = paired Apart rest f.2
-paired behind (sign c spacing ∷ rest) f = paired (behind_punct c spacing) rest f.3
-paired behind (value kind symbol suffix_len ∷ rest) f = paired Apart rest f.2
+paired behind (name text is_raw ∷ rest) f = (tt, paired Apart rest f.2)
+paired behind (sign c spacing ∷ rest) f = (tt, paired (behind_punct c spacing) rest f.3)
+paired behind (value kind symbol suffix_len ∷ rest) f = (tt, paired Apart rest f.2)
 paired behind (opening_sort kind ∷ rest) f = (f.1, paired Opening rest f.2)
 paired behind (closing_sort kind ∷ rest) f = (f.1, paired Apart rest f.2)
+
+paired_both : (xs ys : List Sort) → Paired (xs ++ ys) → Paired xs × Paired ys
+paired_both [] ys p = (tt, p)
+paired_both (x ∷ xs) ys p = let (front, back) = paired_both xs ys p.1 in ((p.0, front), back)
 
 pub sorts-append : (xs ys : List Piece) → sorts (xs ++ ys) ≡ sorts xs ++ sorts ys
 sorts-append [] ys = refl
@@ -186,11 +181,6 @@ raw-append (word at it ∷ xs) ys = ap (λ t. sort_of it ∷ t) (raw-append xs y
 raw-append (opening pair ∷ xs) ys = ap (λ t. opening_sort (kind_of pair) ∷ t) (raw-append xs ys)
 raw-append (closing pair ∷ xs) ys = ap (λ t. closing_sort (kind_of pair) ∷ t) (raw-append xs ys)
 
-leaf_paired : (it : Leaf) (rest : List Sort) → Paired (sort_of it ∷ rest) → Paired rest
-leaf_paired (leaf_of.Literal literal) rest p = p
-leaf_paired (leaf_of.Punct punct) rest p = p
-leaf_paired (leaf_of.Ident ident) rest p = p
-
 -- a subtree in brackets, by its children
 round : (kind : DelimiterKind) (held : ℕ) (inner rest : List Mark) → IsPair kind
     → raw (opens (brackets_of kind held) ++ (inner ++ (closes (brackets_of kind held) ++ rest))) ≡ opening_sort kind ∷ (raw inner ++ closing_sort kind ∷ raw rest)
@@ -201,25 +191,18 @@ round delimits.Invisible held inner rest is = absurd is
 round delimits.InvisibleOpaque held inner rest is = absurd is
 
 -- the marks of trees whose brackets are pairs are their sorts
-raw_marks : (at : ℕ) (trees : Forest) (more : List Sort) → Paired (sorts (spelled trees) ++ more) → (raw (marks at trees) ≡ sorts (spelled trees)) × Paired more
-raw_marks at end more p = (refl, p)
-raw_marks at (leaf it rest) more p =
-    let inner = raw_marks (at + 1) rest more (leaf_paired it (sorts (spelled rest) ++ more) p) in
-    (ap (λ t. sort_of it ∷ t) inner.0, inner.1)
-raw_marks at (node delimiter children rest) more p =
+raw_marks : (at : ℕ) (trees : Forest) → Paired (sorts (spelled trees)) → raw (marks at trees) ≡ sorts (spelled trees)
+raw_marks at end p = refl
+raw_marks at (leaf it rest) p = ap (λ t. sort_of it ∷ t) (raw_marks (at + 1) rest p.1)
+raw_marks at (node delimiter children rest) p =
     let held = sorts (spelled children) in
     let whole : sorts (spelled children ++ at_span (closing_sort delimiter.kind) delimiter.close ∷ spelled rest) ≡ held ++ closing_sort delimiter.kind ∷ sorts (spelled rest) =
     sorts-append (spelled children) (at_span (closing_sort delimiter.kind) delimiter.close ∷ spelled rest) in
-    let grouped : Paired (held ++ (closing_sort delimiter.kind ∷ (sorts (spelled rest) ++ more))) =
-    subst Paired (ap (λ t. t ++ more) whole ∙ append_assoc held (closing_sort delimiter.kind ∷ sorts (spelled rest)) more) p.1 in
-    let inner = raw_marks (at + 1) children (closing_sort delimiter.kind ∷ (sorts (spelled rest) ++ more)) grouped in
-    let outer = raw_marks ((at + 1) + size children) rest more inner.1.1 in (
-      round delimiter.kind (shown children) (marks (at + 1) children) (marks ((at + 1) + size children) rest) p.0
-          ∙ ap₂ (λ a b. opening_sort delimiter.kind ∷ (a ++ closing_sort delimiter.kind ∷ b)) inner.0 outer.0
-          ∙ ap (λ t. opening_sort delimiter.kind ∷ t) (sym whole),
-      outer.1,
-    )
+    let (inner, outer) = paired_both held (closing_sort delimiter.kind ∷ sorts (spelled rest)) (subst Paired whole p.1) in
+    round delimiter.kind (shown children) (marks (at + 1) children) (marks ((at + 1) + size children) rest) p.0
+    ∙ ap₂ (λ a b. opening_sort delimiter.kind ∷ (a ++ closing_sort delimiter.kind ∷ b)) (raw_marks (at + 1) children inner) (raw_marks ((at + 1) + size children) rest outer.1)
+    ∙ ap (λ t. opening_sort delimiter.kind ∷ t) (sym whole)
 
 -- the marks of trees that such sorts spell are these sorts
 pub marks_are : (behind : Behind) (trees : Forest) → SortFits behind (sorts (spelled trees)) → raw (marks 0 trees) ≡ sorts (spelled trees)
-marks_are behind trees f = (raw_marks 0 trees [] (subst Paired (sym (append-nil (sorts (spelled trees)))) (paired behind (sorts (spelled trees)) f))).0
+marks_are behind trees f = raw_marks 0 trees (paired behind (sorts (spelled trees)) f)

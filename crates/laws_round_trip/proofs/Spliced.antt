@@ -1,29 +1,123 @@
--- The chunks of a text in which trees are spliced.
-use Rattle.syntax_unparse.proofs.Fronts.{not_nil}
-use Rattle.std.proofs.Common.{◌≡◌, ℕ, ◌+◌, ◌-◌, true, false, List, [], ◌∷◌, ◌++◌, length, take, drop, Option, None, Some, refl, sym, ap, ap₂, ◌∙◌, subst, arith, append_assoc, append-nil, length-append}
-use Rattle.std.proofs.lemmas.Bool.{false≢true}
+-- The chunks of trees that can be written, those of a text in which trees are spliced, and the reading of that text.
+use Rattle.std.proofs.Common.{◌≡◌, ◌<◌, inl, inr, Bool, true, false, List, [], ◌∷◌, length, None, Some, refl, sym, ap, ◌∙◌, subst, arith, append-nil, if◌then◌else◌, ℕ, ◌+◌, ◌-◌, ◌++◌, take, drop, Option, ap₂, append_assoc}
 use Rattle.std.proofs.Math.Seq.{drop-append_seam, take-append_seam}
+use Rattle.std.proofs.lemmas.Bool.{false≢true}
 use Rattle.std.specs.List.{slice_get}
+use Rattle.std.specs.Str.{chars, IsUtf8}
+use Rattle.laws_round_trip.proofs.KindFacts.{some_part}
+use Rattle.laws_round_trip.proofs.Placed.{all_from, before_front, every_append, every_more, from_back, front_pieces, pieces_in, pieces_in-is}
+use Rattle.laws_round_trip.proofs.Roles.{IsEither, leaf_two}
+use Rattle.laws_round_trip.proofs.Seams.{Made, AreSound, last_append, match_behind, seam}
+use Rattle.laws_round_trip.proofs.Sources.{cut_chunks, front_not_line, joined-append, neutral, rest_text, bytes_are, split, Parsed, are_back, sound_back, sound_chunks, sound_front, match_front, parsed}
+use Rattle.laws_round_trip.proofs.Touches.{last_of}
+use Rattle.laws_round_trip.specs.Kept.{ends_in_line, is_line}
+use Rattle.laws_round_trip.specs.Splices.{Splice, begins_with_name, ends_in_point, replacements_of, ArePlaces, before_byte, from_byte, woven}
+use Rattle.syntax_edit.specs.Texts.{begun, joined as with_seam, wants_space, with_all}
+use Rattle.syntax_lex.proofs.TokenFacts.{one_list}
+use Rattle.syntax_lex.specs.Reading.{AreTokensOf, bytes_of}
+use Rattle.syntax_lex.specs.declared.token.DocStyle.TheVariants.{Outer, Inner}
+use Rattle.syntax_lex.specs.declared.token.DocStyle.{DocStyle}
+use Rattle.syntax_lex.specs.declared.token.Token.{Token}
+use Rattle.syntax_lex.specs.declared.token.TokenKind.TheVariants as kinds
+use Rattle.syntax_lex.specs.declared.token.TokenKind.{TokenKind}
+use Rattle.syntax_parse.specs.Faults.{fault_from}
+use Rattle.syntax_parse.specs.Parsed.{next_kind, IsParse, pieces_from}
+use Rattle.syntax_parse.specs.Pieces.{pieces_as, pieces_of}
+use Rattle.syntax_parse.specs.Refusal.{IsFaultOf}
+use Rattle.syntax_parse.specs.Role.{role_in}
+use Rattle.syntax_parse.specs.Spelled.{Sort, spelled}
+use Rattle.syntax_parse.specs.declared.bracket.Bracket.{Bracket}
+use Rattle.syntax_parse.specs.declared.fault.SyntaxFault.{SyntaxFault}
+use Rattle.syntax_parse.specs.declared.role.Role.TheVariants.{Bad, Nothing, Opens, Closes, Leaf}
+use Rattle.syntax_parse.specs.declared.role.Role.{Role}
+use Rattle.syntax_unparse.proofs.Back.{chunks_are}
+use Rattle.syntax_unparse.proofs.Chunks.{AreChunks, Chunk, IsChunk, joined, match, means_of, tokens_of, no_fault, pieces_are, tokens_are}
+use Rattle.syntax_unparse.proofs.Fronts.{not_nil}
+use Rattle.syntax_unparse.proofs.Written.{chunks_of, fits, gap_if, joined_are, leaf_chunk, lifetime_chunk, match_are, matches, means_are, trees_match, quotes}
+use Rattle.syntax_unparse.specs.Marks.{Mark, word, opening, closing, marks}
+use Rattle.syntax_unparse.specs.Settled.{settled, sorts}
+use Rattle.syntax_unparse.specs.Text.{behind_leaf, opens_apart, text_of, wants_space as wants_gap}
+use Rattle.syntax_unparse.specs.Writable.{IsWritable, is_punct}
+use Rattle.syntax_unparse.specs.declared.behind.Behind.TheVariants.{Opening, Apart, Quote}
+use Rattle.syntax_unparse.specs.declared.behind.Behind.{Behind}
+use Rattle.tt_base.specs.Forest.{Forest, Root}
 use Rattle.tt_base.specs.TreeText.{space_if}
 use Rattle.tt_base.specs.declared.span.SpanPart.{SpanPart}
-use Rattle.syntax_edit.specs.Texts.{joined as with_seam, wants_space, with_all}
-use Rattle.syntax_lex.specs.Reading.{bytes_of}
-use Rattle.laws_round_trip.proofs.Parts.{bytes_are, cut_chunks, front_not_line, joined-append, match_cons, neutral, split}
-use Rattle.laws_round_trip.proofs.Placed.{From, Within, all_from, before_front, from_append, from_back, from_less, from_within, front_pieces, within_append, within_wider}
-use Rattle.laws_round_trip.proofs.Seams.{AreSound, last_append, match_behind, seam}
-use Rattle.laws_round_trip.proofs.Sources.{are_back, sound_back, sound_chunks, sound_front, step_match}
-use Rattle.laws_round_trip.proofs.Touches.{last_of}
-use Rattle.laws_round_trip.proofs.Trees.{written}
-use Rattle.laws_round_trip.specs.Splices.{ArePlaces, Splice, before_byte, begins_with_name, ends_in_point, from_byte, replacements_of, woven}
-use Rattle.syntax_parse.specs.Faults.{fault_from, or_behind, step, step_as}
-use Rattle.syntax_parse.specs.Parsed.{pieces_from}
-use Rattle.syntax_parse.specs.declared.bracket.Bracket.{Bracket}
-use Rattle.syntax_parse.specs.declared.fault.Open.{Open}
-use Rattle.syntax_unparse.proofs.Chunks.{AreChunks, Chunk, brackets, joined, match, means_of, pieces_are, tokens_of}
-use Rattle.syntax_unparse.specs.Marks.{marks}
-use Rattle.syntax_unparse.specs.Settled.{settled, sorts}
-use Rattle.syntax_unparse.specs.Text.{text_of}
-use Rattle.syntax_unparse.specs.Writable.{IsWritable}
+
+-- white space, a bracket, or one leaf or two
+abbrev IsBrief : Role → TokenKind → List Sort → Type 0
+IsBrief (Bad why) kind means = ⊥
+IsBrief Nothing kind means = kind ≡ kinds.Whitespace
+IsBrief (Opens pair) kind means = Unit {0}
+IsBrief (Closes pair) kind means = Unit {0}
+IsBrief Leaf kind means = length means < 3
+
+-- it is no comment to the end of the line
+brief_line : (x : Chunk) (xs : List Chunk) → IsChunk x xs → IsBrief x.role x.kind x.means → is_line x.kind ≡ false
+brief_line x xs it brief =
+    by x.kind (subst (λ role. IsBrief role x.kind (sorts (pieces_as (role_in x.kind x.text) some_part x.kind (next_kind (tokens_of xs)) 0 x.text))) (sym it.role) (subst (IsBrief x.role x.kind) (sym (it.means some_part 0)) brief))
+  where
+    long : (style : DocStyle) → IsBrief Leaf (kinds.LineComment (Some style)) (sorts (pieces_as Leaf some_part (kinds.LineComment (Some style)) (next_kind (tokens_of xs)) 0 x.text)) → ⊥
+    long Outer h = omega (arith, h)
+    long Inner h = omega (arith, h)
+
+    documents : (style : DocStyle) (role : Role) → IsEither role → IsBrief role (kinds.LineComment (Some style)) (sorts (pieces_as role some_part (kinds.LineComment (Some style)) (next_kind (tokens_of xs)) 0 x.text)) → ⊥
+    documents style role (inl is) h = long style (subst (λ r. IsBrief r (kinds.LineComment (Some style)) (sorts (pieces_as r some_part (kinds.LineComment (Some style)) (next_kind (tokens_of xs)) 0 x.text))) is h)
+    documents style role (inr (why, is)) h = subst (λ r. IsBrief r (kinds.LineComment (Some style)) (sorts (pieces_as r some_part (kinds.LineComment (Some style)) (next_kind (tokens_of xs)) 0 x.text))) is h
+
+    by : (kind : TokenKind) → IsBrief (role_in kind x.text) kind (sorts (pieces_of some_part kind (next_kind (tokens_of xs)) 0 x.text)) → is_line kind ≡ false
+    by (kinds.LineComment None) h = absurd (cc h)
+    by (kinds.LineComment (Some style)) h = absurd (documents style (role_in (kinds.LineComment (Some style)) x.text) (leaf_two _) h)
+    by kind h = refl
+
+abbrev AreBrief : List Chunk → Type 0
+AreBrief [] = Unit {0}
+AreBrief (x ∷ xs) = IsBrief x.role x.kind x.means × AreBrief xs
+
+-- the chunks of marks are brief
+gap_brief : (due : Bool) (chunks : List Chunk) → AreBrief chunks → AreBrief (gap_if due chunks)
+gap_brief true chunks h = (refl, h)
+gap_brief false chunks h = h
+
+marks_brief : (behind : Behind) (ms : List Mark) → AreBrief (chunks_of behind ms)
+marks_brief behind [] = tt
+marks_brief behind (opening pair ∷ rest) = gap_brief (opens_apart behind) _ (tt, marks_brief Opening rest)
+marks_brief behind (closing pair ∷ rest) = (tt, marks_brief Apart rest)
+marks_brief behind (word at it ∷ rest) = by (quotes behind) (is_punct 39 it) (marks_brief Quote rest) (marks_brief (behind_leaf it) rest)
+  where
+    by : (quoted quote : Bool) → AreBrief (chunks_of Quote rest) → AreBrief (chunks_of (behind_leaf it) rest)
+        → AreBrief (if quoted then lifetime_chunk it ∷ chunks_of (behind_leaf it) rest else gap_if (wants_gap behind it) (if quote then chunks_of Quote rest else leaf_chunk it rest ∷ chunks_of (behind_leaf it) rest))
+    by true quote after plain = (omega arith, plain)
+    by false true after plain = gap_brief (wants_gap behind it) _ after
+    by false false after plain = gap_brief (wants_gap behind it) _ (omega arith, plain)
+
+no_line : (chunks : List Chunk) → AreChunks chunks → AreBrief chunks → ends_in_line (tokens_of chunks) ≡ false
+no_line [] are h = refl
+no_line (x ∷ []) are h = brief_line x [] are.0 h.0
+no_line (x ∷ y ∷ xs) are h = no_line (y ∷ xs) are.1 h.1
+
+-- the chunks of trees
+pub record Written (trees : Forest) : Type 0 where
+  pub chunks : List Chunk
+  pub are : AreChunks chunks
+  pub text_is : joined chunks ≡ text_of trees
+  pub means : means_of chunks ≡ settled (marks 0 trees)
+  pub matched : match [] chunks ≡ true
+  pub line : ends_in_line (tokens_of chunks) ≡ false
+
+pub written : (trees : Forest) → IsWritable trees → Written trees
+written trees writable =
+    let ms = marks 0 trees in
+    let f = fits 0 Opening ms writable in
+    let are = chunks_are Opening ms f in
+    record {
+      chunks = chunks_of Opening ms;
+      are = are;
+      text_is = joined_are Opening ms f;
+      means = means_are Opening ms f;
+      matched = match_are [] Opening ms ∙ ap (matches []) (sym (append-nil ms)) ∙ trees_match [] 0 trees [];
+      line = no_line (chunks_of Opening ms) are (marks_brief Opening ms);
+    }
 
 -- a text that is joined with an empty text is the text
 seam_nil : (a : List ℕ) → with_seam a [] ≡ a
@@ -59,125 +153,159 @@ written_all (it ∷ others) so_far rest at =
     ∙ seam_assoc (with_seam so_far kept) (text_of it.trees) more
     ∙ seam_assoc so_far kept (with_seam (text_of it.trees) more)
 
--- if the tokens of the first chunks have no fault, the brackets of these match
-match_front : (before : List Open) (at : ℕ) (front back : List Chunk) → AreChunks (front ++ back) → fault_from before at (joined (front ++ back)) (tokens_of front) ≡ None → match (brackets before) front ≡ true
-match_front [] at [] back are fine = refl
-match_front (last ∷ before) at [] back are fine = absurd (cc)
-match_front before at (x ∷ front) back are fine =
-    let n = length x.text in
-    let rest = joined (front ++ back) in
-    let tokens = tokens_of front in
-    match_cons (brackets before) x front
-    ∙ step_match before at x.role (λ next. fault_from next (at + n) rest tokens) (λ next. match next front) (λ next h. match_front next (at + n) front back are.1 h)
-    (
-    ap (λ role. or_behind (step_as role before at) (λ next. fault_from next (at + n) rest tokens)) (sym are.0.role)
-    ∙ ap (λ u. or_behind (step before at x.kind x.text) (λ next. fault_from next (at + n) u tokens)) (sym (drop-append_seam x.text rest))
-    ∙ ap (λ t. or_behind (step before at x.kind t) (λ next. fault_from next (at + n) (drop n (x.text ++ rest)) tokens)) (sym (take-append_seam x.text rest))
-    ∙ from before ∙ fine
-    )
-  where
-    from : (before : List Open)
-        → or_behind (step before at x.kind (take (length x.text) (x.text ++ joined (front ++ back)))) (λ next. fault_from next (at + length x.text) (drop (length x.text) (x.text ++ joined (front ++ back))) (tokens_of front))
-        ≡ fault_from before at (joined ((x ∷ front) ++ back)) (tokens_of (x ∷ front))
-    from [] = refl
-    from (last ∷ before) = refl
-
 -- two lists of chunks that match the same open brackets also do so with the same chunks before them
 match_same : (front xs ys : List Chunk) → ((before : List Bracket) → match before xs ≡ match before ys) → (before : List Bracket) → match before (front ++ xs) ≡ match before (front ++ ys)
 match_same [] xs ys same before = same before
 match_same (x ∷ front) xs ys same before = match_behind x (front ++ xs) (front ++ ys) (match_same front xs ys same) before
 
+-- chunks that begin at a byte, cut where trees are spliced in, and what is read then
+pub data Cuts : List Splice → (at : ℕ) → List Chunk → List Sort → Type 0 where
+  whole : {at : ℕ} {chunks : List Chunk} → Cuts [] at chunks (means_of chunks)
+  cut : {it : Splice} {others : List Splice} {at : ℕ} (kept inside rest : List Chunk) {all : List Sort}
+      → it.start ≡ at + length (joined kept)
+      → it.end ≡ it.start + length (joined inside)
+      → begins_with_name (tokens_of (inside ++ rest)) ≡ true
+      → match [] inside ≡ true
+      → ends_in_point (tokens_of kept) ≡ false
+      → IsWritable it.trees
+      → Cuts others it.end rest all
+      → Cuts (it ∷ others) at (kept ++ (inside ++ rest)) (means_of kept ++ (settled (marks 0 it.trees) ++ all))
+
 -- the chunks of a text with trees spliced in
-pub record Spliced (splices : List Splice) (at : ℕ) (chunks : List Chunk) : Type 0 where
-  pub new : List Chunk
-  pub are : AreChunks new
-  pub text_is : joined new ≡ spliced splices at (joined chunks)
-  pub matches : (before : List Bracket) → match before new ≡ match before chunks
-  pub means : (part : SpanPart) → means_of new ≡ woven splices (pieces_from part at (joined chunks) (tokens_of chunks))
-
--- the sizes of three parts
-module _ (it : Splice) (others : List Splice) (at : ℕ) (kept inside rest : List Chunk) (are : AreChunks (kept ++ (inside ++ rest))) (start : it.start ≡ at + length (joined kept)) (stop : it.end ≡ it.start + length (joined inside)) where
-  whole : joined (kept ++ (inside ++ rest)) ≡ joined kept ++ joined (inside ++ rest)
-  whole = joined-append kept (inside ++ rest)
-
-  pub kept_text : take (it.start - at) (joined (kept ++ (inside ++ rest))) ≡ joined kept
-  kept_text = ap₂ (λ n t. take n t) (omega (arith, start)) whole ∙ take-append_seam (joined kept) (joined (inside ++ rest))
-
-  pub rest_text : drop (it.end - at) (joined (kept ++ (inside ++ rest))) ≡ joined rest
-  rest_text =
-      ap₂ (λ n t. drop n t) (omega (arith, start, stop, length-append (joined kept) (joined inside)))
-      (whole ∙ ap (λ t. joined kept ++ t) (joined-append inside rest) ∙ sym (append_assoc (joined kept) (joined inside) (joined rest)))
-      ∙ drop-append_seam (joined kept ++ joined inside) (joined rest)
-
-  -- the result of weaving three parts
-  pub woven_parts : (part : SpanPart) → woven (it ∷ others) (pieces_from part at (joined (kept ++ (inside ++ rest))) (tokens_of (kept ++ (inside ++ rest))))
-      ≡ means_of kept ++ (settled (marks 0 it.trees) ++ woven others (pieces_from part it.end (joined rest) (tokens_of rest)))
-  woven_parts part =
-      let all = pieces_from part at (joined (kept ++ (inside ++ rest))) (tokens_of (kept ++ (inside ++ rest))) in
-      let fore = front_pieces part at kept (inside ++ rest) are in
-      let middle = front_pieces part it.start inside rest (are_back kept (inside ++ rest) are) in
-      let behind = pieces_from part it.end (joined rest) (tokens_of rest) in
-      let second : pieces_from part (at + length (joined kept)) (joined (inside ++ rest)) (tokens_of (inside ++ rest)) ≡ middle.pieces ++ behind =
-      ap (λ n. pieces_from part n (joined (inside ++ rest)) (tokens_of (inside ++ rest))) (sym start) ∙ middle.are ∙ ap (λ n. middle.pieces ++ pieces_from part n (joined rest) (tokens_of rest)) (sym stop) in
-      let parts : all ≡ fore.pieces ++ (middle.pieces ++ behind) = fore.are ∙ ap (λ ps. fore.pieces ++ ps) second in
-      let before : before_byte it.start all ≡ fore.pieces =
-      ap (before_byte it.start) parts ∙ before_front at it.start fore.pieces (middle.pieces ++ behind) (subst (λ n. Within at n fore.pieces) (sym start) fore.within)
-      (from_append it.start middle.pieces behind (from_within it.start (it.start + length (joined inside)) middle.pieces middle.within) (from_less it.end it.start behind (omega (arith, stop)) behind_from)) in
-      let later : from_byte it.end all ≡ behind =
-      ap (from_byte it.end) (parts ∙ sym (append_assoc fore.pieces middle.pieces behind))
-      ∙ from_back at it.end (fore.pieces ++ middle.pieces) behind
-      (within_append at it.end fore.pieces middle.pieces
-      (within_wider at (at + length (joined kept)) at it.end fore.pieces (omega arith) (omega (arith, start, stop)) fore.within)
-      (within_wider it.start (it.start + length (joined inside)) at it.end middle.pieces (omega (arith, start)) (omega (arith, stop)) middle.within)) behind_from in
-      ap₂ (λ a b. sorts a ++ (settled (marks 0 it.trees) ++ woven others b)) before later ∙ ap (λ t. t ++ (settled (marks 0 it.trees) ++ woven others behind)) fore.means
-    where
-      behind_from : From it.end (pieces_from part it.end (joined rest) (tokens_of rest))
-      behind_from = all_from part it.end rest (are_back inside rest (are_back kept (inside ++ rest) are))
+abbrev pub Spliced : List Splice → (at : ℕ) → List Chunk → List Sort → Type 0
+Spliced splices at chunks all = Made (spliced splices at (joined chunks)) all chunks
 
 -- one splice, if the others are done
-splice_one : (it : Splice) (others : List Splice) (at : ℕ) (kept inside rest : List Chunk) → AreChunks (kept ++ (inside ++ rest)) → AreSound (kept ++ (inside ++ rest))
+splice_one : (it : Splice) (others : List Splice) (at : ℕ) (kept inside rest : List Chunk) (after : List Sort) → AreChunks (kept ++ (inside ++ rest)) → AreSound kept
     → it.start ≡ at + length (joined kept) → it.end ≡ it.start + length (joined inside) → begins_with_name (tokens_of (inside ++ rest)) ≡ true → match [] inside ≡ true → ends_in_point (tokens_of kept) ≡ false
-    → IsWritable it.trees → Spliced others it.end rest → Spliced (it ∷ others) at (kept ++ (inside ++ rest))
-splice_one it others at kept inside rest are sound start stop named matched apart writable inner =
+    → IsWritable it.trees → Spliced others it.end rest after → Spliced (it ∷ others) at (kept ++ (inside ++ rest)) (means_of kept ++ (settled (marks 0 it.trees) ++ after))
+splice_one it others at kept inside rest after are sound start stop named matched apart writable inner =
     let trees = written it.trees writable in
-    let later = seam trees.chunks inner.new trees.are (sound_chunks [] trees.chunks trees.are trees.matched) trees.line inner.are in
-    let front = sound_front kept (inside ++ rest) sound in
-    let all = seam kept later.new (cut_chunks kept (inside ++ rest) are front named apart) front (front_not_line kept (inside ++ rest) are named) later.are in
+    let (later, later_begins) = seam trees.chunks inner.new trees.are (sound_chunks [] trees.chunks trees.are trees.matched) trees.line inner.are in
+    let (all, all_begins) = seam kept later.new (cut_chunks kept (inside ++ rest) are sound named apart) sound (front_not_line kept (inside ++ rest) are named) later.are in
+    let whole : joined (kept ++ (inside ++ rest)) ≡ joined kept ++ joined (inside ++ rest) = joined-append kept (inside ++ rest) in
+    let front : take (it.start - at) (joined (kept ++ (inside ++ rest))) ≡ joined kept = ap₂ (λ n t. take n t) (omega (arith, start)) whole ∙ take-append_seam (joined kept) (joined (inside ++ rest)) in
     record {
       new = all.new;
       are = all.are;
-      text_is =
-          all.text_is
-          ∙ ap₂ (λ t u. with_seam t u) (sym (kept_text it others at kept inside rest are start stop))
-          (later.text_is ∙ ap₂ (λ t u. with_seam t u) trees.text_is (inner.text_is ∙ ap (spliced others it.end) (sym (rest_text it others at kept inside rest are start stop))));
+      text_is = all.text_is ∙ ap₂ (λ t u. with_seam t u) (sym front) (later.text_is ∙ ap₂ (λ t u. with_seam t u) trees.text_is (inner.text_is ∙ ap (spliced others it.end) (sym (rest_text at it.start it.end kept inside rest start stop))));
       matches = λ before.
           all.matches before
           ∙ match_same kept later.new (inside ++ rest)
           (λ b. later.matches b ∙ neutral [] b trees.chunks inner.new trees.matched ∙ inner.matches b ∙ sym (neutral [] b inside rest matched)) before;
-      means = λ part.
-          all.means ∙ ap (λ t. means_of kept ++ t) (later.means ∙ ap₂ (λ a b. a ++ b) trees.means (inner.means part)) ∙ sym (woven_parts it others at kept inside rest are start stop part);
+      means = all.means ∙ ap (λ t. means_of kept ++ t) (later.means ∙ ap₂ (λ a b. a ++ b) trees.means inner.means);
     }
+
+-- all splices
+splice_all : {splices : List Splice} {at : ℕ} {chunks : List Chunk} {all : List Sort} → Cuts splices at chunks all → AreChunks chunks → AreSound chunks → Spliced splices at chunks all
+splice_all (whole {chunks = chunks}) are sound = record { new = chunks; are = are; text_is = refl; matches = λ before. refl; means = refl }
+splice_all (cut {it = it} {others = others} {at = at} kept inside rest {all = all} start stop named matched apart writable later) are sound =
+    let inner = splice_all later (are_back inside rest (are_back kept (inside ++ rest) are)) (sound_back inside rest (sound_back kept (inside ++ rest) sound)) in
+    splice_one it others at kept inside rest all are (sound_front kept (inside ++ rest) sound) start stop named matched apart writable inner
+
+-- the reading of a text, without a fault
+pub record Reads (t : List ℕ) (all : List Sort) : Type 0 where
+  pub tokens : List Token
+  pub read : AreTokensOf tokens (chars t)
+  pub fine : fault_from [] 0 t tokens ≡ None
+  pub spells : (part : SpanPart) → sorts (pieces_from part 0 t tokens) ≡ all
+
+-- the text of chunks whose brackets match is read as they are
+pub chunks_read : (chunks : List Chunk) (t : List ℕ) (all : List Sort) → AreChunks chunks → match [] chunks ≡ true → joined chunks ≡ t → means_of chunks ≡ all → Reads t all
+chunks_read chunks t all are matched is means = subst (λ u. Reads u all) is (record {
+  tokens = tokens_of chunks;
+  read = tokens_are chunks are;
+  fine = no_fault [] 0 chunks are matched;
+  spells = λ part. pieces_are part 0 chunks are ∙ means;
+})
+
+pub cuts_read : (part : SpanPart) (text : List ℕ) (tokens : List Token) (trees : Forest) (splices : List Splice) (all : List Sort) → (it : Parsed part text tokens trees) → Cuts splices 0 it.chunks all
+    → Reads (with_all (replacements_of splices) (begun text)) all
+cuts_read part text tokens trees splices all it cuts =
+    let done = splice_all cuts it.are it.sound in
+    chunks_read done.new (with_all (replacements_of splices) (begun text)) all done.are (done.matches [] ∙ it.matched)
+    (done.text_is ∙ ap (spliced splices 0) it.text_is ∙ sym (written_all splices [] text 0)) done.means
+
+-- so its trees are read, and it has no fault of syntax
+pub reads_back : (part : SpanPart) (t : List ℕ) (root : Root) (all : List Sort) → Reads t all → IsParse part t root → sorts (spelled root.children) ≡ all
+reads_back part t root all it parse = ap sorts (parse.spells ∙ ap (pieces_from part 0 t) (one_list parse.tokens it.tokens (chars t) parse.read it.read)) ∙ it.spells part
+
+pub reads_fine : (t : List ℕ) (all : List Sort) (fault : SyntaxFault) → Reads t all → IsFaultOf t fault → ⊥
+reads_fine t all fault it found =
+    let both : ◌≡◌ {A = Option SyntaxFault} (Some fault) None = sym found.first ∙ ap (fault_from [] 0 t) (one_list found.tokens it.tokens (chars t) found.read it.read) ∙ it.fine in
+    cc
+
+-- the meaning of chunks is that of their pieces
+pub pieces_mean : (part : SpanPart) (at : ℕ) (chunks : List Chunk) → AreChunks chunks → sorts (pieces_in part at chunks) ≡ means_of chunks
+pieces_mean part at chunks are = ap sorts (sym (pieces_in-is part at chunks)) ∙ pieces_are part at chunks are
+
+-- the result of weaving three parts
+woven_parts : (it : Splice) (others : List Splice) (at : ℕ) (kept inside rest : List Chunk) (part : SpanPart) → AreChunks (kept ++ (inside ++ rest)) → it.start ≡ at + length (joined kept) → it.end ≡ it.start + length (joined inside)
+    → woven (it ∷ others) (pieces_in part at (kept ++ (inside ++ rest))) ≡ means_of kept ++ (settled (marks 0 it.trees) ++ woven others (pieces_in part it.end rest))
+woven_parts it others at kept inside rest part are start stop =
+    let fore = front_pieces part at kept (inside ++ rest) are in
+    let middle = front_pieces part it.start inside rest (are_back kept (inside ++ rest) are) in
+    let behind = pieces_in part it.end rest in
+    let parts : pieces_in part at (kept ++ (inside ++ rest)) ≡ fore.pieces ++ pieces_in part it.start (inside ++ rest) = fore.are ∙ ap (λ n. fore.pieces ++ pieces_in part n (inside ++ rest)) (sym start) in
+    let more : pieces_in part it.start (inside ++ rest) ≡ middle.pieces ++ behind = middle.are ∙ ap (λ n. middle.pieces ++ pieces_in part n rest) (sym stop) in
+    let before = ap (before_byte it.start) parts ∙ before_front it.start fore.pieces (pieces_in part it.start (inside ++ rest))
+    (every_more _ (λ n. n < it.start) (λ n h. omega (arith, h, start)) fore.pieces fore.below) (all_from part it.start (inside ++ rest) (are_back kept (inside ++ rest) are)) in
+    let later = ap (from_byte it.end) (parts ∙ ap (λ ps. fore.pieces ++ ps) more ∙ sym (append_assoc fore.pieces middle.pieces behind)) ∙ from_back it.end (fore.pieces ++ middle.pieces) behind
+    (every_append (λ n. n < it.end) fore.pieces middle.pieces (every_more _ _ (λ n h. omega (arith, h, start, stop)) fore.pieces fore.below) (every_more _ _ (λ n h. omega (arith, h, stop)) middle.pieces middle.below))
+    (all_from part it.end rest (are_back inside rest (are_back kept (inside ++ rest) are))) in
+    ap₂ (λ a b. sorts a ++ (settled (marks 0 it.trees) ++ woven others b)) before later ∙ ap (λ t. t ++ (settled (marks 0 it.trees) ++ woven others behind)) fore.means
 
 begins_front : (inside rest : List Chunk) → begins_with_name (tokens_of inside) ≡ true → begins_with_name (tokens_of (inside ++ rest)) ≡ true
 begins_front [] rest h = absurd (false≢true h)
 begins_front (x ∷ inside) rest h = h
 
--- all splices
-pub splice_all : (splices : List Splice) (at : ℕ) (chunks : List Chunk) → AreChunks chunks → AreSound chunks → ArePlaces splices at (joined chunks) (tokens_of chunks) → Spliced splices at chunks
-splice_all [] at chunks are sound places = record { new = chunks; are = are; text_is = refl; matches = λ before. refl; means = λ part. sym (pieces_are part at chunks are) }
-splice_all (it ∷ others) at chunks are sound (place, later) =
+-- places are cuts
+places_cut : (part : SpanPart) (splices : List Splice) (at : ℕ) (chunks : List Chunk) → AreChunks chunks → ArePlaces splices at (joined chunks) (tokens_of chunks) → Cuts splices at chunks (woven splices (pieces_in part at chunks))
+places_cut part [] at chunks are places = subst (Cuts [] at chunks) (sym (pieces_mean part at chunks are)) whole
+places_cut part (it ∷ others) at chunks are (place, later) =
     let (kept, more, first, befores, mores) = split chunks place.before (place.inside ++ place.behind) place.parts in
     let (inside, rest, second, insides, behinds) = split more place.inside place.behind mores in
     let parts : chunks ≡ kept ++ (inside ++ rest) = first ∙ ap (λ t. kept ++ t) second in
     let all = subst AreChunks parts are in
-    let valid = subst AreSound parts sound in
     let start : it.start ≡ at + length (joined kept) = place.begins ∙ ap (λ n. at + n) (ap bytes_of (sym befores) ∙ bytes_are kept) in
     let stop : it.end ≡ it.start + length (joined inside) = place.ends ∙ ap (λ n. it.start + n) (ap bytes_of (sym insides) ∙ bytes_are inside) in
-    let from : drop (bytes_of place.before) (joined chunks) ≡ joined (inside ++ rest) =
-    ap₂ (λ n t. drop n t) (ap bytes_of (sym befores) ∙ bytes_are kept) (ap joined parts ∙ joined-append kept (inside ++ rest)) ∙ drop-append_seam (joined kept) (joined (inside ++ rest)) in
+    let whole_text : joined chunks ≡ joined kept ++ joined (inside ++ rest) = ap joined parts ∙ joined-append kept (inside ++ rest) in
+    let from : drop (bytes_of place.before) (joined chunks) ≡ joined (inside ++ rest) = ap₂ (λ n t. drop n t) (ap bytes_of (sym befores) ∙ bytes_are kept) whole_text ∙ drop-append_seam (joined kept) (joined (inside ++ rest)) in
+    let left : drop (it.end - at) (joined chunks) ≡ joined rest = ap (λ cs. drop (it.end - at) (joined cs)) parts ∙ rest_text at it.start it.end kept inside rest start stop in
     let matched : match [] inside ≡ true = match_front [] 0 inside rest (are_back kept (inside ++ rest) all) (ap₂ (λ t ts. fault_from [] 0 t ts) (sym from) insides ∙ place.matched) in
-    let left : drop (it.end - at) (joined chunks) ≡ joined rest = ap (λ c. drop (it.end - at) (joined c)) parts ∙ rest_text it others at kept inside rest all start stop in
-    let inner = splice_all others it.end rest (are_back inside rest (are_back kept (inside ++ rest) all)) (sound_back inside rest (sound_back kept (inside ++ rest) valid))
-    (subst (λ ts. ArePlaces others it.end (joined rest) ts) (sym behinds) (subst (λ t. ArePlaces others it.end t place.behind) left later)) in
-    subst (Spliced (it ∷ others) at) (sym parts)
-    (splice_one it others at kept inside rest all valid start stop (begins_front inside rest (ap begins_with_name insides ∙ place.named)) matched (ap ends_in_point befores ∙ place.apart) place.writable inner)
+    let inner = places_cut part others it.end rest (are_back inside rest (are_back kept (inside ++ rest) all)) (subst (λ ts. ArePlaces others it.end (joined rest) ts) (sym behinds) (subst (λ t. ArePlaces others it.end t place.behind) left later)) in
+    subst (λ cs. Cuts (it ∷ others) at cs (woven (it ∷ others) (pieces_in part at cs))) (sym parts)
+    (subst (Cuts (it ∷ others) at (kept ++ (inside ++ rest))) (sym (woven_parts it others at kept inside rest part all start stop))
+    (cut kept inside rest start stop (begins_front inside rest (ap begins_with_name insides ∙ place.named)) matched (ap ends_in_point befores ∙ place.apart) place.writable inner))
+
+-- so a text that was read is read again with trees in these places
+places_read : (part : SpanPart) (text : List ℕ) (root : Root) (splices : List Splice) (utf8 : IsUtf8 text) → (parse : IsParse part text root) → ArePlaces splices 0 text parse.tokens
+    → Reads (with_all (replacements_of splices) (begun text)) (woven splices (spelled root.children))
+places_read part text root splices utf8 parse places =
+    let it = parsed part text root utf8 parse in
+    cuts_read part text parse.tokens root.children splices _ it
+    (subst (λ ps. Cuts splices 0 it.chunks (woven splices ps)) (sym it.pieces)
+    (places_cut part splices 0 it.chunks it.are (subst (λ ts. ArePlaces splices 0 (joined it.chunks) ts) (sym it.tokens_are) (subst (λ t. ArePlaces splices 0 t parse.tokens) (sym it.text_is) places))))
+
+-- the text is read as the pieces of the source, with the settled trees in place of each range
+pub read_spliced : (part other : SpanPart) (text : List ℕ) (root again : Root) (splices : List Splice) → IsUtf8 text → (parse : IsParse part text root) → ArePlaces splices 0 text parse.tokens
+    → IsParse other (with_all (replacements_of splices) (begun text)) again → sorts (spelled again.children) ≡ woven splices (spelled root.children)
+read_spliced part other text root again splices utf8 parse places back = reads_back other _ again _ (places_read part text root splices utf8 parse places) back
+
+-- and the text has no fault
+pub no_fault_spliced : (part : SpanPart) (text : List ℕ) (root : Root) (splices : List Splice) (fault : SyntaxFault) → IsUtf8 text → (parse : IsParse part text root) → ArePlaces splices 0 text parse.tokens
+    → IsFaultOf (with_all (replacements_of splices) (begun text)) fault → ⊥
+no_fault_spliced part text root splices fault utf8 parse places found = reads_fine _ _ fault (places_read part text root splices utf8 parse places) found
+
+-- two texts that are joined are read as both
+pub read_joined : (part other again_part : SpanPart) (front back : List ℕ) (first second again : Root) → IsUtf8 front → IsUtf8 back → (parse : IsParse part front first) → IsParse other back second
+    → ends_in_line parse.tokens ≡ false → IsParse again_part (with_seam front back) again → sorts (spelled again.children) ≡ sorts (spelled first.children) ++ sorts (spelled second.children)
+read_joined part other again_part front back first second again utf8 fine parse parse2 line read =
+    let it = parsed part front first utf8 parse in
+    let behind = parsed other back second fine parse2 in
+    let (done, begins) = seam it.chunks behind.chunks it.are it.sound (ap ends_in_line it.tokens_are ∙ line) behind.are in
+    reads_back again_part (with_seam front back) again _
+    (chunks_read done.new (with_seam front back) _ done.are (done.matches [] ∙ neutral [] [] it.chunks behind.chunks it.matched ∙ behind.matched)
+    (done.text_is ∙ ap₂ (λ t u. with_seam t u) it.text_is behind.text_is)
+    (done.means ∙ ap₂ (λ a b. a ++ b) (sym (ap sorts it.pieces ∙ pieces_mean part 0 it.chunks it.are)) (sym (ap sorts behind.pieces ∙ pieces_mean other 0 behind.chunks behind.are))))
+    read

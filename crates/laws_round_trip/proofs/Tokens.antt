@@ -1,8 +1,8 @@
 -- A token if what follows it changes.
 use Rattle.std.proofs.Common.{◌≡◌, ◌≢◌, ◌⊎◌, inl, inr, ℕ, ◌<◌, true, false, List, [], ◌∷◌, ◌++◌, length, refl, sym, ap, ap₂, ◌∙◌, subst, arith, append-nil, append_assoc, length-append}
+use Rattle.std.proofs.lemmas.List.{append_cancel_right}
 use Rattle.std.proofs.lemmas.Bool.{false≢true}
 use Rattle.syntax_lex.specs.Comments.{block_comment}
-use Rattle.syntax_lex.specs.Front.{first, skip}
 use Rattle.syntax_lex.specs.Reading.{reading}
 use Rattle.syntax_lex.specs.declared.token.TokenKind.{TokenKind}
 use Rattle.syntax_lex.specs.declared.token.TokenKind.TheVariants as kinds
@@ -30,13 +30,6 @@ pub some_length : (xs : List ℕ) → xs ≢ [] → 0 < length xs
 some_length [] some = absurd (some refl)
 some_length (x ∷ xs) some = omega arith
 
--- texts before the same end are the same
-front_same : (xs ys r : List ℕ) → xs ++ r ≡ ys ++ r → xs ≡ ys
-front_same [] [] r e = refl
-front_same [] (y ∷ ys) r e = absurd (omega (arith, ap length e, length-append ys r))
-front_same (x ∷ xs) [] r e = absurd (omega (arith, ap length e, length-append xs r))
-front_same (x ∷ xs) (y ∷ ys) r e = ap₂ (λ a t. a ∷ t) (ap first e) (front_same xs ys r (ap skip e))
-
 -- a token with a kept part after it is the same whatever follows that part
 kept_twin : (text kept_part r s : List ℕ) (kind : TokenKind) → text ≢ [] → kept_part ≢ [] → reading (text ++ (kept_part ++ r)) ≡ (kind, kept_part ++ r) → is_sound kind ≡ true
     → ((is_number kind ≡ true → kept_part ≢ 46 ∷ []) ⊎ (r ≡ [])) → reading (text ++ (kept_part ++ s)) ≡ (kind, kept_part ++ s)
@@ -53,7 +46,7 @@ kept_twin (c ∷ cs) l r s kind some more read sound other =
     longer = omega (arith, length-append l r, some_length l more)
 
     by : ((is_number kind ≡ true → l ≢ 46 ∷ []) ⊎ (r ≡ [])) → is_number kind ≡ true → (l ++ r ≢ 46 ∷ r) ⊎ IsShort r
-    by (inl none) is = inl (λ e. none is (front_same l (46 ∷ []) r e))
+    by (inl none) is = inl (λ e. none is (append_cancel_right l (46 ∷ []) r e))
     by (inr nil) is = inr (subst IsShort (sym nil) tt)
 
 pub token_kept : (text kept_part rest other : List ℕ) (kind : TokenKind) → text ≢ [] → kept_part ≢ [] → reading (text ++ (kept_part ++ rest)) ≡ (kind, kept_part ++ rest) → is_sound kind ≡ true
@@ -72,8 +65,9 @@ pub kept_more : (text kept_part other : List ℕ) (kind : TokenKind) → text �
 kept_more text l other kind some more read sound = kept_twin text l [] other kind some more (subst (λ t. reading (text ++ t) ≡ (kind, t)) (sym (append-nil l)) read) sound (inr refl)
 
 -- a token before a rest is the token alone
-pub alone : (c : ℕ) (cs r : List ℕ) (kind : TokenKind) → reading (c ∷ (cs ++ r)) ≡ (kind, r) → is_sound kind ≡ true → is_line kind ≡ false → reading (c ∷ cs) ≡ (kind, [])
-alone c cs r kind read sound line = ap (λ t. reading (c ∷ t)) (sym (append-nil cs)) ∙ token_twin c cs [] r [] kind read (record {
+pub alone : (text r : List ℕ) (kind : TokenKind) → text ≢ [] → reading (text ++ r) ≡ (kind, r) → is_sound kind ≡ true → is_line kind ≡ false → reading text ≡ (kind, [])
+alone [] r kind some read sound line = absurd (some refl)
+alone (c ∷ cs) r kind some read sound line = ap (λ t. reading (c ∷ t)) (sym (append-nil cs)) ∙ token_twin c cs [] r [] kind read (record {
   fits = record { stays = ended (omega arith) (plain plain_null); shut = sound_shut kind sound; known = inl (sound_known kind sound) };
   apart = line_apart r r kind line refl;
   pointless = λ is. inl (λ e. omega (arith, ap length e));
@@ -98,8 +92,7 @@ whole_sound kind h = (refl, refl)
 
 -- so a token of a text is the same token if it takes all of the text
 pub token_alone : (text rest : List ℕ) (kind : TokenKind) → text ≢ [] → reading (text ++ rest) ≡ (kind, rest) → is_whole kind ≡ true → reading text ≡ (kind, [])
-token_alone [] rest kind some read is = absurd (some refl)
-token_alone (c ∷ cs) rest kind some read is = let it = whole_sound kind is in alone c cs rest kind read it.0 it.1
+token_alone text rest kind some read is = let it = whole_sound kind is in alone text rest kind some read it.0 it.1
 
 pub token_parted : (text rest : List ℕ) (c : ℕ) (kind : TokenKind) → text ≢ [] → reading text ≡ (kind, []) → is_sound kind ≡ true → is_ended kind ≡ true → is_parting c ≡ true
     → reading (text ++ c ∷ rest) ≡ (kind, c ∷ rest)

@@ -1,5 +1,5 @@
 -- What each kind of token means for the written text.
-use Rattle.std.proofs.Common.{◌≡◌, ℕ, Bool, true, false, ◌==◌, ◌&&◌, not, IsTrue, List, ◌∷◌, Option, None, Some, refl, ap, sym, ◌∙◌, if◌then◌else◌}
+use Rattle.std.proofs.Common.{◌≡◌, ℕ, Bool, true, false, ◌==◌, ◌&&◌, not, List, ◌∷◌, Option, None, Some, refl, ap, sym, ◌∙◌, if◌then◌else◌}
 use Rattle.std.proofs.lemmas.Bool.{eqb-true}
 use Rattle.tt_base.specs.declared.punct.Spacing.TheVariants.{Alone}
 use Rattle.syntax_lex.specs.Class.{is_decimal, is_emoji_mark, is_id_continue, is_odd_rest}
@@ -22,7 +22,6 @@ use Rattle.syntax_parse.specs.declared.bracket.Bracket.TheVariants.{Parenthesis,
 use Rattle.syntax_parse.specs.declared.fault.BadToken.{BadToken}
 use Rattle.syntax_parse.specs.declared.fault.BadToken.TheVariants as bad
 use Rattle.syntax_parse.specs.declared.role.Role.TheVariants.{Bad, Nothing, Opens, Closes}
-use Rattle.syntax_unparse.specs.Writable.{is_lifetime, is_name}
 use Rattle.laws_tokens.proofs.Tables.{symbol_passes}
 
 -- what a kind of token means for the written text
@@ -33,9 +32,11 @@ pub data Told : TokenKind → Type 0 where
   wrong : {kind : TokenKind} → (why : BadToken) → ((text : List ℕ) → role_in kind text ≡ Bad why) → spacing_before (Some kind) ≡ Alone → Told kind
   opened : {kind : TokenKind} → (pair : Bracket) → ((text : List ℕ) → role_in kind text ≡ Opens pair) → spacing_before (Some kind) ≡ Alone → Told kind
   closed : {kind : TokenKind} → (pair : Bracket) → ((text : List ℕ) → role_in kind text ≡ Closes pair) → spacing_before (Some kind) ≡ Alone → Told kind
-  wordy : {kind : TokenKind} → IsTrue (is_name kind) → spacing_before (Some kind) ≡ Alone → Told kind
+  word_token : Told kinds.Ident
+  raw_word : Told kinds.RawIdent
   valued : (kind : LiteralKind) → (start : ℕ) → Told (kinds.Literal kind start)
-  living : {kind : TokenKind} → IsTrue (is_lifetime kind) → Told kind
+  life_token : (digit : Bool) → Told (kinds.Lifetime digit)
+  raw_life : Told kinds.RawLifetime
   sign : {kind : TokenKind} → (c : ℕ) → punct_char kind ≡ Some c → Told kind
 
 pub told : (kind : TokenKind) → Told kind
@@ -45,43 +46,23 @@ told (kinds.BlockComment None true) = blank (λ text. refl) refl
 told (kinds.BlockComment None false) = wrong bad.UnterminatedComment (λ text. refl) refl
 told (kinds.BlockComment (Some style) terminated) = block style terminated
 told kinds.Whitespace = blank (λ text. refl) refl
-told kinds.Ident = wordy refl refl
-told kinds.RawIdent = wordy refl refl
+told kinds.Ident = word_token
+told kinds.RawIdent = raw_word
 told kinds.InvalidIdent = wrong bad.InvalidIdent (λ text. refl) refl
 told kinds.UnknownPrefix = wrong bad.UnknownPrefix (λ text. refl) refl
 told kinds.UnknownPrefixLifetime = wrong bad.UnknownPrefix (λ text. refl) refl
 told kinds.GuardedStrPrefix = wrong bad.GuardedPrefix (λ text. refl) refl
 told kinds.Unknown = wrong bad.UnknownCharacter (λ text. refl) refl
 told (kinds.Literal kind start) = valued kind start
-told (kinds.Lifetime digit) = living refl
-told kinds.RawLifetime = living refl
+told (kinds.Lifetime digit) = life_token digit
+told kinds.RawLifetime = raw_life
 told kinds.OpenParen = opened Parenthesis (λ text. refl) refl
 told kinds.OpenBrace = opened Brace (λ text. refl) refl
 told kinds.OpenBracket = opened Square (λ text. refl) refl
 told kinds.CloseParen = closed Parenthesis (λ text. refl) refl
 told kinds.CloseBrace = closed Brace (λ text. refl) refl
 told kinds.CloseBracket = closed Square (λ text. refl) refl
-told kinds.Semi = sign 59 refl
-told kinds.Comma = sign 44 refl
-told kinds.Dot = sign 46 refl
-told kinds.At = sign 64 refl
-told kinds.Pound = sign 35 refl
-told kinds.Tilde = sign 126 refl
-told kinds.Question = sign 63 refl
-told kinds.Colon = sign 58 refl
-told kinds.Dollar = sign 36 refl
-told kinds.Eq = sign 61 refl
-told kinds.Bang = sign 33 refl
-told kinds.Lt = sign 60 refl
-told kinds.Gt = sign 62 refl
-told kinds.Minus = sign 45 refl
-told kinds.And = sign 38 refl
-told kinds.Or = sign 124 refl
-told kinds.Plus = sign 43 refl
-told kinds.Star = sign 42 refl
-told kinds.Slash = sign 47 refl
-told kinds.Caret = sign 94 refl
-told kinds.Percent = sign 37 refl
+told kind = sign _ refl
 
 -- whether a character is that of a punct, if there is one
 is_of : ℕ → Option ℕ → Bool
@@ -94,16 +75,21 @@ unfolding is_of
 symbol_back d c h = eqb-true d c (sym (ap (is_of d) h) ∙ symbol_passes (λ n kind. is_of n (punct_char kind)) refl d refl)
 
 -- no other token is a punct
-no_punct : (c : ℕ) → None ≡ Some c → ⊥
+pub no_punct : (c : ℕ) → None ≡ Some c → ⊥
 no_punct c h = cc
 
 abbrev pub word_as : (quote emoji : Bool) → List ℕ → TokenKind × List ℕ
 word_as quote emoji cs = if quote then (kinds.UnknownPrefix, cs) else (if emoji then (kinds.InvalidIdent, behind is_odd_rest cs) else (kinds.Ident, cs))
 
-word_no_punct : (quote emoji : Bool) (cs : List ℕ) → punct_char (word_as quote emoji cs).0 ≡ None
-word_no_punct true emoji cs = refl
-word_no_punct false true cs = refl
-word_no_punct false false cs = refl
+-- the kinds of words
+pub word_kind : (P : TokenKind → Type 0) → P kinds.UnknownPrefix → P kinds.InvalidIdent → P kinds.Ident → (cs : List ℕ) → P (word cs).0
+unfolding word
+word_kind P prefix odd plain cs = by (begins_literal (first (behind is_id_continue cs))) (is_emoji_mark (first (behind is_id_continue cs)))
+  where
+    by : (quote emoji : Bool) → P (word_as quote emoji (behind is_id_continue cs)).0
+    by true emoji = prefix
+    by false true = odd
+    by false false = plain
 
 abbrev pub named_as : (text : List ℕ) → (quote hash digit : Bool) → (left : List ℕ) → TokenKind × List ℕ
 named_as text quote hash digit left = if quote then literal text (Char true) false (skip left) else (if hash then (kinds.UnknownPrefixLifetime, left) else (kinds.Lifetime digit, left))
@@ -112,43 +98,32 @@ abbrev pub lifetime_as : (text : List ℕ) → (begins raw : Bool) → (cs left 
 lifetime_as text begins raw cs left =
     if begins then (if raw then (kinds.RawLifetime, behind is_id_continue (skip (skip (skip cs)))) else named text (is_decimal (first cs)) left) else char_literal text (quoted_char cs)
 
-apostrophe_no_punct : (text cs : List ℕ) → punct_char (apostrophe text cs).0 ≡ None
+-- the kinds of what a quote begins
+pub apostrophe_kind : (P : TokenKind → Type 0) → P kinds.RawLifetime → P kinds.UnknownPrefixLifetime → ((digit : Bool) → P (kinds.Lifetime digit)) → ((closed : Bool) → (start : ℕ) → P (kinds.Literal (Char closed) start))
+    → (text cs : List ℕ) → P (apostrophe text cs).0
 unfolding apostrophe literal
-apostrophe_no_punct text cs = go (begins_lifetime cs) (begins_raw_lifetime cs)
+apostrophe_kind P raw prefix life char text cs = go (begins_lifetime cs) (begins_raw_lifetime cs)
   where
     left : List ℕ
     left = behind is_id_continue (skip cs)
 
-    named_is : (quote hash digit : Bool) → punct_char (named_as text quote hash digit left).0 ≡ None
-    named_is true hash digit = refl
-    named_is false true digit = refl
-    named_is false false digit = refl
+    named_is : (quote hash digit : Bool) → P (named_as text quote hash digit left).0
+    named_is true hash digit = char _ _
+    named_is false true digit = prefix
+    named_is false false digit = life digit
 
-    go : (b raw : Bool) → punct_char (lifetime_as text b raw cs left).0 ≡ None
-    go true true = refl
+    go : (b w : Bool) → P (lifetime_as text b w cs left).0
+    go true true = raw
     go true false = named_is (first left == 39) ((first left == 35) && not (is_decimal (first cs))) (is_decimal (first cs))
-    go false raw = refl
+    go false w = char _ _
 
 -- a punct is its character, and takes it alone
 pub punct_back : (d : ℕ) (ds : List ℕ) (c : ℕ) → punct_char (reading (d ∷ ds)).0 ≡ Some c → (d ≡ c) × ((reading (d ∷ ds)).1 ≡ ds)
-unfolding reading reading_of literal word
+unfolding reading reading_of literal
 punct_back d ds c = go (opening d (first ds) (second ds))
   where
     go : (family : Family) → punct_char (reading_of family (d ∷ ds) ds).0 ≡ Some c → (d ≡ c) × ((reading_of family (d ∷ ds) ds).1 ≡ ds)
     go opens.Symbol h = (symbol_back d c h, refl)
-    go opens.Word h = let left = behind is_id_continue ds in absurd (no_punct c (sym (word_no_punct (begins_literal (first left)) (is_emoji_mark (first left)) left) ∙ h))
-    go opens.Apostrophe h = absurd (no_punct c (sym (apostrophe_no_punct (d ∷ ds) ds) ∙ h))
-    go opens.LineComment h = absurd (no_punct c h)
-    go opens.BlockComment h = absurd (no_punct c h)
-    go opens.Whitespace h = absurd (no_punct c h)
-    go opens.RawIdent h = absurd (no_punct c h)
-    go opens.RawStr h = absurd (no_punct c h)
-    go opens.Byte h = absurd (no_punct c h)
-    go opens.ByteStr h = absurd (no_punct c h)
-    go opens.RawByteStr h = absurd (no_punct c h)
-    go opens.CStr h = absurd (no_punct c h)
-    go opens.RawCStr h = absurd (no_punct c h)
-    go opens.Number h = absurd (no_punct c h)
-    go opens.Guarded h = absurd (no_punct c h)
-    go opens.Str h = absurd (no_punct c h)
-    go opens.OddWord h = absurd (no_punct c h)
+    go opens.Word h = absurd (no_punct c (sym (word_kind (λ k. punct_char k ≡ None) refl refl refl ds) ∙ h))
+    go opens.Apostrophe h = absurd (no_punct c (sym (apostrophe_kind (λ k. punct_char k ≡ None) refl refl (λ digit. refl) (λ closed start. refl) (d ∷ ds) ds) ∙ h))
+    go family h = absurd (no_punct c h)

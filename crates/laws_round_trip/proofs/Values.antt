@@ -6,12 +6,12 @@ use Rattle.std.proofs.lemmas.Bool.{false≢true}
 use Rattle.std.proofs.lemmas.List.{take-append-drop}
 use Rattle.std.proofs.lemmas.List.Folds.{drop_split}
 use Rattle.std.proofs.lemmas.Slice.Eq.{bytes_eq-Decides}
-use Rattle.std.proofs.lemmas.Str.{chars-IsAscii, chars-encodes, encodes-append}
+use Rattle.std.proofs.lemmas.Str.{chars-IsAscii, chars-encodes, encodes-append, encodes-chars, scalars-chars}
 use Rattle.std.specs.Prelude.{bytes_eq, codes, slice_range}
 use Rattle.std.specs.Str.{chars}
 use Rattle.tt_base.specs.LeafText.{literal_text}
 use Rattle.tt_base.specs.Literal.{kind_of, symbol_of}
-use Rattle.tt_base.specs.Scan.{LiteralParts, no_literal, parts_told, suffix_told}
+use Rattle.tt_base.specs.Scan.{LiteralParts, kind_told, no_literal, parts_told, suffix_told}
 use Rattle.tt_base.specs.declared.leaf.Leaf.TheVariants as leaf_of
 use Rattle.tt_base.specs.declared.literal.LitKind.{LitKind}
 use Rattle.tt_base.specs.declared.literal.LitKind.TheVariants as lit
@@ -21,17 +21,16 @@ use Rattle.syntax_lex.specs.Reading.{reading}
 use Rattle.syntax_lex.specs.declared.token.LiteralKind.{LiteralKind}
 use Rattle.syntax_lex.specs.declared.token.LiteralKind.TheVariants as literals
 use Rattle.syntax_lex.specs.declared.token.TokenKind.TheVariants as kinds
-use Rattle.laws_round_trip.proofs.Numbers.{IsNumber, is_numeric, number_back}
+use Rattle.laws_round_trip.proofs.LiteralsBack.{IsNumber, number_back, quotes_back}
 use Rattle.laws_round_trip.proofs.QuotedAlone.{quoted_alone}
 use Rattle.laws_round_trip.proofs.Quotes.{Quoted, has_quotes, is_quoted}
-use Rattle.laws_round_trip.proofs.QuotesBack.{quotes_back}
 use Rattle.laws_round_trip.proofs.Tokens.{token_alone}
 use Rattle.laws_round_trip.proofs.ReadyFacts.{Read, one}
 use Rattle.laws_round_trip.proofs.Roles.{literal_closed}
 use Rattle.laws_round_trip.proofs.SortFits.{ValueAlone}
 use Rattle.laws_tokens.proofs.TwinWords.{byte_length-append}
 use Rattle.laws_round_trip.proofs.Words.{scalars-back}
-use Rattle.laws_tokens.specs.Stops.{is_closed}
+use Rattle.laws_tokens.specs.Stops.{is_closed, is_number_kind}
 use Rattle.syntax_parse.specs.Pieces.{scan_of}
 use Rattle.syntax_parse.specs.Role.{role_in}
 use Rattle.syntax_parse.specs.declared.role.Role.TheVariants.{Leaf}
@@ -55,14 +54,7 @@ plain_text literal plain = go (kind_of literal) refl plain
     go lit.Integer e h = rw e joined
     go lit.Float e h = rw e joined
     go (lit.Err unit) e h = rw e joined
-    go lit.Byte e h = absurd (false≢true (sym h))
-    go lit.Char e h = absurd (false≢true (sym h))
-    go lit.Str e h = absurd (false≢true (sym h))
-    go (lit.StrRaw count) e h = absurd (false≢true (sym h))
-    go lit.ByteStr e h = absurd (false≢true (sym h))
-    go (lit.ByteStrRaw count) e h = absurd (false≢true (sym h))
-    go lit.CStr e h = absurd (false≢true (sym h))
-    go (lit.CStrRaw count) e h = absurd (false≢true (sym h))
+    go kind e h = absurd (false≢true (sym h))
 
 -- a suffix that does not begin with `_` counts
 suffix_counts : (rest : List ℕ) → scalars rest ≡ true → (first rest == 95) ≡ false → suffix_told (encodes rest) ≡ encodes rest
@@ -92,40 +84,23 @@ quoted_text : (word : List ℕ) (kind : LitKind) (parts : LiteralParts) → has_
 quoted_text word kind parts quotes is true plain = absurd (false≢true (sym plain ∙ ap has_quotes is ∙ quotes))
 quoted_text word kind parts quotes is false plain = append-nil word
 
-parts_text : (word front : List ℕ) (kind : LiteralKind) (start : ℕ) → word ≡ encodes front → scalars front ≡ true → (is_numeric kind ≡ true → IsNumber front start)
+parts_text : (word front : List ℕ) (kind : LiteralKind) (start : ℕ) → word ≡ encodes front → scalars front ≡ true → (is_number_kind kind ≡ true → IsNumber front start)
     → has_quotes (parts_told word (Some (scan_of kind, start))).kind ≡ false
     → (parts_told word (Some (scan_of kind, start))).value ++ (parts_told word (Some (scan_of kind, start))).suffix ≡ word
 parts_text word front (literals.Int base empty) start are fine number plain = number_text word front start are fine (number refl)
 parts_text word front (literals.Float base empty) start are fine number plain = number_text word front start are fine (number refl)
-parts_text word front (literals.Char terminated) start are fine number plain = quoted_text word lit.Char _ refl refl _ plain
-parts_text word front (literals.Byte terminated) start are fine number plain = quoted_text word lit.Byte _ refl refl _ plain
-parts_text word front (literals.Str terminated) start are fine number plain = quoted_text word lit.Str _ refl refl _ plain
-parts_text word front (literals.ByteStr terminated) start are fine number plain = quoted_text word lit.ByteStr _ refl refl _ plain
-parts_text word front (literals.CStr terminated) start are fine number plain = quoted_text word lit.CStr _ refl refl _ plain
-parts_text word front (literals.RawStr hashes) start are fine number plain = quoted_text word (lit.StrRaw _) _ refl refl _ plain
-parts_text word front (literals.RawByteStr hashes) start are fine number plain = quoted_text word (lit.ByteStrRaw _) _ refl refl _ plain
-parts_text word front (literals.RawCStr hashes) start are fine number plain = quoted_text word (lit.CStrRaw _) _ refl refl _ plain
+parts_text word front kind start are fine number plain = quoted_text word (kind_told (scan_of kind)) _ refl refl _ plain
 
 -- an empty text has no literal
 nothing_literal : (kind : LiteralKind) (start : ℕ) → reading [] ≡ (kinds.Literal kind start, []) → ⊥
 unfolding reading
-nothing_literal kind start e = other (ap (λ p. p.0) e)
-  where
-    other : kinds.Unknown ≡ kinds.Literal kind start → ⊥
-    other k = cc
+nothing_literal kind start e = let k : kinds.Unknown ≡ kinds.Literal kind start = ap (λ p. p.0) e in cc
 
 -- a literal with quotes is one that is read with quotes
 quoted_kind : (kind : LiteralKind) (word : List ℕ) (start : ℕ) → is_closed kind ≡ true → has_quotes (parts_told word (Some (scan_of kind, start))).kind ≡ true → is_quoted kind ≡ true
 quoted_kind (literals.Int base empty) word start closed quotes = absurd (false≢true quotes)
 quoted_kind (literals.Float base empty) word start closed quotes = absurd (false≢true quotes)
-quoted_kind (literals.Char terminated) word start closed quotes = closed
-quoted_kind (literals.Byte terminated) word start closed quotes = closed
-quoted_kind (literals.Str terminated) word start closed quotes = closed
-quoted_kind (literals.ByteStr terminated) word start closed quotes = closed
-quoted_kind (literals.CStr terminated) word start closed quotes = closed
-quoted_kind (literals.RawStr hashes) word start closed quotes = closed
-quoted_kind (literals.RawByteStr hashes) word start closed quotes = closed
-quoted_kind (literals.RawCStr hashes) word start closed quotes = closed
+quoted_kind kind word start closed quotes = closed
 
 -- a literal reads alone
 pub value_alone : (word letters left : List ℕ) (kind : LiteralKind) (start : ℕ) → Read word letters left (kinds.Literal kind start) → role_in (kinds.Literal kind start) word ≡ Leaf
@@ -139,10 +114,10 @@ value_alone word letters left kind start it fine literal symbol sort len = go (h
     closed : is_closed kind ≡ true
     closed = literal_closed kind start word fine
 
-    read : reading it.front ≡ (kinds.Literal kind start, [])
-    read = token_alone it.front left (kinds.Literal kind start) it.some it.read closed
+    read : reading (chars word) ≡ (kinds.Literal kind start, [])
+    read = token_alone (chars word) left (kinds.Literal kind start) it.some it.read closed
 
-    number : (front : List ℕ) → reading front ≡ (kinds.Literal kind start, []) → is_numeric kind ≡ true → IsNumber front start
+    number : (front : List ℕ) → reading front ≡ (kinds.Literal kind start, []) → is_number_kind kind ≡ true → IsNumber front start
     number [] e is = absurd (nothing_literal kind start e)
     number (c ∷ cs) e is = number_back c cs (kinds.Literal kind start) e is
 
@@ -153,10 +128,10 @@ value_alone word letters left kind start it fine literal symbol sort len = go (h
     go : (b : Bool) → has_quotes parts.kind ≡ b → ReadsAlone (leaf_of.Literal literal)
     go true has =
         let is = quoted_kind kind word start closed has in
-        quoted_alone kind word it.front start (quotes it.front read is) is it.bytes it.fine fine has literal symbol sort len
+        quoted_alone kind word (chars word) start (quotes (chars word) read is) is (sym (encodes-chars word it.utf8)) (scalars-chars word it.utf8) fine has literal symbol sort len
     go false plain =
         let alone = one word letters left (kinds.Literal kind start) it closed fine in
-        let text = parts_text word it.front kind start it.bytes it.fine (number it.front read) plain in
+        let text = parts_text word (chars word) kind start (sym (encodes-chars word it.utf8)) (scalars-chars word it.utf8) (number (chars word) read) plain in
         let is : literal_text literal ≡ word = plain_text literal (ap has_quotes sort ∙ plain) ∙ symbol ∙ text in
         inr (subst (λ t. ReadsAs t (leaf_of.Literal literal)) (sym is)
         (alone.0, subst (λ k. MeansLiteral k word literal) (sym alone.1) (record { symbol = symbol; span = refl; kind = sort; suffix_len = len })))

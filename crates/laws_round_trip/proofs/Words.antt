@@ -1,25 +1,35 @@
--- A token of a text, as bytes: one that means leaves is one token alone.
-use Rattle.std.proofs.Common.{◌≡◌, ◌≢◌, ℕ, ◌+◌, ◌<◌, ◌&&◌, true, List, [], ◌∷◌, ◌++◌, length, take, drop, refl, sym, ap, ap₂, ◌∙◌, subst, arith}
-use Rattle.std.proofs.Math.Seq.{drop-append_seam, take-append_seam}
-use Rattle.std.proofs.Math.Utf8.{encodes, scalars}
+-- A token of a text, as bytes: one that means leaves is one token alone. A name and a punct read alone.
+use Rattle.std.proofs.Common.{◌≡◌, ◌≢◌, ℕ, ◌<◌, ◌&&◌, true, List, [], ◌∷◌, ◌++◌, length, take, drop, refl, sym, ap, ap₂, ◌∙◌, subst, arith, ◌==◌, ◌||◌, Bool, false, IsTrue, Some, if◌then◌else◌}
+use Rattle.std.proofs.Math.Utf8.{scalars}
+use Rattle.std.proofs.lemmas.Bool.Decides.{Decides-eqb}
 use Rattle.std.proofs.lemmas.Bool.{and_parts}
-use Rattle.std.proofs.lemmas.Str.{chars-encodes, encodes-append, encodes-chars, scalars-chars}
+use Rattle.std.proofs.lemmas.List.{length-take-le, take-append-drop}
+use Rattle.std.proofs.lemmas.Slice.Eq.{starts_is}
+use Rattle.std.proofs.lemmas.Str.{IsUtf8-drop, IsUtf8-take, chars-append, chars-nil}
+use Rattle.std.specs.List.{starts_with}
+use Rattle.std.specs.Prelude.{codes, encode_utf8, nat_eq}
 use Rattle.std.specs.Str.{chars, IsUtf8}
-use Rattle.syntax_lex.proofs.EndFacts.{reading_end}
-use Rattle.syntax_lex.proofs.FrontFacts.{byte_length-chars}
-use Rattle.syntax_lex.proofs.TokenFacts.{byte_length-nil, len_first, token_is}
-use Rattle.syntax_lex.specs.Ends.{IsEnd, later}
-use Rattle.syntax_lex.specs.Front.{byte_length}
+use Rattle.laws_round_trip.proofs.Tokens.{token_alone}
+use Rattle.laws_round_trip.specs.Whole.{is_whole}
+use Rattle.laws_tokens.proofs.SignFacts.{sign_read}
+use Rattle.laws_tokens.specs.Stops.{is_glued}
+use Rattle.syntax_lex.proofs.FrontFacts.{byte_length-chars, empty_from_chars}
+use Rattle.syntax_lex.proofs.TokenFacts.{byte_length-nil, token_is}
 use Rattle.syntax_lex.specs.Reading.{first_token_of, reading}
 use Rattle.syntax_lex.specs.declared.token.Token.{Token}
 use Rattle.syntax_lex.specs.declared.token.TokenKind.{TokenKind}
-use Rattle.laws_round_trip.proofs.Tokens.{token_alone}
-use Rattle.laws_tokens.proofs.TwinWords.{byte_length-append}
-use Rattle.laws_round_trip.specs.Whole.{is_whole}
-use Rattle.syntax_parse.proofs.TextFacts.{end_split}
+use Rattle.syntax_parse.proofs.TextFacts.{cut}
+use Rattle.syntax_parse.specs.Pieces.{punct_char}
 use Rattle.syntax_parse.specs.Role.{role_in}
 use Rattle.syntax_parse.specs.declared.role.Role.TheVariants.{Leaf}
-use Rattle.syntax_unparse.specs.Writable.{IsOneToken, first_kind}
+use Rattle.syntax_unparse.proofs.KindFacts.{punct_known}
+use Rattle.syntax_unparse.specs.Writable.{IsOneToken, first_kind, ReadsAs, is_name}
+use Rattle.tt_base.specs.LeafText.{ident_text, raw_prefix}
+use Rattle.tt_base.specs.Token.{rawness_of, without_raw_prefix}
+use Rattle.tt_base.specs.declared.ident.Ident.{Ident}
+use Rattle.tt_base.specs.declared.ident.IdentIsRaw.TheVariants.{No, Yes}
+use Rattle.tt_base.specs.declared.leaf.Leaf.TheVariants as leaf_of
+use Rattle.tt_base.specs.declared.punct.Punct.{Punct}
 
 pub scalars-back : (xs ys : List ℕ) → scalars (xs ++ ys) ≡ true → scalars ys ≡ true
 scalars-back [] ys h = h
@@ -29,57 +39,38 @@ pub scalars-front : (xs ys : List ℕ) → scalars (xs ++ ys) ≡ true → scala
 scalars-front [] ys h = refl
 scalars-front (x ∷ xs) ys h = let both = and_parts _ _ h in ap₂ (λ a b. a && b) both.0 (scalars-front xs ys both.1)
 
--- the first token of a text: its characters, and the rest
+pub some_bytes : (t : List ℕ) → chars t ≢ [] → 0 < length t
+some_bytes [] some = absurd (some chars-nil)
+some_bytes (b ∷ t) some = omega arith
+
+-- the first token of a text, and the rest
 pub record Word (bs : List ℕ) (token : Token) : Type 0 where
-  pub front : List ℕ
-  pub left : List ℕ
-  pub letters : chars bs ≡ front ++ left
-  pub read : reading (front ++ left) ≡ (token.kind, left)
-  pub some : front ≢ []
-  pub fine : scalars front ≡ true
-  pub bytes : take token.len bs ≡ encodes front
   pub utf8 : IsUtf8 (take token.len bs)
-  pub chars_are : chars (take token.len bs) ≡ front
-  pub rest_utf8 : IsUtf8 (drop token.len bs)
-  pub rest_chars : chars (drop token.len bs) ≡ left
+  pub rest : IsUtf8 (drop token.len bs)
+  pub size : length (take token.len bs) ≡ token.len
+  pub some : chars (take token.len bs) ≢ []
+  pub left : (reading (chars bs)).1 ≡ chars (drop token.len bs)
+  pub read : reading (chars (take token.len bs) ++ chars (drop token.len bs)) ≡ (token.kind, chars (drop token.len bs))
 
 kind_is : (cs : List ℕ) → (first_token_of cs).kind ≡ (reading cs).0
 unfolding first_token_of
 kind_is cs = refl
 
-not_nil : (c : ℕ) (cs : List ℕ) → ◌≡◌ {A = List ℕ} (c ∷ cs) [] → ⊥
-not_nil c cs k = cc
-
--- a token takes something
-some_front : (c : ℕ) (cs left : List ℕ) (n : ℕ) → 0 < n → n + byte_length left ≡ byte_length (c ∷ cs) → (front : List ℕ) → c ∷ cs ≡ front ++ left → front ≢ []
-some_front c cs left n some len [] are e = omega (arith, some, len, ap byte_length are)
-some_front c cs left n some len (x ∷ front) are e = not_nil x front e
-
-pub word_of : (bs : List ℕ) (c : ℕ) (cs : List ℕ) → IsUtf8 bs → chars bs ≡ c ∷ cs → Word bs (first_token_of (chars bs))
-word_of bs c cs utf8 e =
-    let left = (reading (c ∷ cs)).1 in
-    let is_end : IsEnd left (c ∷ cs) = later (reading_end c cs) in
-    let front = (end_split is_end).0 in
-    let joined : c ∷ cs ≡ front ++ left = (end_split is_end).1 in
-    let seam : bs ≡ encodes front ++ encodes left = sym (encodes-chars bs utf8) ∙ ap encodes (e ∙ joined) ∙ encodes-append front left in
-    let fine : scalars (front ++ left) ≡ true = subst (λ t. scalars t ≡ true) (e ∙ joined) (scalars-chars bs utf8) in
-    let len : (first_token_of (chars bs)).len ≡ length (encodes front) =
-    ap (λ t. (first_token_of t).len) e ∙ omega (arith, (len_first c cs).1, ap byte_length joined, byte_length-append front left) in
-    let word : take (first_token_of (chars bs)).len bs ≡ encodes front = ap (λ n. take n bs) len ∙ ap (λ b. take (length (encodes front)) b) seam ∙ take-append_seam (encodes front) (encodes left) in
-    let rest : drop (first_token_of (chars bs)).len bs ≡ encodes left = ap (λ n. drop n bs) len ∙ ap (λ b. drop (length (encodes front)) b) seam ∙ drop-append_seam (encodes front) (encodes left) in
-    record {
-      front = front;
-      left = left;
-      letters = e ∙ joined;
-      read = ap reading (sym joined) ∙ ap (λ k. (k, left)) (sym (ap (λ t. (first_token_of t).kind) e ∙ kind_is (c ∷ cs)));
-      some = some_front c cs left (first_token_of (c ∷ cs)).len (len_first c cs).0 (len_first c cs).1 front joined;
-      fine = scalars-front front left fine;
-      bytes = word;
-      utf8 = subst IsUtf8 (sym word) (front, (scalars-front front left fine, refl));
-      chars_are = ap chars word ∙ chars-encodes front (scalars-front front left fine);
-      rest_utf8 = subst IsUtf8 (sym rest) (left, (scalars-back front left fine, refl));
-      rest_chars = ap chars rest ∙ chars-encodes left (scalars-back front left fine);
-    }
+pub first_word : (bs : List ℕ) (token : Token) → IsUtf8 bs → chars bs ≢ [] → token ≡ first_token_of (chars bs) → Word bs token
+first_word bs token utf8 some is =
+    let it = cut bs utf8 (some_bytes bs some) in
+    let n = (first_token_of (chars bs)).len in
+    let size : length (take n bs) ≡ n = length-take-le n bs it.boundary.0 in
+    let front : IsUtf8 (take n bs) = IsUtf8-take bs n utf8 it.boundary in
+    let letters : chars bs ≡ chars (take n bs) ++ chars (drop n bs) = ap chars (sym (take-append-drop n bs)) ∙ chars-append (take n bs) (drop n bs) front in
+    subst (Word bs) (sym is) (record {
+      utf8 = front;
+      rest = IsUtf8-drop bs n utf8 it.boundary;
+      size = size;
+      some = λ e. omega (arith, it.some, size, empty_from_chars (take n bs) front e);
+      left = sym it.left;
+      read = ap reading (sym letters) ∙ ap₂ (λ k t. (k, t)) (sym (kind_is (chars bs))) (sym it.left);
+    })
 
 -- a reading that takes all of a text is one token
 pub whole_token : (word front : List ℕ) (kind : TokenKind) → IsUtf8 word → chars word ≡ front → reading front ≡ (kind, []) → role_in kind word ≡ Leaf → IsOneToken word × (first_kind word ≡ kind)
@@ -89,19 +80,42 @@ whole_token word front kind utf8 are read fine =
     let is : first_kind word ≡ kind = ap (λ (t : Token). t.kind) token in
     (record { utf8 = utf8; whole = ap (λ (t : Token). t.len) token; fine = ap (λ k. role_in k word) is ∙ fine }, is)
 
--- the first token of a text, with its characters
-pub first_word : (bs : List ℕ) (token : Token) → IsUtf8 bs → chars bs ≢ [] → token ≡ first_token_of (chars bs) → Word bs token
-first_word bs token utf8 some is = subst (Word bs) (sym is) (go (chars bs) refl)
-  where
-    go : (cs : List ℕ) → chars bs ≡ cs → Word bs (first_token_of (chars bs))
-    go [] e = absurd (some e)
-    go (c ∷ cs) e = word_of bs c cs utf8 e
-
 -- a token that means leaves is one token alone
-pub one_alone : (bs : List ℕ) (token : Token) → Word bs token → is_whole token.kind ≡ true → role_in token.kind (take token.len bs) ≡ Leaf
-    → IsOneToken (take token.len bs) × (first_kind (take token.len bs) ≡ token.kind)
-one_alone bs token it is fine = whole_token (take token.len bs) it.front token.kind it.utf8 it.chars_are (token_alone it.front it.left token.kind it.some it.read is) fine
-
 pub leaf_alone : (text : List ℕ) (token : Token) → IsUtf8 text → chars text ≢ [] → token ≡ first_token_of (chars text) → is_whole token.kind ≡ true → role_in token.kind (take token.len text) ≡ Leaf
     → IsOneToken (take token.len text) × (first_kind (take token.len text) ≡ token.kind)
-leaf_alone text token utf8 some are is fine = one_alone text token (first_word text token utf8 some are) is fine
+leaf_alone text token utf8 some are is fine =
+    let it = first_word text token utf8 some are in
+    let word = take token.len text in whole_token word (chars word) token.kind it.utf8 refl (token_alone (chars word) (chars (drop token.len text)) token.kind it.some it.read is) fine
+
+-- a name with the prefix that it was read with is its text
+pub prefix_back : (word : List ℕ) → raw_prefix (rawness_of word) ++ without_raw_prefix word ≡ word
+prefix_back word = go (starts_with nat_eq word (codes "r#")) refl
+  where
+    go : (b : Bool) → starts_with nat_eq word (codes "r#") ≡ b → raw_prefix (if b then Yes else No) ++ (if b then drop 2 word else word) ≡ word
+    go true e = sym ((starts_is Decides-eqb word (codes "r#") _ refl).0 e)
+    go false e = refl
+
+-- the leaf of a name that is read has its text
+pub name_text : (word : List ℕ) (ident : Ident) → ident.sym ≡ without_raw_prefix word → ident.is_raw ≡ rawness_of word → ident_text ident ≡ word
+name_text word ident text raw = ap₂ (λ r t. raw_prefix r ++ t) raw text ∙ prefix_back word
+
+pub name_alone : (word : List ℕ) (ident : Ident) → IsOneToken word → IsTrue (is_name (first_kind word)) → ident.sym ≡ without_raw_prefix word → ident.is_raw ≡ rawness_of word
+    → ReadsAs (ident_text ident) (leaf_of.Ident ident)
+name_alone word ident one named text raw = subst (λ t. ReadsAs t (leaf_of.Ident ident)) (sym (name_text word ident text raw)) (one, (named, sym text, sym raw))
+
+unglued : (c : ℕ) → is_glued c 0 ≡ false
+unglued c = go (c == 47) (c == 35)
+  where
+    go : (a b : Bool) → ((a && ((0 == 47) || (0 == 42))) || (b && ((0 == 34) || (0 == 35)))) ≡ false
+    go true true = refl
+    go true false = refl
+    go false true = refl
+    go false false = refl
+
+-- a punct of a kind reads alone
+pub punct_alone : (punct : Punct) (kind : TokenKind) → punct_char kind ≡ Some punct.char → ReadsAs (encode_utf8 punct.char) (leaf_of.Punct punct)
+punct_alone punct kind is =
+    let known = punct_known kind punct.char is in
+    let read : reading (punct.char ∷ []) ≡ (kind, []) = sign_read punct.char [] known.sign (unglued punct.char) ∙ ap (λ k. (k, [])) known.symbol in
+    let whole = whole_token (punct.char ∷ []) (punct.char ∷ []) kind known.utf8 known.chars read (known.role (punct.char ∷ [])) in
+    subst (λ t. ReadsAs t (leaf_of.Punct punct)) (sym known.bytes) (whole.0, ap punct_char whole.1 ∙ is)

@@ -23,7 +23,7 @@ use Rattle.syntax_lex.specs.declared.token.TokenKind.TheVariants as kinds
 use Rattle.laws_tokens.proofs.KeepFacts.{IsPlain, no_start}
 use Rattle.laws_tokens.proofs.TwinNumbers.{Holds, number_twins}
 use Rattle.laws_tokens.proofs.TwinQuotes.{and_none, Counts, Shut, char_twins, comment_front, comment_twins, no_raw_text, quote_twins, raw_text_closes, raw_text_twins}
-use Rattle.laws_tokens.proofs.TwinWords.{Fits, apostrophe_twins, inner, is_shut, told_twins, word_twins}
+use Rattle.laws_tokens.proofs.TwinWords.{Fits, apostrophe_twins, inner, is_shut, kind_twins, word_twins}
 use Rattle.laws_tokens.proofs.Twins.{Alike, Held, IsShort, Next, Stays, Twins, alike, branch, end_le, ends, front, held_of, name_twins, next_of, not_taken, off, plain, run, run_by, run_kept, short_plain, taken, twin_is, twins_of, unless}
 use Rattle.laws_tokens.specs.Stops.{is_number}
 
@@ -93,11 +93,11 @@ string_twins : {r s text2 a b : List ℕ} (text : List ℕ) (kind : Bool → Lit
     → Stays r s (literal text (kind (behind_quote false a).0) (behind_quote false a).0 (behind_quote false a).1).1 → Alike r s (quoted text kind (behind_quote false a)) (quoted text2 kind (behind_quote false b))
 string_twins {a = a} {b = b} text kind texts t closed stays =
     let found = behind_quote false a in
-    told_twins kind (λ w. w) texts found (behind_quote false b) (quote_twins false t (record { closed = closed; held = held_of (inner text (kind found.0) found.0 stays) })) stays
+    kind_twins kind (λ w. w) texts found (behind_quote false b) (quote_twins false t (record { closed = closed; held = held_of (inner text (kind found.0) found.0 stays) })) stays
 
 raw_twins : {r s text2 a b : List ℕ} (text : List ℕ) (kind : Option ℕ → LiteralKind) → Twins r s text text2 → Twins r s a b → is_some (raw_text a).0 ≡ true
     → Stays r s (literal text (kind (raw_text a).0) (is_some (raw_text a).0) (raw_text a).1).1 → Alike r s (raw text kind (raw_text a)) (raw text2 kind (raw_text b))
-raw_twins {a = a} {b = b} text kind texts t closed stays = told_twins kind is_some texts (raw_text a) (raw_text b) (raw_text_twins t (counts_of text a (kind (raw_text a).0) closed stays)) stays
+raw_twins {a = a} {b = b} text kind texts t closed stays = kind_twins kind is_some texts (raw_text a) (raw_text b) (raw_text_twins t (counts_of text a (kind (raw_text a).0) closed stays)) stays
 
 -- no name precedes a point
 point_left : (r : List ℕ) → behind_name (46 ∷ r) ≡ 46 ∷ r
@@ -114,7 +114,7 @@ family_twins opens.RawIdent c t two m = record { kind = refl; left = name_twins 
 family_twins {a = a} opens.RawStr c t two m = raw_twins (c ∷ a) literals.RawStr (front t) t m.fits.shut m.fits.stays
 family_twins {a = a} {b = b} opens.Byte c t two m =
     let found = quoted_char (skip a) in
-    told_twins literals.Byte (λ w. w) (front t) found (quoted_char (skip b)) (char_twins (two refl) m.fits.shut (inner (c ∷ a) (literals.Byte found.0) found.0 m.fits.stays)) m.fits.stays
+    kind_twins literals.Byte (λ w. w) (front t) found (quoted_char (skip b)) (char_twins (two refl) m.fits.shut (inner (c ∷ a) (literals.Byte found.0) found.0 m.fits.stays)) m.fits.stays
 family_twins {a = a} opens.ByteStr c t two m = string_twins (c ∷ a) literals.ByteStr (front t) (two refl) m.fits.shut m.fits.stays
 family_twins {a = a} opens.RawByteStr c t two m = raw_twins (c ∷ a) literals.RawByteStr (front t) (two refl) m.fits.shut m.fits.stays
 family_twins {a = a} opens.CStr c t two m = string_twins (c ∷ a) literals.CStr (front t) (two refl) m.fits.shut m.fits.stays
@@ -123,7 +123,7 @@ family_twins opens.Word c t two m = word_twins t m.fits
 family_twins {r = r} {s = s} {a = a} {b = b} opens.Number c t two m =
     let found = number c a in
     let holds : Holds r s found = record { stays = inner (c ∷ a) found.0 true m.fits.stays; pointless = λ is. by found.1 (m.pointless is) } in
-    told_twins (λ k. k) (λ k. true) (front t) found (number c b) (number_twins c t holds) m.fits.stays
+    kind_twins (λ k. k) (λ k. true) (front t) found (number c b) (number_twins c t holds) m.fits.stays
   where
     by : (left : List ℕ) → (behind_name left ≢ 46 ∷ r) ⊎ IsShort r → (left ≢ 46 ∷ r) ⊎ IsShort r
     by left (inl other) = inl (λ e. other (ap behind_name e ∙ point_left r))
@@ -165,9 +165,9 @@ unfolding opening
 opening_plain c d e p = rw (p.no_slash, p.no_star, p.no_hash, p.no_quote, p.no_apostrophe, p.no_r) refl
 
 -- one character alone selects no family of two
-one_tells : (c : ℕ) → wants_two (opening c 0 0) ≡ false
+one_decides : (c : ℕ) → wants_two (opening c 0 0) ≡ false
 unfolding opening
-one_tells c =
+one_decides c =
     tell (is_whitespace c) _ _ refl (tell (c == 47) _ _ refl (tell (c == 114) _ _ refl (tell (c == 98) _ _ refl (tell (c == 99) _ _ refl (tell (is_id_start c) _ _ refl (tell (is_decimal c) _ _ refl
     (tell (c == 39) _ _ refl (tell (c == 34) _ _ refl (rw (and_none (c == 35)) (tell (is_emoji_mark c) _ _ refl refl))))))))))
   where
@@ -198,10 +198,10 @@ two_taken opens.Symbol c d ds two shut = absurd (false≢true two)
 
 -- so the second character is not the first of r
 no_two : (r s : List ℕ) (c : ℕ) → Fits r s (reading_of (opening c (first r) (second r)) (c ∷ r) r) → wants_two (opening c (first r) (second r)) ≡ true → ⊥
-no_two [] s c m two = false≢true (sym (one_tells c) ∙ two)
+no_two [] s c m two = false≢true (sym (one_decides c) ∙ two)
 no_two (d ∷ ds) s c m two =
     not_taken (held_of m.stays) (two_taken (opening c d (first ds)) c d ds two m.shut)
-    (λ h. false≢true (sym (ap wants_two (opening_plain c d (first ds) (short_plain (d ∷ ds) h)) ∙ one_tells c) ∙ two))
+    (λ h. false≢true (sym (ap wants_two (opening_plain c d (first ds) (short_plain (d ∷ ds) h)) ∙ one_decides c) ∙ two))
 
 name_less : (r : List ℕ) → is_id_start (first r) ≡ true → length (behind_name r) ≤ length (skip r)
 name_less r is = rw is (end_le (behind_end is_id_continue (skip r)))

@@ -66,9 +66,9 @@ pub inner : {r s cs : List ℕ} (text : List ℕ) (kind : LiteralKind) (suffixed
 inner {cs = cs} text kind suffixed stays = stays_more cs stays (end_le (literal_end text kind suffixed cs))
 
 -- a literal, by what is found after the characters that open it
-pub told_twins : {r s text text2 : List ℕ} {K : Type 0} (kind : K → LiteralKind) (some : K → Bool) → Twins r s text text2 → (x y : K × List ℕ) → Alike r s x y → Stays r s (literal text (kind x.0) (some x.0) x.1).1
+pub kind_twins : {r s text text2 : List ℕ} {K : Type 0} (kind : K → LiteralKind) (some : K → Bool) → Twins r s text text2 → (x y : K × List ℕ) → Alike r s x y → Stays r s (literal text (kind x.0) (some x.0) x.1).1
     → Alike r s (literal text (kind x.0) (some x.0) x.1) (literal text2 (kind y.0) (some y.0) y.1)
-told_twins {r = r} {s = s} {text = text} {text2 = text2} kind some texts x y same stays =
+kind_twins {r = r} {s = s} {text = text} {text2 = text2} kind some texts x y same stays =
     subst (λ k. Alike r s (literal text (kind x.0) (some x.0) x.1) (literal text2 (kind k) (some k) y.1)) same.kind (literal_twins (kind x.0) (some x.0) texts same.left stays)
 
 -- an identifier, by what follows it
@@ -159,7 +159,7 @@ shut_twins {a = a} text t m = let found = quoted_char a in char_twins t m.shut (
 
 char_literal_twins : {r s text text2 a b : List ℕ} → Twins r s text text2 → Twins r s a b → Fits r s (char_literal text (quoted_char a)) → Alike r s (char_literal text (quoted_char a)) (char_literal text2 (quoted_char b))
 char_literal_twins {text = text} {a = a} {b = b} texts t m =
-    told_twins literals.Char (λ w. w) texts (quoted_char a) (quoted_char b) (shut_twins text t m) m.stays
+    kind_twins literals.Char (λ w. w) texts (quoted_char a) (quoted_char b) (shut_twins text t m) m.stays
 
 -- a name after a quote, and its first character
 life_twins : {r s text text2 a b : List ℕ} (x : ℕ) → Twins r s text text2 → Twins r s a b → Fits r s (named text (is_decimal x) (behind is_id_continue a))

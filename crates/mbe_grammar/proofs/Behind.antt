@@ -13,7 +13,7 @@ use Rattle.mbe_grammar.specs.Tests.{passes, taken_size}
 use Rattle.mbe_grammar.specs.Units.{first_unit}
 
 -- After that many trees, and then that many more.
-after_both : (n m : ℕ) (trees : Forest) → after_trees m (after_trees n trees) ≡ after_trees (n + m) trees
+pub after_both : (n m : ℕ) (trees : Forest) → after_trees m (after_trees n trees) ≡ after_trees (n + m) trees
 after_both zero m trees = let same : m ≡ 0 + m = omega arith in ap (λ k. after_trees k trees) same
 after_both (suc n) m trees = let same : suc (n + m) ≡ suc n + m = omega arith in after_both n m (after_tree trees) ∙ ap (λ k. after_trees k trees) same
 

@@ -1,11 +1,9 @@
 -- A derivation step by step: what a level that was read gives, and the first place where trees are refused.
-use Rattle.std.proofs.Common.{◌≡◌, inl, inr, ◌+◌, ◌≤◌, ◌<◌, ℕ, suc, zero, true, false, List, [], ◌∷◌, ◌++◌, map, Some, None, refl, sym, subst, ap, ◌∙◌, arith}
-use Rattle.std.specs.Prelude.{◌⊎◌}
+use Rattle.std.proofs.Common.{◌≡◌, inl, inr, ◌+◌, ◌≤◌, ◌<◌, ℕ, suc, zero, Bool, true, false, List, [], ◌∷◌, ◌++◌, map, Some, None, refl, sym, subst, ap, ◌∙◌, arith}
+use Rattle.std.specs.Prelude.{◌⊎◌, if◌then◌else◌}
 use Rattle.tt.specs.Forest.{Forest, end, leaf, node, size}
 use Rattle.tt.specs.Siblings.{is_end}
 use Rattle.tt.specs.Views.{trees_of}
-use Rattle.mbe_grammar.specs.declared.derivation.Left.{Left}
-use Rattle.mbe_grammar.specs.declared.derivation.Left.TheVariants as left
 use Rattle.mbe_grammar.specs.declared.entry.Entry.{Entry as Noted}
 use Rattle.mbe_grammar.specs.declared.entry.Entry.TheVariants as noted
 use Rattle.mbe_grammar.specs.declared.event.Event.{Event}
@@ -14,6 +12,8 @@ use Rattle.mbe_grammar.specs.declared.event.Level.{Level}
 use Rattle.mbe_grammar.specs.declared.rule.Rule.{Rule}
 use Rattle.mbe_grammar.specs.Derivations.{Deriving, Spread, DerivesIn, Derives, Place, StopsAt, RefusesIn, Refuses, place}
 use Rattle.mbe_grammar.specs.Deriving.{Gives, Stops, GivesBehind, StopsBehind, weight, IsRead}
+use Rattle.mbe_grammar.specs.Left.{Left}
+use Rattle.mbe_grammar.specs.Left as left
 use Rattle.mbe_grammar.specs.Parses.{Parses}
 use Rattle.mbe_grammar.specs.Places.{entry}
 use Rattle.mbe_grammar.specs.Positions.{Entry, Position, enters, leaves, takes_unit, holds, first_position}
@@ -87,7 +87,7 @@ module _ (rules : List Rule) where
 
   -- the entries of a log on top of what was left
   abbrev pub onto : List Noted → List Left → List Left
-  onto log others = map left.Entry log ++ others
+  onto log others = map left.noted log ++ others
 
   -- What they give are the events of the log, and what the others give.
   abbrev Parted : List Noted → List Left → (events : List Event) → Type 0
@@ -118,7 +118,7 @@ module _ (rules : List Rule) where
       )
 
   -- They have a refused place first in the log, or in the others.
-  abbrev Stopped : (stops : Type 0) (own : Place) → List Noted → List Left → Place → Type 0
+  abbrev pub Stopped : (stops : Type 0) (own : Place) → List Noted → List Left → Place → Type 0
   Stopped stops own log others at =
       StopsAt (Derives rules) (Refuses rules) stops own (map entry log) at ⊎ ((events : List Event) × Spread (Derives rules) (map entry log) events × Stops rules others at)
 
@@ -173,7 +173,7 @@ module _ (rules : List Rule) where
     lighter = omega (arith, weight_onto log others, light rules it.name (first_position (trees_of it.trees)) (Some to) p, ap log_weight is)
 
     -- The expression took all trees.
-    pub read_whole : is_end to.rest ≡ true → IsRead rules (place it) others true (onto log others)
+    pub read_whole : is_end to.rest ≡ true → IsRead rules (place it) others (Some (onto log others))
     read_whole e = (
       λ events g.
           let parts = parted log others events g in
@@ -188,18 +188,23 @@ module _ (rules : List Rule) where
         by at (inr k) = inr (k.0, derives it.name (trees_of it.trees) to k.0 p (ends_only to.rest e) (subst (λ t. Spread (Derives rules) t k.0) (sym is) k.1), k.2)
 
     -- It stopped before the end.
-    pub read_part : is_end to.rest ≡ false → IsRead rules (place it) others true (onto log (left.Stop it ∷ others))
+    pub read_part : is_end to.rest ≡ false → IsRead rules (place it) others (Some (onto log (left.stops it ∷ others)))
     read_part e = (
-      λ events g. let parts = parted log (left.Stop it ∷ others) events g in absurd parts.3,
-      λ at s. by at (stopped (to.rest ≡ end → ⊥) (place it) log (left.Stop it ∷ others) at s),
-      omega (arith, weight_onto log (left.Stop it ∷ others), light rules it.name (first_position (trees_of it.trees)) (Some to) p, ap log_weight is),
+      λ events g. let parts = parted log (left.stops it ∷ others) events g in absurd parts.3,
+      λ at s. by at (stopped (to.rest ≡ end → ⊥) (place it) log (left.stops it ∷ others) at s),
+      omega (arith, weight_onto log (left.stops it ∷ others), light rules it.name (first_position (trees_of it.trees)) (Some to) p, ap log_weight is),
     )
       where
-        by : (at : Place) → Stopped (to.rest ≡ end → ⊥) (place it) log (left.Stop it ∷ others) at → StopsBehind rules (place it) others at
+        by : (at : Place) → Stopped (to.rest ≡ end → ⊥) (place it) log (left.stops it ∷ others) at → StopsBehind rules (place it) others at
         by at (inl k) = inl (refuses (place it) to at p (subst (λ t. StopsAt (Derives rules) (Refuses rules) (to.rest ≡ end → ⊥) (place it) t at) (sym is) k))
         by at (inr k) =
             let own = own_stop (to.rest ≡ end → ⊥) (place it) at (map entry log) k.0 k.1 (goes_on_only to.rest e) k.2 in
             inl (refuses (place it) to at p (subst (λ t. StopsAt (Derives rules) (Refuses rules) (to.rest ≡ end → ⊥) (place it) t at) (sym is) own))
+
+    -- So it is in both cases.
+    pub read_level : (ends : Bool) → is_end to.rest ≡ ends → IsRead rules (place it) others (Some (onto log (left.stopped (if ends then None else Some it) others)))
+    read_level true e = read_whole e
+    read_level false e = read_part e
 
   none_more : (events : List Event) → events ++ [] ≡ events
   none_more [] = refl

@@ -1,20 +1,23 @@
 -- A fragment of Rust's grammar has one answer, and takes at least one tree.
-use Rattle.std.proofs.Common.{◌≡◌, ◌<◌, ◌+◌, ℕ, zero, suc, Some, None, refl, sym, ap, arith}
-use Rattle.std.specs.Prelude.{Option, option_map, false}
+use Rattle.std.proofs.Common.{◌≡◌, inl, inr, ◌<◌, ◌+◌, ℕ, zero, suc, Some, None, refl, sym, subst, ap, arith}
+use Rattle.std.specs.Prelude.{◌⊎◌, Option, option_map, Bool, true, false}
 use Rattle.tt.specs.Forest.{Forest, end, size}
 use Rattle.tt.specs.Gluing.{after_trees}
 use Rattle.mbe_grammar.specs.declared.rust_marks.TheConstants.{MARKS}
+use Rattle.mbe_grammar.specs.Derivations.{whole}
 use Rattle.mbe_grammar.specs.Expressions.{name, Answers}
-use Rattle.mbe_grammar.specs.Fragments.{name_of, Reaches}
+use Rattle.mbe_grammar.specs.Fragments.{name_of, Reaches, ReachesDeep, IsBlock}
 use Rattle.mbe_grammar.specs.Good.{IsGood, may_take_nothing}
-use Rattle.mbe_grammar.specs.Names.{start}
+use Rattle.mbe_grammar.specs.Names.{start, statements}
 use Rattle.mbe_grammar.specs.Parses.{Parses}
-use Rattle.mbe_grammar.specs.Positions.{Position, first_position, behind}
+use Rattle.mbe_grammar.specs.Positions.{Position, first_position, plain, behind}
 use Rattle.mbe_grammar.specs.Rust.{stands}
 use Rattle.mbe_grammar.specs.Table.{rust_rules}
 use Rattle.mbe_grammar.proofs.Behind.{closed_none}
 use Rattle.mbe_grammar.proofs.Laid.{rules_of_answers}
 use Rattle.mbe_grammar.proofs.OneAnswer.{one_answer_in}
+use Rattle.mbe_grammar.proofs.OneDerivation.{apart, judged, has_deep, one_deep}
+use Rattle.mbe_grammar.proofs.Plain.{parses_plain}
 use Rattle.mbe_grammar.proofs.Reached.{reached, failed}
 use Rattle.mbe_grammar.proofs.RustLaid.{are_laid}
 use Rattle.mbe_grammar.proofs.Total.{has, sound}
@@ -97,3 +100,43 @@ takes_a_tree which trees (suc n) h = (n, refl)
 -- At the end it takes none.
 pub takes_no_end : (which : GrammarFragment) (n : ℕ) → Reaches which end (Some n) → ⊥
 takes_no_end which n h = let less = less_left which end n h in absurd (omega (arith, less))
+
+-- If it also looks into subtrees, each fragment takes some number of trees, or none.
+pub has_deep_answer : (which : GrammarFragment) (trees : Forest) → (count : Option ℕ) × ReachesDeep which trees count
+has_deep_answer which trees = has_deep rust_rules good (start (name_of which)) trees
+
+-- It has no other answer.
+pub one_deep_answer : (which : GrammarFragment) (trees : Forest) (count other : Option ℕ) → ReachesDeep which trees count → ReachesDeep which trees other → count ≡ other
+one_deep_answer which trees count other h k = one_deep rust_rules (start (name_of which)) trees count other h k
+
+-- What it takes then it also takes without a look into subtrees.
+pub shallow : (which : GrammarFragment) (trees : Forest) (n : ℕ) → ReachesDeep which trees (Some n) → Reaches which trees (Some n)
+shallow which trees n h =
+    subst (λ count. Reaches which trees (Some count)) (sym h.2)
+    (reached which trees (plain h.0) (parses_plain rust_rules (start (name_of which)) (first_position trees) (Some h.0) h.1))
+
+-- So it takes as many trees as without, or none.
+pub deep_is_shallow : (which : GrammarFragment) (trees : Forest) (deep far : Option ℕ) → ReachesDeep which trees deep → Reaches which trees far → (deep ≡ far) ⊎ (deep ≡ None)
+deep_is_shallow which trees None far h k = inr refl
+deep_is_shallow which trees (Some n) far h k = inl (one_answer which trees (Some n) far (shallow which trees n h) k)
+
+-- It takes at least one tree, and none at the end.
+pub takes_a_tree_deep : (which : GrammarFragment) (trees : Forest) (n : ℕ) → ReachesDeep which trees (Some n) → (less : ℕ) × (n ≡ suc less)
+takes_a_tree_deep which trees n h = takes_a_tree which trees n (shallow which trees n h)
+
+pub takes_no_end_deep : (which : GrammarFragment) (n : ℕ) → ReachesDeep which end (Some n) → ⊥
+takes_no_end_deep which n h = takes_no_end which n (shallow which end n h)
+
+-- Trees are the contents of a block, or they are not.
+pub has_block_answer : (trees : Forest) → (answer : Bool) × IsBlock trees answer
+has_block_answer trees = elim (judged rust_rules good (whole (start statements) trees)) [
+  | inl it ↦ (true, it)
+  | inr it ↦ (false, it)
+]
+
+-- Never both.
+pub one_block_answer : (trees : Forest) (one other : Bool) → IsBlock trees one → IsBlock trees other → one ≡ other
+one_block_answer trees true true h k = refl
+one_block_answer trees true false h k = absurd (apart rust_rules (whole (start statements) trees) h.0 k.0 h.1 k.1)
+one_block_answer trees false true h k = absurd (apart rust_rules (whole (start statements) trees) k.0 h.0 k.1 h.1)
+one_block_answer trees false false h k = refl

@@ -1,11 +1,13 @@
 pub mod Agreeing
+pub mod Ahead
 pub mod AnyUnit
 pub mod BeginsTold
 pub mod Behind
 pub mod Bits
 pub mod Closing
+pub mod Decoding
+pub mod DeepReading
 pub mod Deriving
-pub mod Draining
 pub mod EachWord
 pub mod FragmentAnswers
 pub mod KindsTold
@@ -26,6 +28,7 @@ pub mod RustLaid
 pub mod Shrinking
 pub mod Stepping
 pub mod Steps
+pub mod Taking
 pub mod Total
 pub mod Toy
 pub mod ToyTries

@@ -3,6 +3,7 @@ use Rattle.std.proofs.Common.{◌≡◌, inl, inr, ◌≤◌, ℕ, suc, zero, Li
 use Rattle.std.proofs.lemmas.List.{length-take-le}
 use Rattle.std.proofs.Math.Seq.{take-length}
 use Rattle.std.specs.Prelude.{◌⊎◌}
+use Rattle.tt.specs.Forest.{Forest}
 use Rattle.mbe_grammar.specs.declared.entry.Entry.{Entry}
 use Rattle.mbe_grammar.specs.declared.machine.Frame.{Frame}
 use Rattle.mbe_grammar.specs.declared.machine.Frame.TheVariants as frame
@@ -35,17 +36,17 @@ more_room n m (frame.InChoice other kept ∷ older) le h = (omega (arith, le, h.
 more_room n m (frame.InRepetition at kept ∷ older) le h = (omega (arith, le, h.0), h.1)
 more_room n m (frame.InNot kept ∷ older) le h = (omega (arith, le, h.0), h.1)
 
-pub frames_kept : (old new : List Entry) (frames : List Frame) → Extends old new → HasRoom (length old) frames → frames_of new frames ≡ frames_of old frames
-frames_kept old new [] e h = refl
-frames_kept old new (frame.InName since ∷ older) e h =
-    ap (λ (log : List Entry). machine.in_name since ∷ frames_of log older) (take_part since old new h.0 e)
-frames_kept old new (frame.InSequence second ∷ older) e h = ap (λ t. machine.in_sequence second ∷ t) (frames_kept old new older e h.1)
-frames_kept old new (frame.InChoice other kept ∷ older) e h =
-    ap (λ (log : List Entry). machine.in_choice other (position_of log kept.place) ∷ frames_of log older) (take_part kept.taken old new h.0 e)
-frames_kept old new (frame.InRepetition at kept ∷ older) e h =
-    ap (λ (log : List Entry). machine.in_repetition at (position_of log kept.place) ∷ frames_of log older) (take_part kept.taken old new h.0 e)
-frames_kept old new (frame.InNot kept ∷ older) e h =
-    ap (λ (log : List Entry). machine.in_not (position_of log kept.place) ∷ frames_of log older) (take_part kept.taken old new h.0 e)
+pub frames_kept : (trees : Forest) (old new : List Entry) (frames : List Frame) → Extends old new → HasRoom (length old) frames → frames_of trees new frames ≡ frames_of trees old frames
+frames_kept trees old new [] e h = refl
+frames_kept trees old new (frame.InName since ∷ older) e h =
+    ap (λ (log : List Entry). machine.in_name since ∷ frames_of trees log older) (take_part since old new h.0 e)
+frames_kept trees old new (frame.InSequence second ∷ older) e h = ap (λ t. machine.in_sequence second ∷ t) (frames_kept trees old new older e h.1)
+frames_kept trees old new (frame.InChoice other kept ∷ older) e h =
+    ap (λ (log : List Entry). machine.in_choice other (position_of trees log kept.passed) ∷ frames_of trees log older) (take_part kept.taken old new h.0 e)
+frames_kept trees old new (frame.InRepetition at kept ∷ older) e h =
+    ap (λ (log : List Entry). machine.in_repetition at (position_of trees log kept.passed) ∷ frames_of trees log older) (take_part kept.taken old new h.0 e)
+frames_kept trees old new (frame.InNot kept ∷ older) e h =
+    ap (λ (log : List Entry). machine.in_not (position_of trees log kept.passed) ∷ frames_of trees log older) (take_part kept.taken old new h.0 e)
 
 -- a frame begins to wait: the log has now the length that it has with the frame, or it had that length before the step
 abbrev pub IsNew : (old new : List Entry) (it : Frame) → Type 0
@@ -82,9 +83,9 @@ left_length log (frame.InRepetition at kept) le = length-take-le kept.taken log 
 left_length log (frame.InNot kept) le = length-take-le kept.taken log le
 
 -- After a frame is added, the others keep their meaning.
-pub frames_more : (old new : List Entry) (it : Frame) (frames : List Frame) → Extends old new → IsNew old new it → HasRoom (length old) frames
-    → frames_of new (it ∷ frames) ≡ frame_of new it ∷ frames_of old frames
-frames_more old new it frames e w h = ap (λ t. frame_of new it ∷ t) (frames_kept old (left_in new it) frames (left_extends old new it e w) h)
+pub frames_more : (trees : Forest) (old new : List Entry) (it : Frame) (frames : List Frame) → Extends old new → IsNew old new it → HasRoom (length old) frames
+    → frames_of trees new (it ∷ frames) ≡ frame_of trees new it ∷ frames_of trees old frames
+frames_more trees old new it frames e w h = ap (λ t. frame_of trees new it ∷ t) (frames_kept trees old (left_in new it) frames (left_extends old new it e w) h)
 
 pub room_same : (old new : List Entry) (frames : List Frame) → Extends old new → HasRoom (length old) frames → HasRoom (length new) frames
 room_same old new frames e h = more_room (length old) (length new) frames (longer old new e) h
@@ -96,10 +97,10 @@ room_more old new it frames e w h =
     (fits, subst (λ n. HasRoom n frames) (left_length new it fits) (room_same old (left_in new it) frames (left_extends old new it e w) h))
 
 -- After a frame is removed, the others keep their meaning.
-pub frames_less : (log new : List Entry) (it : Frame) (frames : List Frame) → Extends (left_in log it) new → HasRoom (length log) (it ∷ frames)
-    → frames_of new frames ≡ frames_of (left_in log it) frames
-frames_less log new it frames e h =
-    frames_kept (left_in log it) new frames e (subst (λ n. HasRoom n frames) (sym (left_length log it h.0)) h.1)
+pub frames_less : (trees : Forest) (log new : List Entry) (it : Frame) (frames : List Frame) → Extends (left_in log it) new → HasRoom (length log) (it ∷ frames)
+    → frames_of trees new frames ≡ frames_of trees (left_in log it) frames
+frames_less trees log new it frames e h =
+    frames_kept trees (left_in log it) new frames e (subst (λ n. HasRoom n frames) (sym (left_length log it h.0)) h.1)
 
 pub room_less : (log new : List Entry) (it : Frame) (frames : List Frame) → Extends (left_in log it) new → HasRoom (length log) (it ∷ frames)
     → HasRoom (length new) frames

@@ -7,7 +7,7 @@ use Rattle.tt.specs.Types.Span.{Span}
 use Rattle.mbe_grammar.specs.declared.event.Event.{Event}
 use Rattle.mbe_grammar.specs.declared.event.Event.TheVariants as event
 use Rattle.mbe_grammar.specs.declared.rule.Rule.{Rule}
-use Rattle.mbe_grammar.specs.Derivations.{Deriving, Spread, DerivesIn, Derives, Place, inside, StopsAt, RefusesIn, Refuses}
+use Rattle.mbe_grammar.specs.Derivations.{Deriving, Spread, DerivesIn, Derives, Place, whole, inside, StopsAt, RefusesIn, Refuses, TakesDeep}
 use Rattle.mbe_grammar.specs.Good.{IsGood}
 use Rattle.mbe_grammar.specs.Parses.{Parses}
 use Rattle.mbe_grammar.specs.Positions.{Entry, Position, enters, leaves, takes_unit, holds, first_position}
@@ -47,19 +47,19 @@ module _ (rules : List Rule) where
   unfolding Derives
   once name trees events others h k = once_in h.0 k.0 name trees events others h.1 k.1
 
-  abbrev Apart : (n m : ℕ) → Type 0
-  Apart n m = (own : Place) (events : List Event) (at : Place) → DerivesIn rules n own.name own.trees events → RefusesIn rules m own at → ⊥
+  abbrev Apart : (P : Deriving) → (Q : (own at : Place) → Type 0) → Type 0
+  Apart P Q = (own : Place) (events : List Event) (at : Place) → P own.name own.trees events → Q own at → ⊥
 
-  no_stop : (n m : ℕ) → Apart n m → (stops : Type 0) → (stops → ⊥) → (own at : Place) (log : List Entry) (events : List Event) → Spread (DerivesIn rules n) log events
-      → StopsAt (Derives rules) (RefusesIn rules m) stops own log at → ⊥
-  no_stop n m f stops never own at [] events h s = never s.0
-  no_stop n m f stops never own at (enters name ∷ log) events h s = no_stop n m f stops never own at log h.0 h.1 s
-  no_stop n m f stops never own at (leaves ∷ log) events h s = no_stop n m f stops never own at log h.0 h.1 s
-  no_stop n m f stops never own at (takes_unit count ∷ log) events h s = no_stop n m f stops never own at log h.0 h.1 s
-  no_stop n m f stops never own at (holds trees close name ∷ log) events h (inl s) = f (inside trees close name) h.0 at h.2 s
-  no_stop n m f stops never own at (holds trees close name ∷ log) events h (inr s) = no_stop n m f stops never own at log h.1 h.3 s.2
+  no_stop : (P : Deriving) (Q : (own at : Place) → Type 0) → Apart P Q → (stops : Type 0) → (stops → ⊥) → (own at : Place) (log : List Entry) (events : List Event)
+      → Spread P log events → StopsAt (Derives rules) Q stops own log at → ⊥
+  no_stop P Q f stops never own at [] events h s = never s.0
+  no_stop P Q f stops never own at (enters name ∷ log) events h s = no_stop P Q f stops never own at log h.0 h.1 s
+  no_stop P Q f stops never own at (leaves ∷ log) events h s = no_stop P Q f stops never own at log h.0 h.1 s
+  no_stop P Q f stops never own at (takes_unit count ∷ log) events h s = no_stop P Q f stops never own at log h.0 h.1 s
+  no_stop P Q f stops never own at (holds trees close name ∷ log) events h (inl s) = f (inside trees close name) h.0 at h.2 s
+  no_stop P Q f stops never own at (holds trees close name ∷ log) events h (inr s) = no_stop P Q f stops never own at log h.1 h.3 s.2
 
-  apart_in : (n m : ℕ) → Apart n m
+  apart_in : (n m : ℕ) → Apart (DerivesIn rules n) (RefusesIn rules m)
   apart_in zero m own events at h r = absurd h
   apart_in (suc n) zero own events at h r = absurd r
   apart_in (suc n) (suc m) own events at h (inl r) = absurd (cc (one_answer own.name (first_position own.trees) (Some h.0) None h.1 r.0))
@@ -67,12 +67,32 @@ module _ (rules : List Rule) where
       let same : r.0 ≡ h.0 = one_place own.name (first_position own.trees) r.0 h.0 r.1 h.1 in
       let log : h.0.log ≡ r.0.log = sym (ap (λ (p : Position). p.log) same) in
       let rest : r.0.rest ≡ end = ap (λ (p : Position). p.rest) same ∙ h.2 in
-      no_stop n m (apart_in n m) (r.0.rest ≡ end → ⊥) (λ never. never rest) own at r.0.log events (subst (λ t. Spread (DerivesIn rules n) t events) log h.3) r.2
+      no_stop (DerivesIn rules n) (RefusesIn rules m) (apart_in n m) (r.0.rest ≡ end → ⊥) (λ never. never rest) own at r.0.log events (subst (λ t. Spread (DerivesIn rules n) t events) log h.3) r.2
 
   -- Trees with a derivation are not refused.
-  pub apart : (own : Place) (events : List Event) (at : Place) → Derives rules own.name own.trees events → Refuses rules own at → ⊥
+  pub apart : Apart (Derives rules) (Refuses rules)
   unfolding Derives Refuses
   apart own events at h r = apart_in h.0 r.0 own events at h.1 r.1
+
+  same_place : (name : ℕ) (trees : Forest) (to other : Position) → Parses true rules name (first_position trees) (Some to) → Parses true rules name (first_position trees) (Some other)
+      → other.log ≡ to.log
+  same_place name trees to other h k = ap (λ (p : Position). p.log) (one_place name (first_position trees) other to k h)
+
+  -- Trees that an expression takes with their contents are not refused.
+  never_deep : (name : ℕ) (trees : Forest) (n : ℕ) → TakesDeep rules name trees (Some n) → TakesDeep rules name trees None → ⊥
+  never_deep name trees n h (inl k) = absurd (cc (one_answer name (first_position trees) (Some h.0) None h.1 k))
+  never_deep name trees n h (inr k) =
+      let log = same_place name trees k.0 h.0 k.1 h.1 in
+      no_stop (Derives rules) (Refuses rules) apart ⊥ (λ never. never) (whole name trees) k.2 k.0.log h.3 (subst (λ t. Spread (Derives rules) t h.3) log h.4) k.3
+
+  -- An expression takes one number of trees with their contents.
+  pub one_deep : (name : ℕ) (trees : Forest) (count other : Option ℕ) → TakesDeep rules name trees count → TakesDeep rules name trees other → count ≡ other
+  one_deep name trees None None h k = refl
+  one_deep name trees None (Some m) h k = absurd (never_deep name trees m k h)
+  one_deep name trees (Some n) None h k = absurd (never_deep name trees n h k)
+  one_deep name trees (Some n) (Some m) h k =
+      let same = ap (λ (p : Position). p.passed) (one_place name (first_position trees) h.0 k.0 h.1 k.1) in
+      ap Some (h.2 ∙ same ∙ sym k.2)
 
   refused_in : (n : ℕ) (own : Place) (events : List Event) (at : Place) → Derives rules own.name own.trees events → RefusesIn rules n own at → ⊥
   unfolding Refuses
@@ -164,3 +184,17 @@ module _ (rules : List Rule) where
     -- Trees have a derivation, or are refused somewhere.
     pub judged : (own : Place) → Judged own
     judged own = judged_in (suc (size own.trees)) own (omega arith)
+
+    deep_by : (name : ℕ) (trees : Forest) (to : Position) → Parses true rules name (first_position trees) (Some to) → JudgedLog ⊥ (whole name trees) to.log
+        → (count : Option ℕ) × TakesDeep rules name trees count
+    deep_by name trees to p (inl k) = (Some to.passed, (to, p, refl, k.0, k.1))
+    deep_by name trees to p (inr k) = (None, inr (to, p, k.0, k.1))
+
+    deep_answer : (name : ℕ) (trees : Forest) (answer : Option Position) → Parses true rules name (first_position trees) answer → (count : Option ℕ) × TakesDeep rules name trees count
+    deep_answer name trees None p = (None, inl p)
+    deep_answer name trees (Some to) p =
+        deep_by name trees to p (judged_log ⊥ (whole name trees) (log_weight to.log) (λ it less. judged it) to.log (omega arith))
+
+    -- An expression takes some number of trees with their contents, or none.
+    pub has_deep : (name : ℕ) (trees : Forest) → (count : Option ℕ) × TakesDeep rules name trees count
+    has_deep name trees = let it = answer_of name trees in deep_answer name trees it.0 it.1

@@ -1,12 +1,13 @@
 -- The machine's answer by Rust's table is how far a fragment reaches.
-use Rattle.std.proofs.Common.{◌≡◌, ℕ, zero, suc, Bool, false, List, Some, None, refl, sym, subst, ◌∙◌}
-use Rattle.std.specs.Prelude.{Option}
+use Rattle.std.proofs.Common.{ℕ, zero, suc, false, List, Some, None, refl, sym, subst, ◌∙◌}
+use Rattle.std.specs.Prelude.{Option, option_map}
 use Rattle.tt.specs.Forest.{Forest}
-use Rattle.mbe_grammar.specs.declared.rule.Rule.{Rule}
 use Rattle.mbe_grammar.specs.Table.{rust_rules}
 use Rattle.mbe_grammar.specs.Expressions.{name, AnswersIn, Answers}
 use Rattle.mbe_grammar.specs.Fragments.{name_of, Reaches}
 use Rattle.mbe_grammar.specs.Names.{start}
+use Rattle.mbe_grammar.specs.declared.entry.Entry.{Entry}
+use Rattle.mbe_grammar.specs.Places.{position_of}
 use Rattle.mbe_grammar.specs.Parses.{Parses}
 use Rattle.mbe_grammar.specs.Positions.{Position, first_position}
 use Rattle.mbe_grammar.specs.Rust.{stands}
@@ -38,9 +39,8 @@ reached which trees to h =
 pub failed : (which : GrammarFragment) (trees : Forest) → Parses false rust_rules (start (name_of which)) (first_position trees) None → Reaches which trees None
 failed which trees h = answered which trees None h
 
--- An answer carries over if everything is equal.
-pub carried : (noting : Bool) (rules others : List Rule) (at there : ℕ) (from place : Position) (answer found : Option Position) → rules ≡ others → at ≡ there → from ≡ place
-    → answer ≡ found → Parses noting rules at from answer → Parses noting others there place found
-carried noting rules others at there from place answer found r a f g h =
-    subst (λ x. Parses noting x there place found) r
-    (subst (λ x. Parses noting rules x place found) a (subst (λ x. Parses noting rules at x found) f (subst (λ x. Parses noting rules at from x) g h)))
+-- So it is with any answer.
+pub reached_some : (which : GrammarFragment) (trees : Forest) (log : List Entry) (count : Option ℕ)
+    → Parses false rust_rules (start (name_of which)) (first_position trees) (option_map (position_of trees log) count) → Reaches which trees count
+reached_some which trees log None h = failed which trees h
+reached_some which trees log (Some n) h = reached which trees (position_of trees log n) h

@@ -136,7 +136,7 @@ unit_fits (leaf it rest) some =
 unit_fits (node delimiter children rest) some = omega arith
 
 -- What passes a test is not the end.
-passing_some : (it : Test) (trees : Forest) → passes it (first_unit trees) ≡ true → trees ≡ end → ⊥
+pub passing_some : (it : Test) (trees : Forest) → passes it (first_unit trees) ≡ true → trees ≡ end → ⊥
 passing_some it end e same = absurd (cc e)
 passing_some it (leaf other rest) e same = absurd (cc same)
 passing_some it (node delimiter children rest) e same = absurd (cc same)

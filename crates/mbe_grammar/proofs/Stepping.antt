@@ -2,6 +2,7 @@
 use Rattle.std.proofs.Common.{◌≡◌, inl, inr, ℕ, true, false, List, [], ◌∷◌, ◌++◌, length, map, reverse, refl, sym, subst, ap, ◌∙◌}
 use Rattle.std.proofs.lemmas.List.{length-map, reverse-append}
 use Rattle.std.specs.Prelude.{◌⊎◌, Option, Bool, None, Some, option_map, slice_get}
+use Rattle.tt.specs.Forest.{Forest}
 use Rattle.mbe_grammar.specs.declared.entry.Entry.{Entry}
 use Rattle.mbe_grammar.specs.declared.known.Glance.{Glance}
 use Rattle.mbe_grammar.specs.declared.known.Glance.TheVariants as glance
@@ -11,7 +12,6 @@ use Rattle.mbe_grammar.specs.declared.machine.State.{State}
 use Rattle.mbe_grammar.specs.declared.machine.State.TheVariants as state
 use Rattle.mbe_grammar.specs.declared.machine.Waiting.{Waiting}
 use Rattle.mbe_grammar.specs.declared.machine.Waiting.TheVariants as waiting
-use Rattle.mbe_grammar.specs.declared.place.Place.{Place}
 use Rattle.mbe_grammar.specs.declared.rule.Rule.{Rule}
 use Rattle.mbe_grammar.specs.declared.rule.Rule.TheVariants as rule
 use Rattle.mbe_grammar.specs.Machine as machine
@@ -25,24 +25,24 @@ pub pushed : (frames : List Frame) (it : Frame) → reverse (frames ++ it ∷ []
 pushed frames it = reverse-append frames (it ∷ [])
 
 module _ (noting : Bool) (looks : ℕ → Position → Glance) (rules : List Rule) where
-  pub reads : (old new : List Entry) (here there : Place) (now : State) (at : ℕ) → now ≡ state.Reading at → (it : Begun) (frames after : List Frame)
-      → begun_at (position_of new there) it ≡ begun noting looks rules at (position_of old here)
-      → frames_of new after ≡ awaited (option_map (waiting_at (position_of new there)) it.waiting) (frames_of old frames)
-      → IsStep noting looks rules (state_at (position_of old here) now) (frames_of old frames) (machine.goes (state_at (position_of new there) it.state)) (frames_of new after)
-  reads old new here there now at is it frames after e then =
-      subst (λ s. IsStep noting looks rules (state_at (position_of old here) s) (frames_of old frames) (machine.goes (state_at (position_of new there) it.state)) (frames_of new after)) (sym is) (
+  pub reads : (trees : Forest) (old new : List Entry) (here there : ℕ) (now : State) (at : ℕ) → now ≡ state.Reading at → (it : Begun) (frames after : List Frame)
+      → begun_at (position_of trees new there) it ≡ begun noting looks rules at (position_of trees old here)
+      → frames_of trees new after ≡ awaited (option_map (waiting_at (position_of trees new there)) it.waiting) (frames_of trees old frames)
+      → IsStep noting looks rules (state_at (position_of trees old here) now) (frames_of trees old frames) (machine.goes (state_at (position_of trees new there) it.state)) (frames_of trees new after)
+  reads trees old new here there now at is it frames after e then =
+      subst (λ s. IsStep noting looks rules (state_at (position_of trees old here) s) (frames_of trees old frames) (machine.goes (state_at (position_of trees new there) it.state)) (frames_of trees new after)) (sym is) (
         ap (λ (b : machine.Begun). machine.goes b.state) e,
-        then ∙ ap (λ (b : machine.Begun). awaited b.waiting (frames_of old frames)) e,
+        then ∙ ap (λ (b : machine.Begun). awaited b.waiting (frames_of trees old frames)) e,
       )
 
-  pub pops : (old new : List Entry) (here there : Place) (now : State) (ends : Bool) → now ≡ state.Answered ends → (it : Frame) (before frames : List Frame) → before ≡ it ∷ frames
-      → (next : State) → state_at (position_of new there) next ≡ resumed (frame_of old it) (answer_at (position_of old here) ends) → Extends (left_in old it) new → HasRoom (length old) before
-      → IsStep noting looks rules (state_at (position_of old here) now) (frames_of old before) (machine.goes (state_at (position_of new there) next)) (frames_of new frames)
-  pops old new here there now ends is it before frames was next e x h =
-      subst (λ s. IsStep noting looks rules (state_at (position_of old here) s) (frames_of old before) (machine.goes (state_at (position_of new there) next)) (frames_of new frames)) (sym is)
-      (subst (λ b. IsStep noting looks rules (machine.answered (answer_at (position_of old here) ends)) (frames_of old b) (machine.goes (state_at (position_of new there) next)) (frames_of new frames)) (sym was) (
+  pub pops : (trees : Forest) (old new : List Entry) (here there : ℕ) (now : State) (ends : Bool) → now ≡ state.Answered ends → (it : Frame) (before frames : List Frame) → before ≡ it ∷ frames
+      → (next : State) → state_at (position_of trees new there) next ≡ resumed (frame_of trees old it) (answer_at (position_of trees old here) ends) → Extends (left_in old it) new → HasRoom (length old) before
+      → IsStep noting looks rules (state_at (position_of trees old here) now) (frames_of trees old before) (machine.goes (state_at (position_of trees new there) next)) (frames_of trees new frames)
+  pops trees old new here there now ends is it before frames was next e x h =
+      subst (λ s. IsStep noting looks rules (state_at (position_of trees old here) s) (frames_of trees old before) (machine.goes (state_at (position_of trees new there) next)) (frames_of trees new frames)) (sym is)
+      (subst (λ b. IsStep noting looks rules (machine.answered (answer_at (position_of trees old here) ends)) (frames_of trees old b) (machine.goes (state_at (position_of trees new there) next)) (frames_of trees new frames)) (sym was) (
         ap machine.goes e,
-        frames_less old new it frames x (subst (HasRoom (length old)) was h),
+        frames_less trees old new it frames x (subst (HasRoom (length old)) was h),
       ))
 
 -- a name waits with this length of the log
@@ -124,29 +124,29 @@ own_room old new here there (waiting.InRepetition at) e = inr refl
 own_room old new here there waiting.InNot e = inr refl
 
 -- So a frame that begins to wait is new.
-pub is_new : (noting : Bool) (looks : ℕ → Position → Glance) (rules : List Rule) (old new : List Entry) (here there : Place) (at : ℕ) (starts : Begun) (it : Waiting) (frame : Frame)
-    → begun_at (position_of new there) starts ≡ machine.begun noting looks rules at (position_of old here) → starts.waiting ≡ Some it
+pub is_new : (trees : Forest) (noting : Bool) (looks : ℕ → Position → Glance) (rules : List Rule) (old new : List Entry) (here there : ℕ) (at : ℕ) (starts : Begun) (it : Waiting) (frame : Frame)
+    → begun_at (position_of trees new there) starts ≡ machine.begun noting looks rules at (position_of trees old here) → starts.waiting ≡ Some it
     → room_of (length new) frame ≡ waiting_room (length new) it → IsNew old new frame
-is_new noting looks rules old new here there at starts it frame e is room =
-    let waits : option_map (waiting_at (position_of new there)) starts.waiting ≡ (machine.begun noting looks rules at (position_of old here)).waiting = ap (λ (b : machine.Begun). b.waiting) e in
-    let some : Some (waiting_at (position_of new there) it) ≡ (machine.begun noting looks rules at (position_of old here)).waiting = sym (ap (option_map (waiting_at (position_of new there))) is) ∙ waits in
-    let own : OwnName (length (map entry old)) (Some (waiting_at (position_of new there) it)) = subst (λ w. OwnName (length (map entry old)) w) (sym some) (owns noting looks rules (position_of old here) at) in
+is_new trees noting looks rules old new here there at starts it frame e is room =
+    let waits : option_map (waiting_at (position_of trees new there)) starts.waiting ≡ (machine.begun noting looks rules at (position_of trees old here)).waiting = ap (λ (b : machine.Begun). b.waiting) e in
+    let some : Some (waiting_at (position_of trees new there) it) ≡ (machine.begun noting looks rules at (position_of trees old here)).waiting = sym (ap (option_map (waiting_at (position_of trees new there))) is) ∙ waits in
+    let own : OwnName (length (map entry old)) (Some (waiting_at (position_of trees new there) it)) = subst (λ w. OwnName (length (map entry old)) w) (sym some) (owns noting looks rules (position_of trees old here) at) in
     subst (λ n. (n ≡ length old) ⊎ (n ≡ length new)) (sym room)
-    (own_room old new (position_of old here) (position_of new there) it (subst (λ n. OwnName n (Some (waiting_at (position_of new there) it))) (length-map old entry) own))
+    (own_room old new (position_of trees old here) (position_of trees new there) it (subst (λ n. OwnName n (Some (waiting_at (position_of trees new there) it))) (length-map old entry) own))
 
 -- Nothing waits more than before.
-pub waits_none : (old new : List Entry) (there : Position) (waiting : Option Waiting) (frames : List Frame) → waiting ≡ None → Extends old new → HasRoom (length old) frames
-    → frames_of new frames ≡ awaited (option_map (waiting_at there) waiting) (frames_of old frames)
-waits_none old new there waiting frames is x h =
-    frames_kept old new frames x h ∙ ap (λ w. awaited (option_map (waiting_at there) w) (frames_of old frames)) (sym is)
+pub waits_none : (trees : Forest) (old new : List Entry) (there : Position) (waiting : Option Waiting) (frames : List Frame) → waiting ≡ None → Extends old new → HasRoom (length old) frames
+    → frames_of trees new frames ≡ awaited (option_map (waiting_at there) waiting) (frames_of trees old frames)
+waits_none trees old new there waiting frames is x h =
+    frames_kept trees old new frames x h ∙ ap (λ w. awaited (option_map (waiting_at there) w) (frames_of trees old frames)) (sym is)
 
 -- A frame waits more than before.
-pub waits_some : (old new : List Entry) (there : Position) (waiting : Option Waiting) (it : Waiting) (frame : Frame) (frames after : List Frame) → waiting ≡ Some it → after ≡ frame ∷ frames
-    → frame_of new frame ≡ waiting_at there it → IsNew old new frame → Extends old new → HasRoom (length old) frames
-    → frames_of new after ≡ awaited (option_map (waiting_at there) waiting) (frames_of old frames)
-waits_some old new there waiting it frame frames after is more same room x h =
-    ap (frames_of new) more ∙ frames_more old new frame frames x room h ∙ ap (λ (f : machine.Frame). f ∷ frames_of old frames) same
-    ∙ ap (λ w. awaited (option_map (waiting_at there) w) (frames_of old frames)) (sym is)
+pub waits_some : (trees : Forest) (old new : List Entry) (there : Position) (waiting : Option Waiting) (it : Waiting) (frame : Frame) (frames after : List Frame) → waiting ≡ Some it → after ≡ frame ∷ frames
+    → frame_of trees new frame ≡ waiting_at there it → IsNew old new frame → Extends old new → HasRoom (length old) frames
+    → frames_of trees new after ≡ awaited (option_map (waiting_at there) waiting) (frames_of trees old frames)
+waits_some trees old new there waiting it frame frames after is more same room x h =
+    ap (frames_of trees new) more ∙ frames_more trees old new frame frames x room h ∙ ap (λ (f : machine.Frame). f ∷ frames_of trees old frames) same
+    ∙ ap (λ w. awaited (option_map (waiting_at there) w) (frames_of trees old frames)) (sym is)
 
 pub room_pushed : (old new : List Entry) (it : Frame) (frames after : List Frame) → after ≡ it ∷ frames → IsNew old new it → Extends old new → HasRoom (length old) frames
     → HasRoom (length new) after

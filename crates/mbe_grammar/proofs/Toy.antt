@@ -7,17 +7,18 @@ use Rattle.mbe_grammar.specs.declared.event.Event.TheVariants as event
 use Rattle.mbe_grammar.specs.declared.rule.Rule.{Rule}
 use Rattle.mbe_grammar.specs.declared.rule.Rule.TheVariants as rule
 use Rattle.mbe_grammar.specs.declared.test.Test.TheVariants as test
-use Rattle.mbe_grammar.specs.Derivations.{DerivesIn, RefusesIn, inside}
+use Rattle.mbe_grammar.specs.Derivations.{DerivesIn, Derives, RefusesIn, Refuses, TakesDeep, inside}
 use Rattle.mbe_grammar.specs.Derivations.{whole as whole_of}
 use Rattle.mbe_grammar.specs.Parses.{ParsesIn, Parses}
-use Rattle.mbe_grammar.specs.Positions.{Entry, Position, enters, leaves, holds, first_position}
+use Rattle.mbe_grammar.specs.Positions.{Entry, Position, enters, leaves, takes_unit, holds, first_position}
 
 -- 0: the name of blocks; 1: blocks; 2: a block in braces, which contains blocks; 3: two blocks; 4: two blocks, or else one; 5: no block comes
--- next; 6: no block comes next, or one; 7: the name of a block that contains 9; 8: that block; 9: the name of what begins with no block
+-- next; 6: no block comes next, or one; 7: the name of a block that contains 9; 8: that block; 9: the name of what begins with no block; 10: a
+-- subtree with any contents; 11: its name; 12: the name of nothing; 13: nothing
 abbrev toy : List Rule
 toy =
     rule.Name 1 ∷ rule.ZeroOrMore 2 ∷ rule.Unit (test.Holding delimiter.Brace 0) ∷ rule.Sequence 2 2 ∷ rule.Choice 3 2 ∷ rule.Not 2 ∷ rule.Choice 5 2
-    ∷ rule.Name 8 ∷ rule.Unit (test.Holding delimiter.Brace 9) ∷ rule.Name 5 ∷ []
+    ∷ rule.Name 8 ∷ rule.Unit (test.Holding delimiter.Brace 9) ∷ rule.Name 5 ∷ rule.Unit test.Delimited ∷ rule.Name 10 ∷ rule.Name 13 ∷ rule.Empty ∷ []
 
 module _ (span : Span) where
   abbrev block : Forest → Forest → Forest
@@ -86,4 +87,48 @@ module _ (span : Span) where
     behind_one (enters 7 ∷ holds (block end end) span 9 ∷ leaves ∷ []),
     (2, (Some (behind_one (enters 7 ∷ holds (block end end) span 9 ∷ [])), refl, refl)),
     inl (inl ((3, (None, inr (record { passed = 1; rest = end; log = enters 9 ∷ holds end span 0 ∷ [] }, refl, refl), refl)), refl)),
+  )
+
+  -- A subtree with any contents is a unit.
+  any_contents : DerivesIn toy 1 11 nested (event.Enter 11 ∷ event.Token 1 ∷ event.Leave ∷ [])
+  unfolding Parses
+  any_contents = (
+    behind_one (enters 11 ∷ takes_unit 1 ∷ leaves ∷ []),
+    (2, (Some (behind_one (enters 11 ∷ takes_unit 1 ∷ [])), refl, refl)),
+    refl,
+    (event.Token 1 ∷ event.Leave ∷ [], (event.Leave ∷ [], ([], refl, refl), refl), refl),
+  )
+
+  -- An expression that stops before the end is refused at its own place.
+  stopped : RefusesIn toy 1 (whole_of 12 nested) (whole_of 12 nested)
+  unfolding Parses
+  stopped = inr (
+    first_position nested,
+    (2, (Some (record { passed = 0; rest = nested; log = enters 12 ∷ [] }), refl, refl)),
+    (λ e. absurd (cc e), refl),
+  )
+
+  -- A block that contains a block is taken with its contents.
+  taken_deep : TakesDeep toy 0 nested (Some 1)
+  unfolding Parses Derives
+  taken_deep = (
+    after (block end end),
+    (4, (Some (within (block end end)), inr (within (block end end), refl, inl (refl, refl)), refl)),
+    refl,
+    event.Enter 0 ∷ event.Open ∷ event.Enter 0 ∷ event.Open ∷ event.Close ∷ event.Leave ∷ event.Close ∷ event.Leave ∷ [],
+    (
+      event.Open ∷ event.Enter 0 ∷ event.Open ∷ event.Close ∷ event.Leave ∷ event.Close ∷ event.Leave ∷ [],
+      (event.Enter 0 ∷ event.Open ∷ event.Close ∷ event.Leave ∷ [], event.Leave ∷ [], (2, one), ([], refl, refl), refl),
+      refl,
+    ),
+  )
+
+  -- A block that must contain no block is not.
+  not_deep : TakesDeep toy 7 nested None
+  unfolding Parses Refuses
+  not_deep = inr (
+    behind_one (enters 7 ∷ holds (block end end) span 9 ∷ leaves ∷ []),
+    (2, (Some (behind_one (enters 7 ∷ holds (block end end) span 9 ∷ [])), refl, refl)),
+    inside (block end end) span 9,
+    inl (1, inl ((3, (None, inr (record { passed = 1; rest = end; log = enters 9 ∷ holds end span 0 ∷ [] }, refl, refl), refl)), refl)),
   )

@@ -8,15 +8,18 @@ use Rattle.mbe_grammar.specs.declared.machine.State.{State}
 use Rattle.mbe_grammar.specs.declared.machine.State.TheVariants as state
 use Rattle.mbe_grammar.specs.declared.rule.Rule.{Rule}
 use Rattle.mbe_grammar.specs.declared.rule.Rule.TheVariants as rule
+use Rattle.tt.specs.Forest.{Forest}
 use Rattle.mbe_grammar.specs.declared.entry.Entry.{Entry}
 use Rattle.mbe_grammar.specs.declared.trying.Wanted.{Wanted}
 use Rattle.mbe_grammar.specs.Known.{glance_at}
 use Rattle.mbe_grammar.specs.Machine.{awaited, begun_behind, begun_sequence_open, begun_open, begun, IsStep}
 use Rattle.mbe_grammar.specs.Machine as machine
+use Rattle.mbe_grammar.specs.Parses.{Parses}
 use Rattle.mbe_grammar.specs.Positions.{Position, takes}
 use Rattle.mbe_grammar.specs.Running.{state_at, left_in, frames_of}
-use Rattle.mbe_grammar.specs.Tried.{tried_by, tried_now, negations, more_negations, fewer_negations, negations_after, Counts, IsShort, IsNoted}
+use Rattle.mbe_grammar.specs.Tried.{tried_by, tried_now, negations, more_negations, fewer_negations, negations_after, Counts, IsShort, IsNoted, IsStopped}
 use Rattle.mbe_grammar.specs.Trying.{Tries, IsOneOf, IsAscending, IsListed, IsFarthest}
+use Rattle.mbe_grammar.proofs.OneAnswer.{one_answer_in}
 use Rattle.mbe_grammar.proofs.WillTry.{WillTry, TriesNow, first_will, will_first, step_split, now_tried, step_join, last_tries}
 
 module _ (rules : List Rule) where
@@ -54,6 +57,56 @@ module _ (rules : List Rule) where
       nothing = λ e. place;
     }
 
+    -- the farthest place where the expression tries a unit, and those that it tries there
+    pub record HasTried (wanted : Wanted) : Type 0 where
+      pub farthest : (unit other : ℕ) → Tries rules at from unit other → other ≤ wanted.passed
+      pub tried : (unit : ℕ) → IsOneOf wanted.units.items unit → Tries rules at from unit wanted.passed
+      pub listed : (unit : ℕ) → Tries rules at from unit wanted.passed → IsListed wanted.units.items unit
+      pub ascending : IsAscending wanted.units.items
+      pub few : length wanted.units.items ≤ 8
+      pub nothing : wanted.units.items ≡ [] → wanted.passed ≡ from.passed
+
+    one_end : (to other : Position) → Parses false rules at from (Some to) → Parses false rules at from (Some other) → other ≡ to
+    unfolding Parses
+    one_end to other h k = cc (one_answer_in false rules k.0 h.0 at from (Some other) (Some to) k.1 h.1)
+
+    no_end : (to : Position) → Parses false rules at from None → Parses false rules at from (Some to) → ⊥
+    unfolding Parses
+    no_end to h k = absurd (cc (one_answer_in false rules h.0 k.0 at from None (Some to) h.1 k.1))
+
+    -- If the expression fails, that is the farthest place.
+    pub farthest_failed : (wanted : Wanted) → HasTried wanted → Parses false rules at from None → IsFarthest rules at from wanted.passed wanted.units.items
+    farthest_failed wanted h p = record {
+      farthest = h.farthest;
+      stops = λ to k. absurd (no_end to p k);
+      tried = h.tried;
+      listed = h.listed;
+      ascending = h.ascending;
+      few = h.few;
+      nothing = λ e. inl (h.nothing e);
+    }
+
+    -- If it ends, the place where it ends counts too.
+    pub farthest_ended : (old new : Wanted) (to : Position) → HasTried old → Parses false rules at from (Some to) → IsStopped to.passed old new → IsFarthest rules at from new.passed new.units.items
+    farthest_ended old new to h p (inl (less, place, none)) = record {
+      farthest = λ unit other t. let le = h.farthest unit other t in omega (arith, le, less, place);
+      stops = λ other k. let same = ap (λ (it : Position). it.passed) (one_end to other p k) in omega (arith, same, place);
+      tried = λ unit k. absurd (subst (λ units. IsOneOf units unit) none k);
+      listed = λ unit t. let le = h.farthest unit new.passed t in absurd (omega (arith, le, less, place));
+      ascending = subst IsAscending (sym none) tt;
+      few = subst (λ units. length units ≤ 8) (sym none) (omega arith);
+      nothing = λ e. inr (to, p, place);
+    }
+    farthest_ended old new to h p (inr (le, same)) = subst (λ (it : Wanted). IsFarthest rules at from it.passed it.units.items) (sym same) (record {
+      farthest = h.farthest;
+      stops = λ other k. let is = ap (λ (it : Position). it.passed) (one_end to other p k) in omega (arith, is, le);
+      tried = h.tried;
+      listed = h.listed;
+      ascending = h.ascending;
+      few = h.few;
+      nothing = λ e. inl (h.nothing e);
+    })
+
     module _ (now : machine.State) (before : List machine.Frame) (old new : Wanted) (tried : Option ℕ) (passed : ℕ)
         (shown : Shows now before tried passed) (noted : IsNoted tried passed old new) (seeks : Seeks now before old) where
       tried_new : (unit : ℕ) → IsOneOf new.units.items unit → Tries rules at from unit new.passed
@@ -84,9 +137,8 @@ module _ (rules : List Rule) where
           known unit place (inl w) = stepped unit place (step_split rules unit place now before to after s w)
           known unit place (inr c) = inr (noted.more unit place c)
 
-      -- At the end it has found the farthest place.
-      pub seeks_last : (found : Option Position) (after : List machine.Frame) → IsStep false (glance_at []) rules now before (machine.ends found) after
-          → IsFarthest rules at from new.passed new.units.items
+      -- At the end it has found the farthest place where a unit is tried.
+      pub seeks_last : (found : Option Position) (after : List machine.Frame) → IsStep false (glance_at []) rules now before (machine.ends found) after → HasTried new
       seeks_last found after s = record {
         farthest = λ unit other t. no_farther unit other (counted unit other (seeks.all unit other t));
         tried = tried_new;
@@ -140,19 +192,19 @@ module _ (rules : List Rule) where
   newest [] = None
   newest (it ∷ older) = Some it
 
-  answered_fewer : (log : List Entry) (it : Frame) (older : List Frame) → negations (frames_of (left_in log it) older) ≡ fewer_negations (Some it) (negations (frames_of log (it ∷ older)))
-  answered_fewer log (frame.InName since) older = refl
-  answered_fewer log (frame.InSequence second) older = refl
-  answered_fewer log (frame.InChoice other kept) older = refl
-  answered_fewer log (frame.InRepetition at kept) older = refl
-  answered_fewer log (frame.InNot kept) older = omega arith
+  answered_fewer : (trees : Forest) (log : List Entry) (it : Frame) (older : List Frame) → negations (frames_of trees (left_in log it) older) ≡ fewer_negations (Some it) (negations (frames_of trees log (it ∷ older)))
+  answered_fewer trees log (frame.InName since) older = refl
+  answered_fewer trees log (frame.InSequence second) older = refl
+  answered_fewer trees log (frame.InChoice other kept) older = refl
+  answered_fewer trees log (frame.InRepetition at kept) older = refl
+  answered_fewer trees log (frame.InNot kept) older = omega arith
 
-  waits_after : (log : List Entry) (here : Position) (s : State) (frames : List Frame) (to : machine.State) (after : List machine.Frame)
-      → IsStep false (glance_at []) rules (state_at here s) (frames_of log frames) (machine.goes to) after
-      → negations after ≡ negations_after rules s (newest frames) (negations (frames_of log frames))
-  waits_after log here (state.Reading at) frames to after s = ap negations s.1 ∙ begun_more at here (slice_get rules at) (frames_of log frames)
-  waits_after log here (state.Answered ends) [] to after s = absurd (cc s)
-  waits_after log here (state.Answered ends) (it ∷ older) to after s = ap negations s.1 ∙ answered_fewer log it older
+  waits_after : (trees : Forest) (log : List Entry) (here : Position) (s : State) (frames : List Frame) (to : machine.State) (after : List machine.Frame)
+      → IsStep false (glance_at []) rules (state_at here s) (frames_of trees log frames) (machine.goes to) after
+      → negations after ≡ negations_after rules s (newest frames) (negations (frames_of trees log frames))
+  waits_after trees log here (state.Reading at) frames to after s = ap negations s.1 ∙ begun_more at here (slice_get rules at) (frames_of trees log frames)
+  waits_after trees log here (state.Answered ends) [] to after s = absurd (cc s)
+  waits_after trees log here (state.Answered ends) (it ∷ older) to after s = ap negations s.1 ∙ answered_fewer trees log it older
 
   last_at : (front : List Frame) (it : Frame) → slice_get (front ++ it ∷ []) (length front) ≡ Some it
   last_at [] it = refl
@@ -168,21 +220,21 @@ module _ (rules : List Rule) where
   newest_last (it ∷ older) = sym (ap (λ fs. slice_get fs (length fs - 1)) (reverse-append (it ∷ []) older) ∙ last_behind (reverse older) it)
 
   -- The count of the negations that wait after a step is right.
-  pub counted_on : (log : List Entry) (here : Position) (s : State) (items : List Frame) (to : machine.State) (after : List machine.Frame)
-      → IsStep false (glance_at []) rules (state_at here s) (frames_of log (reverse items)) (machine.goes to) after
-      → negations after ≡ negations_after rules s (slice_get items (length items - 1)) (negations (frames_of log (reverse items)))
-  counted_on log here s items to after step =
-      waits_after log here s (reverse items) to after step
-      ∙ ap (λ it. negations_after rules s it (negations (frames_of log (reverse items)))) (newest_last (reverse items) ∙ ap (λ fs. slice_get fs (length fs - 1)) (reverse-reverse items))
+  pub counted_on : (trees : Forest) (log : List Entry) (here : Position) (s : State) (items : List Frame) (to : machine.State) (after : List machine.Frame)
+      → IsStep false (glance_at []) rules (state_at here s) (frames_of trees log (reverse items)) (machine.goes to) after
+      → negations after ≡ negations_after rules s (slice_get items (length items - 1)) (negations (frames_of trees log (reverse items)))
+  counted_on trees log here s items to after step =
+      waits_after trees log here s (reverse items) to after step
+      ∙ ap (λ it. negations_after rules s it (negations (frames_of trees log (reverse items)))) (newest_last (reverse items) ∙ ap (λ fs. slice_get fs (length fs - 1)) (reverse-reverse items))
 
-few_negations : (log : List Entry) (frames : List Frame) → negations (frames_of log frames) ≤ length frames
-few_negations log [] = omega arith
-few_negations log (frame.InName since ∷ older) = omega (arith, few_negations (take since log) older)
-few_negations log (frame.InSequence second ∷ older) = omega (arith, few_negations log older)
-few_negations log (frame.InChoice at kept ∷ older) = omega (arith, few_negations (left_in log (frame.InChoice at kept)) older)
-few_negations log (frame.InRepetition at kept ∷ older) = omega (arith, few_negations (left_in log (frame.InRepetition at kept)) older)
-few_negations log (frame.InNot kept ∷ older) = omega (arith, few_negations (left_in log (frame.InNot kept)) older)
+few_negations : (trees : Forest) (log : List Entry) (frames : List Frame) → negations (frames_of trees log frames) ≤ length frames
+few_negations trees log [] = omega arith
+few_negations trees log (frame.InName since ∷ older) = omega (arith, few_negations trees (take since log) older)
+few_negations trees log (frame.InSequence second ∷ older) = omega (arith, few_negations trees log older)
+few_negations trees log (frame.InChoice at kept ∷ older) = omega (arith, few_negations trees (left_in log (frame.InChoice at kept)) older)
+few_negations trees log (frame.InRepetition at kept ∷ older) = omega (arith, few_negations trees (left_in log (frame.InRepetition at kept)) older)
+few_negations trees log (frame.InNot kept ∷ older) = omega (arith, few_negations trees (left_in log (frame.InNot kept)) older)
 
 -- There are no more negations than frames.
-pub few : (log : List Entry) (items : List Frame) → negations (frames_of log (reverse items)) ≤ length items
-few log items = subst (λ n. negations (frames_of log (reverse items)) ≤ n) (length-reverse items) (few_negations log (reverse items))
+pub few : (trees : Forest) (log : List Entry) (items : List Frame) → negations (frames_of trees log (reverse items)) ≤ length items
+few trees log items = subst (λ n. negations (frames_of trees log (reverse items)) ≤ n) (length-reverse items) (few_negations trees log (reverse items))

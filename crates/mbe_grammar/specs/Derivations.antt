@@ -79,3 +79,12 @@ place it = record { trees = trees_of it.trees; close = it.close; name = it.name 
 abbrev pub IsDerived : List Rule → (name : ℕ) → Forest → Derived → Type 0
 IsDerived rules name trees (derived.Whole events) = Derives rules name trees events.items
 IsDerived rules name trees (derived.Refused level) = Refuses rules (whole name trees) (place level)
+
+-- the expression takes that many of the trees from the first on, and in each subtree that it takes by a name the trees are the expression
+-- of that name; none if it fails, or if the trees of such a subtree are refused
+abbrev pub TakesDeep : List Rule → (name : ℕ) → Forest → (count : Option ℕ) → Type 0
+TakesDeep rules name trees (Some count) =
+    (to : Position) × Parses true rules name (first_position trees) (Some to) × (count ≡ to.passed) × (events : List Event) × Spread (Derives rules) to.log events
+TakesDeep rules name trees None =
+    Parses true rules name (first_position trees) None
+    ⊎ ((to : Position) × Parses true rules name (first_position trees) (Some to) × (at : Place) × StopsAt (Derives rules) (Refuses rules) ⊥ (whole name trees) to.log at)

@@ -1,4 +1,5 @@
 -- Parsing expressions over trees, and Rust's grammar as a table of them.
+pub mod Decoded
 pub mod Derivations
 pub mod Deriving
 pub mod Expressions
@@ -8,6 +9,7 @@ pub mod Good
 pub mod Kinds
 pub mod Known
 pub mod Layout
+pub mod Left
 pub mod Machine
 pub mod Names
 pub mod Parses

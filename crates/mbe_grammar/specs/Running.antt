@@ -1,5 +1,6 @@
 -- The running machine, in the terms of its definitions.
 use Rattle.std.specs.Prelude.{◌≡◌, ◌≤◌, ℕ, Bool, true, false, List, [], ◌∷◌, take, length, Option, None, Some, option_map}
+use Rattle.tt.specs.Forest.{Forest}
 use Rattle.mbe_grammar.specs.declared.entry.Entry.{Entry}
 use Rattle.mbe_grammar.specs.declared.machine.Begun.{Begun}
 use Rattle.mbe_grammar.specs.declared.machine.Frame.{Frame}
@@ -26,16 +27,16 @@ state_at here (state.Reading at) = machine.reading at here
 state_at here (state.Answered ends) = machine.answered (answer_at here ends)
 
 -- a place to return to, with the log cut to the length that it had there
-abbrev pub kept_at : (log : List Entry) → Kept → Position
-kept_at log kept = position_of (take kept.taken log) kept.place
+abbrev pub kept_at : (trees : Forest) → (log : List Entry) → Kept → Position
+kept_at trees log kept = position_of trees (take kept.taken log) kept.passed
 
 -- what waits
-abbrev pub frame_of : (log : List Entry) → Frame → machine.Frame
-frame_of log (frame.InName since) = machine.in_name since
-frame_of log (frame.InSequence second) = machine.in_sequence second
-frame_of log (frame.InChoice other kept) = machine.in_choice other (kept_at log kept)
-frame_of log (frame.InRepetition at kept) = machine.in_repetition at (kept_at log kept)
-frame_of log (frame.InNot kept) = machine.in_not (kept_at log kept)
+abbrev pub frame_of : (trees : Forest) → (log : List Entry) → Frame → machine.Frame
+frame_of trees log (frame.InName since) = machine.in_name since
+frame_of trees log (frame.InSequence second) = machine.in_sequence second
+frame_of trees log (frame.InChoice other kept) = machine.in_choice other (kept_at trees log kept)
+frame_of trees log (frame.InRepetition at kept) = machine.in_repetition at (kept_at trees log kept)
+frame_of trees log (frame.InNot kept) = machine.in_not (kept_at trees log kept)
 
 -- the length of the log when the frame began to wait; that of now if the frame does not cut it back
 abbrev pub room_of : (now : ℕ) → Frame → ℕ
@@ -59,9 +60,9 @@ left_in log (frame.InRepetition at kept) = take kept.taken log
 left_in log (frame.InNot kept) = take kept.taken log
 
 -- all that waits, the newest first; each frame with the log of its time
-abbrev pub frames_of : (log : List Entry) → List Frame → List machine.Frame
-frames_of log [] = []
-frames_of log (frame ∷ older) = frame_of log frame ∷ frames_of (left_in log frame) older
+abbrev pub frames_of : (trees : Forest) → (log : List Entry) → List Frame → List machine.Frame
+frames_of trees log [] = []
+frames_of trees log (frame ∷ older) = frame_of trees log frame ∷ frames_of trees (left_in log frame) older
 
 -- no frame has a longer log than a newer one
 abbrev pub HasRoom : (now : ℕ) → List Frame → Type 0

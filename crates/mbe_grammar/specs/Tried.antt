@@ -74,3 +74,9 @@ pub record IsNoted (tried : Option ℕ) (passed : ℕ) (old new : Wanted) : Type
   pub less : (unit : ℕ) → IsOneOf new.units.items unit → ((tried ≡ Some unit) × (new.passed ≡ passed)) ⊎ (IsOneOf old.units.items unit × (new.passed ≡ old.passed))
   pub short : IsShort new
   pub nothing : new.units.items ≡ [] → (old.units.items ≡ []) × (new.passed ≡ old.passed)
+
+-- the expression ends after that many trees: if they are more than those of the place that was kept, then that is the place, and no unit is
+-- listed there
+abbrev pub IsStopped : (passed : ℕ) → (old new : Wanted) → Type 0
+IsStopped passed old new =
+    ((old.passed < passed) × (new.passed ≡ passed) × (new.units.items ≡ [])) ⊎ ((passed ≤ old.passed) × (new ≡ old))

@@ -47,12 +47,13 @@ IsAscending (this ∷ others) = AllByRecursion (λ it. this < it) others × IsAs
 abbrev pub IsListed : List ℕ → ℕ → Type 0
 IsListed units it = IsOneOf units it ⊎ ((length units ≡ 8) × AllByRecursion (λ other. other < it) units)
 
--- the expression tries no unit after more trees, and after so many trees it tries these units; if it tries more than eight there, these
--- are the first eight of the table
+-- the expression tries no unit after more trees and takes no more trees. After so many trees it tries these units; if it tries more than
+-- eight there, these are the first eight of the table, and if it tries none, it ends there, or it fails at its start
 pub record IsFarthest (rules : List Rule) (at : ℕ) (from : Position) (passed : ℕ) (units : List ℕ) : Type 0 where
   pub farthest : (unit other : ℕ) → Tries rules at from unit other → other ≤ passed
+  pub stops : (to : Position) → Parses false rules at from (Some to) → to.passed ≤ passed
   pub tried : (unit : ℕ) → IsOneOf units unit → Tries rules at from unit passed
   pub listed : (unit : ℕ) → Tries rules at from unit passed → IsListed units unit
   pub ascending : IsAscending units
   pub few : length units ≤ 8
-  pub nothing : units ≡ [] → passed ≡ from.passed
+  pub nothing : units ≡ [] → (passed ≡ from.passed) ⊎ ((to : Position) × Parses false rules at from (Some to) × (passed ≡ to.passed))

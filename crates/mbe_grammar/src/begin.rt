@@ -2,15 +2,15 @@
 ghost use Rattle.std.specs.Prelude.{◌≡◌, slice_get, IfOk};
 ghost use Rattle.mbe_grammar.specs.Known.{glance_at};
 ghost use Rattle.mbe_grammar.specs.Machine.{begun_name, begun_sequence_open, begun_sequence, begun_first, begun_choice, begun_repetition, begun_not, begun_open, begun};
-ghost use Rattle.mbe_grammar.specs.Places.{position_of};
+ghost use Rattle.mbe_grammar.specs.Places.{position_of, trees_in, IsDecoded};
 ghost use Rattle.mbe_grammar.specs.Running.{Extends, begun_at};
 
 use crate::entry::Entry;
 use crate::known::Glance;
 use crate::machine::{Begun, State, Waiting};
-use crate::place::Place;
 use crate::rule::Rule;
 use crate::table::Table;
+use crate::units::Units;
 use std::alloc::AllocError;
 
 // Returns an answer; nothing waits.
@@ -55,10 +55,11 @@ fn begin_name<'t>(
     noting: bool,
     at: usize,
     other: usize,
-    here: &Place<'t>,
+    units: &Units<'t>,
+    here: usize,
     log: &mut Vec<Entry<'t>>,
 ) -> Result<Begun, AllocError>
-    ensures begun { IfOk result (λ it. begun_at (position_of log.new.items here.now) it ≡ begun_name noting at other (position_of log.old.items here.now)) }
+    ensures begun { IfOk result (λ it. begun_at (position_of (trees_in units.now) log.new.items here) it ≡ begun_name noting at other (position_of (trees_in units.now) log.old.items here)) }
     ensures log { IfOk result (λ _. Extends log.old.items log.new.items) }
 {
     if !noting {
@@ -76,15 +77,19 @@ fn begin_sequence_open<'t>(
     rules: &[Rule],
     first: usize,
     second: usize,
-    here: &mut Place<'t>,
+    units: &mut Units<'t>,
+    here: &mut usize,
     log: &mut Vec<Entry<'t>>,
 ) -> Result<Begun, AllocError>
-    ensures begun { IfOk result (λ it. begun_at (position_of log.new.items here.new) it ≡ begun_sequence_open noting first second (position_of log.old.items here.old) (slice_get rules.now first)) }
+    requires decoded { IsDecoded units.now here.now }
+    ensures begun { IfOk result (λ it. begun_at (position_of (trees_in units.old) log.new.items here.new) it ≡ begun_sequence_open noting first second (position_of (trees_in units.old) log.old.items here.old) (slice_get rules.now first)) }
     ensures log { IfOk result (λ _. Extends log.old.items log.new.items) }
+    ensures same { trees_in units.new ≡ trees_in units.old }
+    ensures decoded { IfOk result (λ _. IsDecoded units.new here.new) }
 {
     match rules.get(first) {
         Some(Rule::Unit(test)) => {
-            if here.take(noting, *test, log)? {
+            if units.take(noting, *test, here, log)? {
                 Ok(alone(second))
             } else {
                 Ok(at_once(false))
@@ -101,16 +106,20 @@ fn begin_sequence<'t>(
     table: Table<'_>,
     first: usize,
     second: usize,
-    here: &mut Place<'t>,
+    units: &mut Units<'t>,
+    here: &mut usize,
     log: &mut Vec<Entry<'t>>,
 ) -> Result<Begun, AllocError>
-    ensures begun { IfOk result (λ it. begun_at (position_of log.new.items here.new) it ≡ begun_sequence noting first second (position_of log.old.items here.old) (slice_get table.entry.rules.now first) (glance_at table.entry.known.now first (position_of log.old.items here.old))) }
+    requires decoded { IsDecoded units.now here.now }
+    ensures begun { IfOk result (λ it. begun_at (position_of (trees_in units.old) log.new.items here.new) it ≡ begun_sequence noting first second (position_of (trees_in units.old) log.old.items here.old) (slice_get table.entry.rules.now first) (glance_at table.entry.known.now first (position_of (trees_in units.old) log.old.items here.old))) }
     ensures log { IfOk result (λ _. Extends log.old.items log.new.items) }
+    ensures same { trees_in units.new ≡ trees_in units.old }
+    ensures decoded { IfOk result (λ _. IsDecoded units.new here.new) }
 {
-    match here.glance(table.known, first) {
+    match units.glance(table.known, first, *here) {
         Glance::Fails => Ok(at_once(false)),
         Glance::Idles => Ok(alone(second)),
-        Glance::Open => begin_sequence_open(noting, table.rules, first, second, here, log),
+        Glance::Open => begin_sequence_open(noting, table.rules, first, second, units, here, log),
     }
 }
 
@@ -120,12 +129,14 @@ fn begin_first<'t>(
     table: Table<'_>,
     first: usize,
     other: usize,
-    here: &Place<'t>,
+    units: &Units<'t>,
+    here: usize,
     log: &Vec<Entry<'t>>,
 ) -> Begun
-    ensures begun { begun_at (position_of log.now.items here.now) result ≡ begun_first first other (position_of log.now.items here.now) (glance_at table.entry.known.now other (position_of log.now.items here.now)) }
+    requires decoded { IsDecoded units.now here }
+    ensures begun { begun_at (position_of (trees_in units.now) log.now.items here) result ≡ begun_first first other (position_of (trees_in units.now) log.now.items here) (glance_at table.entry.known.now other (position_of (trees_in units.now) log.now.items here)) }
 {
-    match here.glance(table.known, other) {
+    match units.glance(table.known, other, here) {
         Glance::Fails => alone(first),
         Glance::Idles | Glance::Open => within(first, Waiting::InChoice(other)),
     }
@@ -137,15 +148,17 @@ fn begin_choice<'t>(
     table: Table<'_>,
     first: usize,
     other: usize,
-    here: &Place<'t>,
+    units: &Units<'t>,
+    here: usize,
     log: &Vec<Entry<'t>>,
 ) -> Begun
-    ensures begun { begun_at (position_of log.now.items here.now) result ≡ begun_choice first other (position_of log.now.items here.now) (glance_at table.entry.known.now first (position_of log.now.items here.now)) (glance_at table.entry.known.now other (position_of log.now.items here.now)) }
+    requires decoded { IsDecoded units.now here }
+    ensures begun { begun_at (position_of (trees_in units.now) log.now.items here) result ≡ begun_choice first other (position_of (trees_in units.now) log.now.items here) (glance_at table.entry.known.now first (position_of (trees_in units.now) log.now.items here)) (glance_at table.entry.known.now other (position_of (trees_in units.now) log.now.items here)) }
 {
-    match here.glance(table.known, first) {
+    match units.glance(table.known, first, here) {
         Glance::Fails => alone(other),
         Glance::Idles => at_once(true),
-        Glance::Open => begin_first(table, first, other, here, log),
+        Glance::Open => begin_first(table, first, other, units, here, log),
     }
 }
 
@@ -155,12 +168,14 @@ fn begin_repetition<'t>(
     table: Table<'_>,
     at: usize,
     part: usize,
-    here: &Place<'t>,
+    units: &Units<'t>,
+    here: usize,
     log: &Vec<Entry<'t>>,
 ) -> Begun
-    ensures begun { begun_at (position_of log.now.items here.now) result ≡ begun_repetition at part (position_of log.now.items here.now) (glance_at table.entry.known.now part (position_of log.now.items here.now)) }
+    requires decoded { IsDecoded units.now here }
+    ensures begun { begun_at (position_of (trees_in units.now) log.now.items here) result ≡ begun_repetition at part (position_of (trees_in units.now) log.now.items here) (glance_at table.entry.known.now part (position_of (trees_in units.now) log.now.items here)) }
 {
-    match here.glance(table.known, part) {
+    match units.glance(table.known, part, here) {
         Glance::Fails => at_once(true),
         Glance::Idles | Glance::Open => within(part, Waiting::InRepetition(at)),
     }
@@ -168,10 +183,17 @@ fn begin_repetition<'t>(
 
 // Begins a negation.
 #[inline(always)]
-fn begin_not<'t>(table: Table<'_>, part: usize, here: &Place<'t>, log: &Vec<Entry<'t>>) -> Begun
-    ensures begun { begun_at (position_of log.now.items here.now) result ≡ begun_not part (position_of log.now.items here.now) (glance_at table.entry.known.now part (position_of log.now.items here.now)) }
+fn begin_not<'t>(
+    table: Table<'_>,
+    part: usize,
+    units: &Units<'t>,
+    here: usize,
+    log: &Vec<Entry<'t>>,
+) -> Begun
+    requires decoded { IsDecoded units.now here }
+    ensures begun { begun_at (position_of (trees_in units.now) log.now.items here) result ≡ begun_not part (position_of (trees_in units.now) log.now.items here) (glance_at table.entry.known.now part (position_of (trees_in units.now) log.now.items here)) }
 {
-    match here.glance(table.known, part) {
+    match units.glance(table.known, part, here) {
         Glance::Fails => at_once(true),
         Glance::Idles => at_once(false),
         Glance::Open => within(part, Waiting::InNot),
@@ -184,31 +206,44 @@ fn begin_open<'t>(
     noting: bool,
     table: Table<'_>,
     at: usize,
-    here: &mut Place<'t>,
+    units: &mut Units<'t>,
+    here: &mut usize,
     log: &mut Vec<Entry<'t>>,
 ) -> Result<Begun, AllocError>
-    ensures begun { IfOk result (λ it. begun_at (position_of log.new.items here.new) it ≡ begun_open noting (glance_at table.entry.known.now) table.entry.rules.now at (position_of log.old.items here.old) (slice_get table.entry.rules.now at)) }
+    requires decoded { IsDecoded units.now here.now }
+    ensures begun { IfOk result (λ it. begun_at (position_of (trees_in units.old) log.new.items here.new) it ≡ begun_open noting (glance_at table.entry.known.now) table.entry.rules.now at (position_of (trees_in units.old) log.old.items here.old) (slice_get table.entry.rules.now at)) }
     ensures log { IfOk result (λ _. Extends log.old.items log.new.items) }
+    ensures same { trees_in units.new ≡ trees_in units.old }
+    ensures decoded { IfOk result (λ _. IsDecoded units.new here.new) }
 {
     let Some(rule) = table.rules.get(at) else {
         return Ok(at_once(false));
     };
     match *rule {
         Rule::Empty => Ok(at_once(true)),
-        Rule::Unit(test) => Ok(at_once(here.take(noting, test, log)?)),
-        Rule::Name(other) => begin_name(noting, at, other as usize, here, log),
+        Rule::Unit(test) => Ok(at_once(units.take(noting, test, here, log)?)),
+        Rule::Name(other) => begin_name(noting, at, other as usize, units, *here, log),
         Rule::Sequence(first, second) => {
-            begin_sequence(noting, table, first as usize, second as usize, here, log)
+            begin_sequence(
+                noting,
+                table,
+                first as usize,
+                second as usize,
+                units,
+                here,
+                log,
+            )
         }
         Rule::Choice(first, other) => Ok(begin_choice(
             table,
             first as usize,
             other as usize,
-            here,
+            units,
+            *here,
             log,
         )),
-        Rule::ZeroOrMore(part) => Ok(begin_repetition(table, at, part as usize, here, log)),
-        Rule::Not(part) => Ok(begin_not(table, part as usize, here, log)),
+        Rule::ZeroOrMore(part) => Ok(begin_repetition(table, at, part as usize, units, *here, log)),
+        Rule::Not(part) => Ok(begin_not(table, part as usize, units, *here, log)),
     }
 }
 
@@ -218,15 +253,19 @@ pub(crate) fn begin<'t>(
     noting: bool,
     table: Table<'_>,
     at: usize,
-    here: &mut Place<'t>,
+    units: &mut Units<'t>,
+    here: &mut usize,
     log: &mut Vec<Entry<'t>>,
 ) -> Result<Begun, AllocError>
-    ensures begun { IfOk result (λ it. begun_at (position_of log.new.items here.new) it ≡ begun noting (glance_at table.entry.known.now) table.entry.rules.now at (position_of log.old.items here.old)) }
+    requires decoded { IsDecoded units.now here.now }
+    ensures begun { IfOk result (λ it. begun_at (position_of (trees_in units.old) log.new.items here.new) it ≡ begun noting (glance_at table.entry.known.now) table.entry.rules.now at (position_of (trees_in units.old) log.old.items here.old)) }
     ensures log { IfOk result (λ _. Extends log.old.items log.new.items) }
+    ensures same { trees_in units.new ≡ trees_in units.old }
+    ensures decoded { IfOk result (λ _. IsDecoded units.new here.new) }
 {
-    match here.glance(table.known, at) {
+    match units.glance(table.known, at, *here) {
         Glance::Fails => Ok(at_once(false)),
         Glance::Idles => Ok(at_once(true)),
-        Glance::Open => begin_open(noting, table, at, here, log),
+        Glance::Open => begin_open(noting, table, at, units, here, log),
     }
 }

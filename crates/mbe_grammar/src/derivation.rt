@@ -1,17 +1,20 @@
 //! The derivation of trees: for each token the expressions that took it, at all depths.
-ghost use Rattle.std.specs.Prelude.{◌≡◌, ◌++◌, IfOk, map, reverse};
+ghost use Rattle.std.specs.Prelude.{◌≡◌, ◌+◌, ◌^◌, ◌<◌, ◌≤◌, List, None, Some, if◌then◌else◌, length, option_map, reverse, vec_capacity, vec_len, IfOk, IfSome, OnErr};
 ghost use Rattle.tt.specs.Views.{trees_of};
-ghost use Rattle.mbe_grammar.specs.declared.derivation.Left.TheVariants as left_of;
-ghost use Rattle.mbe_grammar.specs.Derivations.{IsDerived, place};
-ghost use Rattle.mbe_grammar.specs.Deriving.{IsRead, IsNext, IsDrained};
+ghost use Rattle.mbe_grammar.specs.declared.derivation.Open.{Open as OpenLevel};
+ghost use Rattle.mbe_grammar.specs.declared.entry.Entry.{Entry as EntryOf};
+ghost use Rattle.mbe_grammar.specs.declared.event.Event.{Event as EventOf};
+ghost use Rattle.mbe_grammar.specs.Derivations.{Derives, Refuses, IsDerived, TakesDeep, Place, whole, place};
+ghost use Rattle.mbe_grammar.specs.Deriving.{behind_level, IsRead, IsEntered, GivesAhead, StopsAhead, IsNext, IsSameAhead};
+ghost use Rattle.mbe_grammar.specs.Left.{around, inside};
 
 use crate::entry::Entry;
 use crate::event::{Event, Level};
-use crate::machine::parse;
-use crate::place::Place;
+use crate::machine::{Frame, parse};
 use crate::table::Table;
+use crate::units::Units;
 use std::alloc::{AllocError, Global};
-use tt::TokenTreesView;
+use tt::{Span, TokenTreesView};
 
 /// The outcome for trees that must be the expression of a name.
 pub enum Derived<'t> {
@@ -21,98 +24,214 @@ pub enum Derived<'t> {
     Refused(Level<'t>),
 }
 
-// What is left to read.
+/// What comes next in a derivation.
 #[derive(Clone, Copy)]
-pub(crate) enum Left<'t> {
-    // an entry of the log of a level
-    Entry(Entry<'t>),
-    // the end of a subtree
-    Close,
-    // the place where the expression of a level stops before the end of the trees
-    Stop(Level<'t>),
-}
-
-// What comes after the entries that need no reading.
-#[derive(Clone, Copy)]
-pub(crate) enum Next<'t> {
+pub enum NextEvent<'t> {
+    /// An event.
+    Event(Event),
+    /// The end: the trees are the expression of their name.
     End,
-    Level(Level<'t>),
+    /// The first level in reading order that its expression does not take.
     Refused(Level<'t>),
 }
 
-// Moves the entries of the log to what is left, so that the first entry is the next one.
-fn stack<'t>(log: &mut Vec<Entry<'t>>, left: &mut Vec<Left<'t>>) -> Result<(), AllocError>
-    ensures { IfOk result (λ _. reverse left.new.items ≡ map left_of.Entry log.old.items ++ reverse left.old.items) }
-{
-    while let Some(entry) = log.pop() {
-        left.push(Left::Entry(entry))?;
-    }
-    Ok(())
+// A level that was read and is not passed: what is left of its entries, which are in the log of all such levels.
+#[derive(Clone, Copy)]
+pub(crate) struct Open<'t> {
+    // the index of its first entry
+    since: usize,
+    // the index of the entry that is passed next
+    next: usize,
+    // the level, if its expression stops before the end of the trees
+    stop: Option<Level<'t>>,
 }
 
-// Reads the trees of a level, and adds what its expression took to what is left. Returns whether the expression does not fail.
+// What the reading of a level needs. The next level uses it again.
+#[derive(Drop)]
+pub(crate) struct Room<'t> {
+    units: Units<'t>,
+    frames: Vec<Frame>,
+    log: Vec<Entry<'t>>,
+}
+
+// Returns the level if its expression stops before the end of its trees.
+fn stop_of<'t>(ends: bool, it: Level<'t>) -> Option<Level<'t>>
+    ensures { result ≡ (if ends then None else Some it.entry) }
+{
+    if ends { None } else { Some(it) }
+}
+
+// Reads the trees of a level, and adds what its expression took to the log of the open levels. Returns the level as an open one; none if the
+// expression fails. If memory runs out, the log stays as it was.
 fn read<'t>(
-    alloc: Global,
     table: Table<'_>,
     it: Level<'t>,
+    room: &mut Room<'t>,
     log: &mut Vec<Entry<'t>>,
-    left: &mut Vec<Left<'t>>,
-) -> Result<bool, AllocError>
-    ensures { IfOk result (λ yes. IsRead table.entry.rules.now (place it.entry) (reverse left.old.items) yes (reverse left.new.items)) }
+) -> Result<Option<Open<'t>>, AllocError>
+    ensures fits { (older : List OpenLevel) → IfOk result (λ inner. IfSome inner (λ o. length (inside log.new.items o older) ≤ length (around log.old.items older) + 2 ^ 64)) }
+    ensures read { (older : List OpenLevel) → IfOk result (λ inner. IsRead table.entry.rules.now (place it.entry) (around log.old.items older) (option_map (λ o. inside log.new.items o older) inner)) }
+    ensures err { OnErr result (log.new.items ≡ log.old.items) }
 {
-    log.truncate(0);
-    let Some(to) = parse(alloc, true, table, it.name, Place::first(it.trees), log)? else {
-        return Ok(false);
+    room.log.truncate(0);
+    room.units.restart(it.trees);
+    let Some(to) = parse(
+        true,
+        table,
+        it.name,
+        &mut room.units,
+        &mut room.frames,
+        &mut room.log,
+    )?
+    else {
+        return Ok(None);
     };
-    if !to.is_at_end() {
-        left.push(Left::Stop(it))?;
-    }
-    stack(log, left)?;
-    Ok(true)
+    let since = log.len();
+    let _taken = room.log.len();
+    log.append(&mut room.log)?;
+    let stop = stop_of(room.units.is_at_end(to), it);
+    Ok(Some(Open {
+        since,
+        next: since,
+        stop,
+    }))
 }
 
-// Skips what needs no reading, and adds its events. Returns what comes next.
-fn skip<'t>(left: &mut Vec<Left<'t>>, events: &mut Vec<Event>) -> Result<Next<'t>, AllocError>
-    ensures { IfOk result (λ next. IsNext (reverse left.old.items) events.old.items next (reverse left.new.items) events.new.items) }
+// Adds an open level to those around the level that is read next, if that is a subtree; nothing is around a file.
+fn put_around<'t>(close: Option<Span>, inner: Open<'t>, levels: &mut Vec<Open<'t>>)
+    requires { vec_len levels.now < vec_capacity levels.now }
+    ensures { (log : List EntryOf) → around log (reverse levels.new.items) ≡ behind_level close log inner.entry (reverse levels.old.items) }
 {
-    while let Some(it) = left.pop() {
-        match it {
-            Left::Entry(Entry::Enter(name)) => events.push(Event::Enter(name))?,
-            Left::Entry(Entry::Leave) => events.push(Event::Leave)?,
-            Left::Entry(Entry::Unit(count)) => events.push(Event::Token(count))?,
-            Left::Close => events.push(Event::Close)?,
-            Left::Entry(Entry::Holds(trees, close, name)) => {
-                events.push(Event::Open)?;
-                left.push(Left::Close)?;
+    match close {
+        Some(_) => levels.push_reserved(inner),
+        None => levels.truncate(0),
+    }
+}
+
+/// The derivation of some trees, which hands out its events one by one. It reads a level when the level's first event is wanted, so it keeps
+/// what is left of the open levels, and not all events.
+#[derive(Drop)]
+pub struct Derivation<'a, 't> {
+    table: Table<'a>,
+    // the level that is read next
+    level: Option<Level<'t>>,
+    // the entries of all open levels, the innermost level last
+    log: Vec<Entry<'t>>,
+    // the innermost open level
+    inner: Open<'t>,
+    // the open levels around it, the outermost first
+    around: Vec<Open<'t>>,
+    room: Room<'t>,
+}
+
+impl<'a, 't> Derivation<'a, 't> {
+    /// Returns the derivation of trees that must be the expression at that index of the table: it takes all of them, and in each subtree that
+    /// it takes by a name the trees are the expression of that name. Reads nothing yet.
+    pub fn new(
+        alloc: Global,
+        table: Table<'a>,
+        name: usize,
+        trees: TokenTreesView<'t>,
+    ) -> Derivation<'a, 't>
+        ensures gives { (events : List EventOf) → GivesAhead result events → Derives table.entry.rules.now name (trees_of trees.entry) events }
+        ensures stops { (at : Place) → StopsAhead result at → Refuses table.entry.rules.now (whole name (trees_of trees.entry)) at }
+    {
+        let level = Level {
+            trees,
+            close: None,
+            name,
+        };
+        Derivation {
+            table,
+            level: Some(level),
+            log: Vec::new(alloc),
+            inner: Open {
+                since: 0,
+                next: 0,
+                stop: None,
+            },
+            around: Vec::new(alloc),
+            room: Room {
+                units: Units::new(alloc, trees),
+                frames: Vec::new(alloc),
+                log: Vec::new(alloc),
+            },
+        }
+    }
+
+    // Reads the level that is read next, so that it is the innermost open one. Returns whether its expression does not fail. If memory runs
+    // out, it has the same ahead as before.
+    fn enter(&mut self, level: Level<'t>) -> Result<bool, AllocError>
+        requires { self.now.level ≡ Some level }
+        ensures read { IfOk result (λ yes. IsEntered self.old level.entry yes self.new) }
+        ensures err { OnErr result (IsSameAhead self.old self.new) }
+    {
+        self.around.reserve(1)?;
+        let Some(inner) = read(self.table, level, &mut self.room, &mut self.log)? else {
+            return Ok(false);
+        };
+        put_around(level.close, self.inner, &mut self.around);
+        self.inner = inner;
+        self.level = None;
+        Ok(true)
+    }
+
+    // Leaves the innermost level, of which no entry is left.
+    fn leave(&mut self) -> NextEvent<'t>
+        requires level { self.now.level ≡ None }
+        requires end { length self.now.log.items ≤ self.now.inner.next }
+        ensures { IsNext self.old result self.new }
+    {
+        if let Some(level) = self.inner.stop {
+            return NextEvent::Refused(level);
+        }
+        match self.around.pop() {
+            None => NextEvent::End,
+            Some(outer) => {
+                self.log.truncate(self.inner.since);
+                self.inner = outer;
+                NextEvent::Event(Event::Close)
+            }
+        }
+    }
+
+    // Passes the next entry of the innermost level. No level is to be read before it.
+    #[inline(always)]
+    fn pass(&mut self) -> NextEvent<'t>
+        requires { self.now.level ≡ None }
+        ensures { IsNext self.old result self.new }
+    {
+        let at = self.inner.next;
+        if at >= self.log.len() {
+            return self.leave();
+        }
+        self.inner.next = at + 1;
+        match self.log[at] {
+            Entry::Enter(name) => NextEvent::Event(Event::Enter(name)),
+            Entry::Leave => NextEvent::Event(Event::Leave),
+            Entry::Unit(count) => NextEvent::Event(Event::Token(count)),
+            Entry::Holds(trees, close, name) => {
                 let close = Some(close);
-                return Ok(Next::Level(Level { trees, close, name }));
+                self.level = Some(Level { trees, close, name });
+                NextEvent::Event(Event::Open)
             }
-            Left::Stop(level) => return Ok(Next::Refused(level)),
         }
     }
-    Ok(Next::End)
-}
 
-// Reads all that is left, and adds its events. Returns the first level that its expression does not take, if there is one.
-fn drain<'t>(
-    alloc: Global,
-    table: Table<'_>,
-    log: &mut Vec<Entry<'t>>,
-    left: &mut Vec<Left<'t>>,
-    events: &mut Vec<Event>,
-) -> Result<Option<Level<'t>>, AllocError>
-    ensures { IfOk result (λ refused. IsDrained table.entry.rules.now (reverse left.old.items) events.old.items refused events.new.items) }
-{
-    loop {
-        match skip(left, events)? {
-            Next::End => return Ok(None),
-            Next::Refused(it) => return Ok(Some(it)),
-            Next::Level(it) => {
-                if !read(alloc, table, it, log, left)? {
-                    return Ok(Some(it));
-                }
+    /// Returns the next event. At the end of a subtree or a name it returns its end; behind the last event `End`; if the trees of a level are
+    /// not the expression of its name, that level. Reads each level once, without recursion. If memory runs out, it fails, and has the same
+    /// ahead as before.
+    #[inline(always)]
+    pub fn next_event(&mut self) -> Result<NextEvent<'t>, AllocError>
+        ensures next { IfOk result (λ it. IsNext self.old it self.new) }
+        ensures err { OnErr result (IsSameAhead self.old self.new) }
+    {
+        if let Some(level) = self.level {
+            if !self.enter(level)? {
+                return Ok(NextEvent::Refused(level));
             }
         }
+        Ok(self.pass())
     }
 }
 
@@ -128,18 +247,55 @@ pub fn derive<'t>(
     ensures { IfOk result (λ it. IsDerived table.entry.rules.now at (trees_of trees.entry) it) }
 {
     let mut events = Vec::new(alloc);
-    let mut left = Vec::new(alloc);
-    let mut log = Vec::new(alloc);
-    let it = Level {
-        trees,
-        close: None,
-        name: at,
-    };
-    if !read(alloc, table, it, &mut log, &mut left)? {
-        return Ok(Derived::Refused(it));
+    let mut derivation = Derivation::new(alloc, table, at, trees);
+    loop {
+        match derivation.next_event()? {
+            NextEvent::Event(event) => events.push(event)?,
+            NextEvent::End => return Ok(Derived::Whole(events)),
+            NextEvent::Refused(level) => return Ok(Derived::Refused(level)),
+        }
     }
-    match drain(alloc, table, &mut log, &mut left, &mut events)? {
-        None => Ok(Derived::Whole(events)),
-        Some(level) => Ok(Derived::Refused(level)),
+}
+
+/// Returns how many of the trees the expression at that index of the table takes from the first on, if in each subtree that it takes by a
+/// name the trees are the expression of that name; none if it fails, or if a subtree has other contents. Reads each level once, without
+/// recursion. Fails only if memory runs out.
+pub(crate) fn take_deep(
+    alloc: Global,
+    table: Table<'_>,
+    at: usize,
+    trees: TokenTreesView<'_>,
+) -> Result<Option<usize>, AllocError>
+    ensures { IfOk result (λ count. TakesDeep table.entry.rules.now at (trees_of trees.entry) count) }
+{
+    let mut units = Units::with_room(alloc, trees)?;
+    let mut frames = Vec::with_capacity(alloc, 16)?;
+    let mut log = Vec::with_capacity(alloc, 8)?;
+    let Some(count) = parse(true, table, at, &mut units, &mut frames, &mut log)? else {
+        return Ok(None);
+    };
+    let around = Vec::new(alloc);
+    let mut derivation = Derivation {
+        table,
+        level: None,
+        log,
+        inner: Open {
+            since: 0,
+            next: 0,
+            stop: None,
+        },
+        around,
+        room: Room {
+            units,
+            frames,
+            log: Vec::new(alloc),
+        },
+    };
+    loop {
+        match derivation.next_event()? {
+            NextEvent::Event(_) => {}
+            NextEvent::End => return Ok(Some(count)),
+            NextEvent::Refused(_) => return Ok(None),
+        }
     }
 }

@@ -19,7 +19,7 @@ use tt::TokenTreesView;
 pub struct SyntaxError<'t> {
     /// The first level in reading order whose trees its name does not take.
     pub level: Level<'t>,
-    /// How many of its trees come before the first token that no rule takes, and what is wanted there.
+    /// The farthest place on that level where its name tries a unit or ends, and the units that it tries there.
     pub wanted: Wanted,
 }
 
@@ -33,8 +33,8 @@ pub enum ParsedFile<'t> {
 }
 
 /// Reads the trees as a file, by the grammar of docs/GRAMMAR.md. Returns the derivation: the events in reading order, with the names that
-/// took each token. If the trees are no file, it returns the first token that no rule takes, and what is wanted there. Reads each level
-/// once, without recursion. Fails only if memory runs out.
+/// took each token. If the trees are no file, it returns the first level that its name does not take, and what is wanted there. Reads each
+/// level once, without recursion. Fails only if memory runs out.
 pub fn parse_file<'t>(
     alloc: Global,
     trees: TokenTreesView<'t>,

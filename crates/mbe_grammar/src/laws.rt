@@ -1,11 +1,14 @@
 //! Laws of the grammar. Each is the contract of a function that does nothing.
-ghost use Rattle.std.specs.Prelude.{◌≡◌, ◌<◌, ◌⊎◌, ℕ, true, false, List, Option, Some, option_map};
+ghost use Rattle.std.specs.Prelude.{◌≡◌, ◌<◌, ◌⊎◌, ◌↔◌, ℕ, Bool, true, false, List, Option, None, Some, option_map};
 ghost use Rattle.tt.specs.Forest.{Forest};
 ghost use Rattle.mbe_grammar.specs.declared.event.Event.{Event};
 ghost use Rattle.mbe_grammar.specs.Derivations.{Derives, Place, Refuses};
-ghost use Rattle.mbe_grammar.specs.Fragments.{Reaches};
+ghost use Rattle.mbe_grammar.specs.Expressions.{name, Answers};
+ghost use Rattle.mbe_grammar.specs.Fragments.{Reaches, ReachesDeep, IsBlock};
+ghost use Rattle.mbe_grammar.specs.Names.{Name, start};
 ghost use Rattle.mbe_grammar.specs.Parses.{Parses};
 ghost use Rattle.mbe_grammar.specs.Positions.{Position, plain};
+ghost use Rattle.mbe_grammar.specs.Rust.{stands};
 ghost use Rattle.mbe_grammar.specs.Table.{rust_rules};
 ghost use Rattle.mbe_pattern.specs.declared.pattern.GrammarFragment.{GrammarFragment as Fragment};
 
@@ -22,6 +25,32 @@ pub fn one_answer()
 /// States that a fragment takes at least one tree.
 pub fn takes_a_tree()
     ensures { (fragment : Fragment) → (trees : Forest) → (count : ℕ) → Reaches fragment trees (Some count) → 0 < count }
+{}
+
+/// States that the grammar has an answer for each fragment and any trees, if it looks into subtrees.
+pub fn has_deep_answer()
+    ensures { (fragment : Fragment) → (trees : Forest) → (count : Option ℕ) × ReachesDeep fragment trees count }
+{}
+
+/// States that this answer is the only one.
+pub fn one_deep_answer()
+    ensures { (fragment : Fragment) → (trees : Forest) → (one other : Option ℕ) → ReachesDeep fragment trees one → ReachesDeep fragment trees other → one ≡ other }
+{}
+
+/// States that a fragment takes as many trees with a look into subtrees as without, or none.
+pub fn deep_is_shallow()
+    ensures { (fragment : Fragment) → (trees : Forest) → (deep shallow : Option ℕ) → ReachesDeep fragment trees deep → Reaches fragment trees shallow → (deep ≡ shallow) ⊎ (deep ≡ None) }
+{}
+
+/// States that trees are the contents of the fragment `block` or are not, and never both.
+pub fn one_block_answer()
+    ensures has { (trees : Forest) → (answer : Bool) × IsBlock trees answer }
+    ensures one { (trees : Forest) → (one other : Bool) → IsBlock trees one → IsBlock trees other → one ≡ other }
+{}
+
+/// States that the table is the page, name by name: from the index of a name on, the rules have the answers of the name's expression.
+pub fn table_is_the_page()
+    ensures { (noting : Bool) → (which : Name) → (from : Position) → (answer : Option Position) → Parses noting rust_rules (start which) from answer ↔ Answers noting stands (name which) from answer }
 {}
 
 /// States that the trees of any place have a derivation, or are refused somewhere.

@@ -2,11 +2,13 @@
 //!
 //! docs/GRAMMAR.md is the source of the table. `checks/lay_out_grammar.py` makes `src/rust.rt`, `src/rust_marks.rt`, `src/rust_known.rt`,
 //! `src/rust_names.rt`, `specs/Names.antt`, `specs/Rust.antt` and `proofs/RustLaid.antt` from it. `reach` runs the machine of parsing
-//! expressions on the siblings, with a stack of the rules that are under way. It does not look into subtrees.
+//! expressions on the siblings, with a stack of the rules that are under way. It does not look into subtrees; `reach_deep` also reads what
+//! they contain.
 //!
 //! `parse_file` runs the same machine with a log: the names that begin and end, the units, and the subtrees with the names of what they
-//! must contain. A choice that fails cuts the log back. `derive` then reads each subtree of the log by its name, without recursion. If a
-//! level is refused, `find_wanted` runs the machine on that level again, and notes the tests that it tries at the farthest place.
+//! must contain. A choice that fails cuts the log back. A
+//! `Derivation` then reads each subtree of the log by its name, without recursion, and hands out the events one by one. If a level is
+//! refused, `find_wanted` runs the machine on that level again, and notes the tests that it tries at the farthest place.
 #![tactic(auto)]
 
 mod begin;
@@ -15,11 +17,11 @@ mod entry;
 mod event;
 mod file;
 mod fragments;
+mod here;
 mod kind;
 mod known;
 pub mod laws;
 mod machine;
-mod place;
 mod rule;
 mod rust;
 mod rust_known;
@@ -29,16 +31,15 @@ mod table;
 mod test;
 mod trying;
 mod unit;
+mod units;
 mod words;
 
-pub use derivation::{Derived, derive};
+pub use derivation::{Derivation, Derived, NextEvent, derive};
 pub use entry::Entry;
 pub use event::{Event, Level};
 pub use file::{ParsedFile, SyntaxError, parse_file, test_of};
-pub use fragments::reach;
+pub use fragments::{is_block, reach, reach_deep};
 pub use known::Known;
-pub use machine::parse;
-pub use place::Place;
 pub use rule::{Mark, Rule};
 pub use rust_names::NAMES;
 pub use table::Table;

@@ -1,22 +1,21 @@
-//! What is wanted where trees stop being an expression: the units that it tries at the farthest place.
+//! What is wanted where trees stop being an expression: the units that it tries at the farthest place, if it does not end there.
 ghost use Rattle.std.specs.Prelude.{◌≡◌, ◌+◌, ◌-◌, ◌^◌, ◌<◌, ◌≤◌, [], reverse, length, slice_get, Some, IfOk};
 ghost use Rattle.tt.specs.Views.{trees_of};
 ghost use Rattle.mbe_grammar.specs.Known.{glance_at};
 ghost use Rattle.mbe_grammar.specs.Machine.{IsStep};
-ghost use Rattle.mbe_grammar.specs.Places.{position_of};
 ghost use Rattle.mbe_grammar.specs.Positions.{first_position};
 ghost use Rattle.mbe_grammar.specs.Running.{state_at, frames_of, HasRoom, next_at};
-ghost use Rattle.mbe_grammar.specs.Tried.{tried_by, tried_now, more_negations, fewer_negations, negations_after, rank_among, is_at, IsShort, IsNoted};
+ghost use Rattle.mbe_grammar.specs.Tried.{tried_by, tried_now, more_negations, fewer_negations, negations_after, rank_among, is_at, IsShort, IsNoted, IsStopped};
 ghost use Rattle.mbe_grammar.specs.Trying.{IsFarthest};
 
 use crate::machine::{Frame, Next, State, step};
-use crate::place::Place;
 use crate::rule::Rule;
 use crate::table::Table;
+use crate::units::Units;
 use std::alloc::{AllocError, Global};
 use tt::TokenTreesView;
 
-/// The farthest place where an expression tries a unit, and the units that it tries there.
+/// The farthest place where an expression tries a unit or ends, and the units that it tries there.
 #[derive(Drop)]
 pub struct Wanted {
     /// How many trees are before that place.
@@ -77,6 +76,16 @@ impl Wanted {
         }
         self.list(unit)
     }
+
+    // Notes that the expression ends after that many trees.
+    fn stop(&mut self, passed: usize)
+        ensures { IsStopped passed self.old self.new }
+    {
+        if self.passed < passed {
+            self.passed = passed;
+            self.units.clear();
+        }
+    }
 }
 
 // Returns the unit that an expression tries as it begins: itself, or the first part of a sequence.
@@ -128,7 +137,7 @@ fn more_negations(rules: &[Rule], at: usize, negations: usize) -> usize
 }
 
 // Returns how many negations wait after the newest frame has its answer.
-fn fewer_negations(frames: &[Frame<'_>], negations: usize) -> usize
+fn fewer_negations(frames: &[Frame], negations: usize) -> usize
     ensures { result ≡ fewer_negations (slice_get frames.now (length frames.now - 1)) negations }
 {
     match frames.last() {
@@ -138,7 +147,7 @@ fn fewer_negations(frames: &[Frame<'_>], negations: usize) -> usize
 }
 
 // Returns how many negations wait after the next step.
-fn negations_after(rules: &[Rule], state: State, frames: &[Frame<'_>], negations: usize) -> usize
+fn negations_after(rules: &[Rule], state: State, frames: &[Frame], negations: usize) -> usize
     requires few { negations ≤ length frames.now }
     ensures { result ≡ negations_after rules.now state (slice_get frames.now (length frames.now - 1)) negations }
 {
@@ -160,37 +169,52 @@ fn unknown<'t>(table: Table<'t>) -> Table<'t>
     }
 }
 
-// Returns what the expression wants from that place on, by a table of which nothing is known.
-fn wanted_from<'t>(
+// Returns what the expression wants, by a table of which nothing is known.
+fn wanted_from(
     alloc: Global,
     table: Table<'_>,
     at: usize,
-    from: Place<'t>,
+    trees: TokenTreesView<'_>,
 ) -> Result<Wanted, AllocError>
     requires known { table.known.now ≡ [] }
-    ensures { IfOk result (λ it. IsFarthest table.entry.rules.now at (position_of [] from.entry) it.passed it.units.items) }
+    ensures { IfOk result (λ it. IsFarthest table.entry.rules.now at (first_position (trees_of trees.entry)) it.passed it.units.items) }
 {
+    let mut units = Units::new(alloc, trees);
+    units.reach(0)?;
     let mut frames = Vec::new(alloc);
     let mut log = Vec::new(alloc);
-    let mut here = from;
+    let mut here = 0;
     let mut state = State::Reading(at);
     let mut waiting = 0;
     let mut wanted = Wanted {
-        passed: from.passed(),
+        passed: 0,
         units: Vec::new(alloc),
     };
     loop {
-        note_step(table.rules, state, here.passed(), waiting, &mut wanted)?;
+        note_step(table.rules, state, here, waiting, &mut wanted)?;
         waiting = negations_after(table.rules, state, &frames, waiting);
-        match step(false, table, state, &mut here, &mut log, &mut frames)? {
+        match step(
+            false,
+            table,
+            state,
+            &mut units,
+            &mut here,
+            &mut log,
+            &mut frames,
+        )? {
             Next::Goes(next) => state = next,
-            Next::Ends(_) => return Ok(wanted),
+            Next::Ends(ends) => {
+                if ends {
+                    wanted.stop(here);
+                }
+                return Ok(wanted);
+            }
         }
     }
 }
 
-/// Returns the farthest place among the trees where the expression at that index of the table tries a unit, and the units that it tries
-/// there: what is wanted, if the expression does not take all trees. Fails only if memory runs out.
+/// Returns the farthest place among the trees where the expression at that index of the table tries a unit or ends, and the units that it
+/// tries there: what is wanted, if the expression does not take all trees. Fails only if memory runs out.
 pub fn find_wanted(
     alloc: Global,
     table: Table<'_>,
@@ -199,5 +223,5 @@ pub fn find_wanted(
 ) -> Result<Wanted, AllocError>
     ensures { IfOk result (λ it. IsFarthest table.entry.rules.now at (first_position (trees_of trees.entry)) it.passed it.units.items) }
 {
-    wanted_from(alloc, unknown(table), at, Place::first(trees))
+    wanted_from(alloc, unknown(table), at, trees)
 }

@@ -63,7 +63,7 @@ module _ (number hi : ℕ) where
     pub bound : named.bound ≡ listed its
     pub bounds : bounds_by it.nest it.number notes ≡ its
     pub counts : (so_far : ℕ) → counts_by number so_far notes ≡ (so_far + length its) ∷ []
-    pub told : (so_far : ℕ) → counted number so_far notes ≡ 0
+    pub none_counted : (so_far : ℕ) → counted number so_far notes ≡ 0
     pub whole : IsWhole it.nest it.number notes
 
   abbrev pub AreListed : List Where → List Note → Binding → Type 0
@@ -96,7 +96,7 @@ module _ (number hi : ℕ) where
           bound = refl;
           bounds = bounds-lacks it.nest it.number (ended number ∷ []) lacks;
           counts = λ so_far. let plus : so_far ≡ so_far + 0 = omega arith in ap (λ b. cond b (so_far ∷ []) []) (same_number number) ∙ ap (λ n. n ∷ []) plus;
-          told = λ so_far. ap (λ b. cond b 0 so_far) (same_number number);
+          none_counted = λ so_far. ap (λ b. cond b 0 so_far) (same_number number);
           whole = whole-lacks it.nest it.number (ended number ∷ []) lacks;
         },
         over_listed its those x.1 from.1,
@@ -126,10 +126,10 @@ module _ (number hi : ℕ) where
               ∙ ap₂ (λ l n. l ++ counts_by number n others) (counts-lacks number (suc so_far) notes lacks) (counted-lacks number (suc so_far) notes lacks)
               ∙ y.0.counts (suc so_far)
               ∙ ap (λ n. n ∷ []) plus;
-          told = λ so_far.
+          none_counted = λ so_far.
               ap (λ c. cond c (counted number (suc so_far) (notes ++ others)) (counted number so_far (notes ++ others))) (same_number number)
               ∙ counted-append number (suc so_far) notes others
-              ∙ y.0.told (counted number (suc so_far) notes);
+              ∙ y.0.none_counted (counted number (suc so_far) notes);
           whole =
               whole-append it.nest it.number (begun number ∷ []) (notes ++ others) (whole-lacks it.nest it.number (begun number ∷ []) own)
               (whole-append it.nest it.number notes others x.0.whole y.0.whole);
@@ -149,7 +149,7 @@ module _ (number hi : ℕ) where
         record {
           variable = x.0.variable;
           bounds = ap₂ grouped counts x.0.bounds ∙ ap (λ l. listed l ∷ []) (take-length x.0.its) ∙ ap (λ l. l ∷ []) (sym x.0.bound);
-          whole = (ap total counts ∙ all_of (length x.0.its) (length (bounds_by it.nest it.number notes)) same, x.0.told 0, x.0.whole);
+          whole = (ap total counts ∙ all_of (length x.0.its) (length (bounds_by it.nest it.number notes)) same, x.0.none_counted 0, x.0.whole);
         },
         held_agree its notes a x.1,
       )

@@ -18,10 +18,10 @@ use Rattle.mbe_matcher.specs.Places.{Passes, passed, onward}
 use Rattle.mbe_matcher.specs.Closures.{is_here, passes_nothing, passes_nothing_at, goes_at_once, AreClosed, closure_one, closure_all, closure, IsClosure, may_pass_nothing, may_pass_nothing_at, AreBelow, AreRanked}
 use Rattle.mbe_matcher.specs.Threads.{View, view_of, views_of, IsGrown, meet, doubled, added, delayed, turned, spread, edges_of}
 use Rattle.mbe_matcher.proofs.Ending.{passed_end}
-use Rattle.mbe_matcher.proofs.Leading.{Config, thread, fan, threads, IsMany, Leads, Told, told_spread, told_added, becomes_fan}
+use Rattle.mbe_matcher.proofs.Leading.{Config, thread, fan, threads, IsMany, Leads, Cover, cover_spread, cover_added, becomes_fan}
 use Rattle.mbe_matcher.proofs.Logs.{view_kept}
-use Rattle.mbe_matcher.proofs.Stands.{AreGoingAtOnce, stands_once}
-use Rattle.mbe_matcher.proofs.Telling as telling
+use Rattle.mbe_matcher.proofs.HasArrived.{AreGoingAtOnce, arrived_once}
+use Rattle.mbe_matcher.proofs.Covering as covering
 use Rattle.mbe_pattern.specs.Patterns.{may_take_none}
 
 -- A fragment that takes nothing takes what is there, and none of it.
@@ -102,39 +102,39 @@ module _ (places : List Place) (Last : Option Place → List Forest → Type 0) 
   abbrev levels : List Forest
   levels = trees ∷ outer
 
-  told_one : (view : View) (old : List View) (olds : List Config) → (is_here trees view.wait ≡ true → (place : Place) → passes_nothing (label_of place.atom) trees ≡ true → Last (Some place) levels → ⊥)
-      → Told places Last Whole (threads levels old) (thread levels view ∷ olds)
-      → Told places Last Whole (threads levels (closure_one places trees view old)) olds
-  told_one view old olds goes_on told = by (goes_at_once places trees view.at view.wait) refl
+  cover_one : (view : View) (old : List View) (olds : List Config) → (is_here trees view.wait ≡ true → (place : Place) → passes_nothing (label_of place.atom) trees ≡ true → Last (Some place) levels → ⊥)
+      → Cover places Last Whole (threads levels old) (thread levels view ∷ olds)
+      → Cover places Last Whole (threads levels (closure_one places trees view old)) olds
+  cover_one view old olds goes_on cover = by (goes_at_once places trees view.at view.wait) refl
     where
       goes : is_here trees view.wait ≡ true → (place : Option Place) → slice_get places view.at ≡ place → passes_nothing_at place trees ≡ true
-          → Told places Last Whole (threads levels (spread (delayed 0 view) 0 (edges_of place) old)) olds
+          → Cover places Last Whole (threads levels (spread (delayed 0 view) 0 (edges_of place) old)) olds
       goes here None found h = absurd (cc h)
       goes here (Some place) found h =
           let is = at_once (label_of place.atom) trees outer h in
-          told_spread places Last Whole levels (delayed 0 view) 0 place.edges.items old olds
-          (telling.told_same Config (Leads places Last) IsMany Whole (threads levels old) olds (thread levels view) (fan 0 place.edges.items levels (delayed 0 view)) told
+          cover_spread places Last Whole levels (delayed 0 view) 0 place.edges.items old olds
+          (covering.cover_same Config (Leads places Last) IsMany Whole (threads levels old) olds (thread levels view) (fan 0 place.edges.items levels (delayed 0 view)) cover
           (becomes_fan places Last levels view (here_is trees view.wait outer here) place found 0 levels is.stays is.passes (goes_on here place h)))
 
       by : (b : Bool) → goes_at_once places trees view.at view.wait ≡ b
-          → Told places Last Whole (threads levels (cond b (spread (delayed 0 view) 0 (edges_of (slice_get places view.at)) old) (added view old))) olds
+          → Cover places Last Whole (threads levels (cond b (spread (delayed 0 view) 0 (edges_of (slice_get places view.at)) old) (added view old))) olds
       by true h =
           goes (both_left (is_here trees view.wait) (passes_nothing_at (slice_get places view.at) trees) h) (slice_get places view.at) refl
           (both_right (is_here trees view.wait) (passes_nothing_at (slice_get places view.at) trees) h)
-      by false h = told_added places Last Whole levels view old olds (telling.told_over Config (Leads places Last) IsMany Whole (threads levels old) olds (thread levels view) told)
+      by false h = cover_added places Last Whole levels view old olds (covering.cover_over Config (Leads places Last) IsMany Whole (threads levels old) olds (thread levels view) cover)
 
-  told_all : (views old : List View) (olds : List Config) → AreGoingAtOnce Last levels trees views → Told places Last Whole (threads levels old) (threads levels views ++ olds)
-      → Told places Last Whole (threads levels (closure_all places trees views old)) olds
-  told_all [] old olds goes_on told = told
-  told_all (view ∷ views) old olds goes_on told =
-      told_all views (closure_one places trees view old) olds (λ stands. goes_on (inr stands)) (told_one view old (threads levels views ++ olds) (λ here. goes_on (inl here)) told)
+  cover_all : (views old : List View) (olds : List Config) → AreGoingAtOnce Last levels trees views → Cover places Last Whole (threads levels old) (threads levels views ++ olds)
+      → Cover places Last Whole (threads levels (closure_all places trees views old)) olds
+  cover_all [] old olds goes_on cover = cover
+  cover_all (view ∷ views) old olds goes_on cover =
+      cover_all views (closure_one places trees view old) olds (λ arrived. goes_on (inr arrived)) (cover_one view old (threads levels views ++ olds) (λ here. goes_on (inl here)) cover)
 
-  pub told_closure : (n : ℕ) (views : List View) (olds : List Config) → AreGoingAtOnce Last levels trees views → Told places Last Whole [] (threads levels views ++ olds)
-      → Told places Last Whole [] (threads levels (closure places trees n views) ++ olds)
-  told_closure zero views olds goes_on told = told
-  told_closure (suc n) views olds goes_on told =
-      told_closure n (closure_all places trees views []) olds (λ stands. goes_on (stands_once trees places views stands))
-      (telling.told_joined Config (Leads places Last) IsMany Whole (threads levels (closure_all places trees views [])) olds (told_all views [] olds goes_on told))
+  pub cover_closure : (n : ℕ) (views : List View) (olds : List Config) → AreGoingAtOnce Last levels trees views → Cover places Last Whole [] (threads levels views ++ olds)
+      → Cover places Last Whole [] (threads levels (closure places trees n views) ++ olds)
+  cover_closure zero views olds goes_on cover = cover
+  cover_closure (suc n) views olds goes_on cover =
+      cover_closure n (closure_all places trees views []) olds (λ arrived. goes_on (arrived_once trees places views arrived))
+      (covering.cover_joined Config (Leads places Last) IsMany Whole (threads levels (closure_all places trees views [])) olds (cover_all views [] olds goes_on cover))
 
 module _ (places : List Place) (trees : Forest) where
   module _ (view : View) (old : List View) where

@@ -11,13 +11,13 @@ use Rattle.mbe_pattern.specs.declared.pattern.RepeatKind.{RepeatKind}
 use Rattle.mbe_pattern.specs.declared.pattern.RepeatKind.TheVariants as repeat
 use Rattle.mbe_matcher.specs.Labels as label
 use Rattle.mbe_matcher.specs.declared.places.Place.{Place}
-use Rattle.mbe_matcher.specs.Compiled.{Stop, Stand, separator_count, place_count, entries, again, separator_stops, stops}
+use Rattle.mbe_matcher.specs.Compiled.{Stop, AreLaid, separator_count, place_count, entries, again, separator_stops, stops}
 use Rattle.mbe_matcher.specs.Fragments.{left_by}
 use Rattle.mbe_matcher.specs.Paths.{firsts, entry_count, path_of, path_of_others, path_of_rounds}
 use Rattle.mbe_pattern.specs.Patterns.{Pattern, nothing, variable, token, subtree, repetition, may_be_empty, may_be_more, IsFull}
 use Rattle.mbe_matcher.specs.Places.{Goes}
 use Rattle.mbe_matcher.specs.Readings.{Reading, done, took, held, round, over, inside_of, more_of, Takes, AreRounds, AreOtherRounds, Separates}
-use Rattle.mbe_matcher.proofs.Via.{Via, stand_left, stand_right, via_left, via_right, goes_by}
+use Rattle.mbe_matcher.proofs.Via.{Via, laid_left, laid_right, via_left, via_right, goes_by}
 
 -- How many places a pattern has.
 pub length-separator : (separator : List Leaf) (behind : List ℕ) → length (separator_stops separator behind) ≡ separator_count separator
@@ -61,49 +61,49 @@ entries_full at (repetition inner separator repeat.ZeroOrOne others) behind full
 
 -- The places of a pattern include the places of its parts.
 module _ (places : List Place) (at : ℕ) (inner others : Pattern) (behind : List ℕ) where
-  module _ (kind : DelimiterKind) (stand : Stand places at (stops at (subtree kind inner others) behind)) where
-    pub stand_inside : Stand places (suc at) (stops (suc at) inner ((suc at + place_count inner) ∷ []))
-    stand_inside =
-        stand_left places (suc at) (stops (suc at) inner ((suc at + place_count inner) ∷ []))
-        (record { label = label.leave; edges = entries (suc (suc at + place_count inner)) others behind } ∷ stops (suc (suc at + place_count inner)) others behind) stand.1
+  module _ (kind : DelimiterKind) (laid : AreLaid places at (stops at (subtree kind inner others) behind)) where
+    pub laid_inside : AreLaid places (suc at) (stops (suc at) inner ((suc at + place_count inner) ∷ []))
+    laid_inside =
+        laid_left places (suc at) (stops (suc at) inner ((suc at + place_count inner) ∷ []))
+        (record { label = label.leave; edges = entries (suc (suc at + place_count inner)) others behind } ∷ stops (suc (suc at + place_count inner)) others behind) laid.1
 
-    pub stand_leave : Stand places (suc at + place_count inner)
+    pub laid_leave : AreLaid places (suc at + place_count inner)
         (record { label = label.leave; edges = entries (suc (suc at + place_count inner)) others behind } ∷ stops (suc (suc at + place_count inner)) others behind)
-    stand_leave =
-        stand_right places (suc at) (suc at + place_count inner) (stops (suc at) inner ((suc at + place_count inner) ∷ []))
+    laid_leave =
+        laid_right places (suc at) (suc at + place_count inner) (stops (suc at) inner ((suc at + place_count inner) ∷ []))
         (record { label = label.leave; edges = entries (suc (suc at + place_count inner)) others behind } ∷ stops (suc (suc at + place_count inner)) others behind)
-        (omega (arith, length-stops (suc at) inner ((suc at + place_count inner) ∷ []))) stand.1
+        (omega (arith, length-stops (suc at) inner ((suc at + place_count inner) ∷ []))) laid.1
 
-  module _ (separator : List Leaf) (op : RepeatKind) (stand : Stand places at (stops at (repetition inner separator op others) behind)) where
+  module _ (separator : List Leaf) (op : RepeatKind) (laid : AreLaid places at (stops at (repetition inner separator op others) behind)) where
     abbrev round_stops : List Stop
     round_stops = stops at inner (again at inner separator op ++ entries (at + place_count inner + separator_count separator) others behind)
 
     abbrev behind_stops : List Stop
     behind_stops = stops (at + place_count inner + separator_count separator) others behind
 
-    pub stand_round : Stand places at (stops at inner (again at inner separator op ++ entries (at + place_count inner + separator_count separator) others behind))
-    stand_round = stand_left places at round_stops (separator_stops separator (entries at inner []) ++ behind_stops) stand
+    pub laid_round : AreLaid places at (stops at inner (again at inner separator op ++ entries (at + place_count inner + separator_count separator) others behind))
+    laid_round = laid_left places at round_stops (separator_stops separator (entries at inner []) ++ behind_stops) laid
 
-    behind_round : Stand places (at + place_count inner) (separator_stops separator (entries at inner []) ++ behind_stops)
+    behind_round : AreLaid places (at + place_count inner) (separator_stops separator (entries at inner []) ++ behind_stops)
     behind_round =
-        stand_right places at (at + place_count inner) round_stops (separator_stops separator (entries at inner []) ++ behind_stops)
-        (omega (arith, length-stops at inner (again at inner separator op ++ entries (at + place_count inner + separator_count separator) others behind))) stand
+        laid_right places at (at + place_count inner) round_stops (separator_stops separator (entries at inner []) ++ behind_stops)
+        (omega (arith, length-stops at inner (again at inner separator op ++ entries (at + place_count inner + separator_count separator) others behind))) laid
 
-    pub stand_separator : Stand places (at + place_count inner) (separator_stops separator (entries at inner []))
-    stand_separator = stand_left places (at + place_count inner) (separator_stops separator (entries at inner [])) behind_stops behind_round
+    pub laid_separator : AreLaid places (at + place_count inner) (separator_stops separator (entries at inner []))
+    laid_separator = laid_left places (at + place_count inner) (separator_stops separator (entries at inner [])) behind_stops behind_round
 
-    pub stand_behind : Stand places (at + place_count inner + separator_count separator) (stops (at + place_count inner + separator_count separator) others behind)
-    stand_behind =
-        stand_right places (at + place_count inner) (at + place_count inner + separator_count separator) (separator_stops separator (entries at inner [])) behind_stops
+    pub laid_behind : AreLaid places (at + place_count inner + separator_count separator) (stops (at + place_count inner + separator_count separator) others behind)
+    laid_behind =
+        laid_right places (at + place_count inner) (at + place_count inner + separator_count separator) (separator_stops separator (entries at inner [])) behind_stops
         (omega (arith, length-separator separator (entries at inner []))) behind_round
 
 module _ (places : List Place) (Last : Option Place → List Forest → Type 0) where
   -- A separator leads to a round.
   from_separator : (at : ℕ) (it : Leaf) (others : List Leaf) (behind : List ℕ) (input rest : Forest) (outer : List Forest) (path : List ℕ)
-      → Stand places at (separator_stops (it ∷ others) behind) → Separates (it ∷ others) input rest → Via places Last behind (rest ∷ outer) path
+      → AreLaid places at (separator_stops (it ∷ others) behind) → Separates (it ∷ others) input rest → Via places Last behind (rest ∷ outer) path
       → Goes places Last at (input ∷ outer) path
-  from_separator at it others behind input rest outer path stand separates via =
-      goes_by places Last (input ∷ outer) at (record { label = label.same (it ∷ others); edges = behind }) stand.0 path separates.0
+  from_separator at it others behind input rest outer path laid separates via =
+      goes_by places Last (input ∷ outer) at (record { label = label.same (it ∷ others); edges = behind }) laid.0 path separates.0
       (subst (λ r. Via places Last behind (r ∷ outer) path) separates.1 via)
 
   -- The same of the paths that lead into it.
@@ -114,21 +114,21 @@ module _ (places : List Place) (Last : Option Place → List Forest → Type 0) 
   -- A round leads to another round.
   module _ (at : ℕ) (inner : Pattern) (outer : List Forest) where
     pub again_via : (separator : List Leaf) (op : RepeatKind) (input rest : Forest) (path : List ℕ)
-        → Stand places (at + place_count inner) (separator_stops separator (entries at inner []))
+        → AreLaid places (at + place_count inner) (separator_stops separator (entries at inner []))
         → may_be_more op ≡ true → Separates separator input rest → Via places Last (entries at inner []) (rest ∷ outer) path
         → Via places Last (again at inner separator op) (input ∷ outer) (firsts separator path)
-    again_via separator repeat.ZeroOrOne input rest path stands more separates via = absurd (cc more)
-    again_via [] repeat.ZeroOrMore input rest path stands more separates via = subst (λ r. Via places Last (entries at inner []) (r ∷ outer) path) separates via
-    again_via [] repeat.OneOrMore input rest path stands more separates via = subst (λ r. Via places Last (entries at inner []) (r ∷ outer) path) separates via
-    again_via (it ∷ others) repeat.ZeroOrMore input rest path stands more separates via =
-        from_separator (at + place_count inner) it others (entries at inner []) input rest outer path stands separates via
-    again_via (it ∷ others) repeat.OneOrMore input rest path stands more separates via =
-        from_separator (at + place_count inner) it others (entries at inner []) input rest outer path stands separates via
+    again_via separator repeat.ZeroOrOne input rest path arrived more separates via = absurd (cc more)
+    again_via [] repeat.ZeroOrMore input rest path arrived more separates via = subst (λ r. Via places Last (entries at inner []) (r ∷ outer) path) separates via
+    again_via [] repeat.OneOrMore input rest path arrived more separates via = subst (λ r. Via places Last (entries at inner []) (r ∷ outer) path) separates via
+    again_via (it ∷ others) repeat.ZeroOrMore input rest path arrived more separates via =
+        from_separator (at + place_count inner) it others (entries at inner []) input rest outer path arrived separates via
+    again_via (it ∷ others) repeat.OneOrMore input rest path arrived more separates via =
+        from_separator (at + place_count inner) it others (entries at inner []) input rest outer path arrived separates via
 
   -- The places of a pattern read what it takes.
   module _ (at : ℕ) (inner : Pattern) (separator : List Leaf) (op : RepeatKind) (over_edges : List ℕ) (Behind : Forest → Reading → Type 0) (behind_path : Reading → List ℕ)
       (outer : List Forest) (full : may_be_empty inner ≡ false) (all : IsFull inner)
-      (stand : Stand places (at + place_count inner) (separator_stops separator (entries at inner [])))
+      (laid : AreLaid places (at + place_count inner) (separator_stops separator (entries at inner [])))
       (one : (input : Forest) (this : Reading) (rest : Forest) (tail : List ℕ) → Takes inner input this rest
       → Via places Last (again at inner separator op ++ over_edges) (rest ∷ outer) tail
       → Via places Last (entries at inner (again at inner separator op ++ over_edges)) (input ∷ outer) (path_of at inner this tail))
@@ -151,7 +151,7 @@ module _ (places : List Place) (Last : Option Place → List Forest → Type 0) 
     others_via (round this others) input (start, rest, more, separates, takes, rounds) =
         let tail = path_of_others separator (length (again at inner separator op)) (path_of at inner) behind_path others in
         via_left places Last (input ∷ outer) (again at inner separator op) over_edges (firsts separator (path_of at inner this tail))
-        (again_via at inner outer separator op input start (path_of at inner this tail) stand more separates
+        (again_via at inner outer separator op input start (path_of at inner this tail) laid more separates
         (one_on start this rest tail takes (others_via others rest rounds)))
     others_via (over more) input rounds =
         via_right places Last (input ∷ outer) (again at inner separator op) over_edges (behind_path more) (behind_via input more rounds)
@@ -166,7 +166,7 @@ module _ (places : List Place) (Last : Option Place → List Forest → Type 0) 
   -- The places read rounds and what follows them.
   rounds_via : (at : ℕ) (inner : Pattern) (separator : List Leaf) (op : RepeatKind) (others : Pattern) (behind : List ℕ) (Behind : Forest → Reading → Type 0) (behind_path : Reading → List ℕ)
       (outer : List Forest) (full : may_be_empty inner ≡ false) (all : IsFull inner)
-      (stand : Stand places (at + place_count inner) (separator_stops separator (entries at inner [])))
+      (laid : AreLaid places (at + place_count inner) (separator_stops separator (entries at inner [])))
       (one : (input : Forest) (this : Reading) (rest : Forest) (tail : List ℕ) → Takes inner input this rest
       → Via places Last (again at inner separator op ++ entries (at + place_count inner + separator_count separator) others behind) (rest ∷ outer) tail
       → Via places Last (entries at inner (again at inner separator op ++ entries (at + place_count inner + separator_count separator) others behind)) (input ∷ outer) (path_of at inner this tail))
@@ -174,60 +174,60 @@ module _ (places : List Place) (Last : Option Place → List Forest → Type 0) 
       (input : Forest) (reading : Reading) → AreRounds op separator (Takes inner) Behind input reading
       → Via places Last (entries at (repetition inner separator op others) behind) (input ∷ outer)
       (path_of_rounds separator (entry_count at inner) (length (again at inner separator op)) (path_of at inner) behind_path reading)
-  rounds_via at inner separator repeat.ZeroOrMore others behind Behind behind_path outer full all stand one behind_via input done rounds = absurd rounds
-  rounds_via at inner separator repeat.ZeroOrMore others behind Behind behind_path outer full all stand one behind_via input (took trees more) rounds = absurd rounds
-  rounds_via at inner separator repeat.ZeroOrMore others behind Behind behind_path outer full all stand one behind_via input (held inside more) rounds = absurd rounds
-  rounds_via at inner separator repeat.ZeroOrMore others behind Behind behind_path outer full all stand one behind_via input (round this more_rounds) (rest, takes, rounds) =
+  rounds_via at inner separator repeat.ZeroOrMore others behind Behind behind_path outer full all laid one behind_via input done rounds = absurd rounds
+  rounds_via at inner separator repeat.ZeroOrMore others behind Behind behind_path outer full all laid one behind_via input (took trees more) rounds = absurd rounds
+  rounds_via at inner separator repeat.ZeroOrMore others behind Behind behind_path outer full all laid one behind_via input (held inside more) rounds = absurd rounds
+  rounds_via at inner separator repeat.ZeroOrMore others behind Behind behind_path outer full all laid one behind_via input (round this more_rounds) (rest, takes, rounds) =
       via_left places Last (input ∷ outer) (entries at inner []) (entries (at + place_count inner + separator_count separator) others behind)
       (path_of at inner this (path_of_others separator (length (again at inner separator repeat.ZeroOrMore)) (path_of at inner) behind_path more_rounds))
-      (first_via at inner separator repeat.ZeroOrMore (entries (at + place_count inner + separator_count separator) others behind) Behind behind_path outer full all stand one behind_via this more_rounds input rest takes rounds)
-  rounds_via at inner separator repeat.ZeroOrMore others behind Behind behind_path outer full all stand one behind_via input (over more) rounds =
+      (first_via at inner separator repeat.ZeroOrMore (entries (at + place_count inner + separator_count separator) others behind) Behind behind_path outer full all laid one behind_via this more_rounds input rest takes rounds)
+  rounds_via at inner separator repeat.ZeroOrMore others behind Behind behind_path outer full all laid one behind_via input (over more) rounds =
       via_right places Last (input ∷ outer) (entries at inner []) (entries (at + place_count inner + separator_count separator) others behind) (behind_path more) (behind_via input more rounds.1)
-  rounds_via at inner separator repeat.ZeroOrOne others behind Behind behind_path outer full all stand one behind_via input done rounds = absurd rounds
-  rounds_via at inner separator repeat.ZeroOrOne others behind Behind behind_path outer full all stand one behind_via input (took trees more) rounds = absurd rounds
-  rounds_via at inner separator repeat.ZeroOrOne others behind Behind behind_path outer full all stand one behind_via input (held inside more) rounds = absurd rounds
-  rounds_via at inner separator repeat.ZeroOrOne others behind Behind behind_path outer full all stand one behind_via input (round this more_rounds) (rest, takes, rounds) =
+  rounds_via at inner separator repeat.ZeroOrOne others behind Behind behind_path outer full all laid one behind_via input done rounds = absurd rounds
+  rounds_via at inner separator repeat.ZeroOrOne others behind Behind behind_path outer full all laid one behind_via input (took trees more) rounds = absurd rounds
+  rounds_via at inner separator repeat.ZeroOrOne others behind Behind behind_path outer full all laid one behind_via input (held inside more) rounds = absurd rounds
+  rounds_via at inner separator repeat.ZeroOrOne others behind Behind behind_path outer full all laid one behind_via input (round this more_rounds) (rest, takes, rounds) =
       via_left places Last (input ∷ outer) (entries at inner []) (entries (at + place_count inner + separator_count separator) others behind)
       (path_of at inner this (path_of_others separator (length (again at inner separator repeat.ZeroOrOne)) (path_of at inner) behind_path more_rounds))
-      (first_via at inner separator repeat.ZeroOrOne (entries (at + place_count inner + separator_count separator) others behind) Behind behind_path outer full all stand one behind_via this more_rounds input rest takes rounds)
-  rounds_via at inner separator repeat.ZeroOrOne others behind Behind behind_path outer full all stand one behind_via input (over more) rounds =
+      (first_via at inner separator repeat.ZeroOrOne (entries (at + place_count inner + separator_count separator) others behind) Behind behind_path outer full all laid one behind_via this more_rounds input rest takes rounds)
+  rounds_via at inner separator repeat.ZeroOrOne others behind Behind behind_path outer full all laid one behind_via input (over more) rounds =
       via_right places Last (input ∷ outer) (entries at inner []) (entries (at + place_count inner + separator_count separator) others behind) (behind_path more) (behind_via input more rounds.1)
-  rounds_via at inner separator repeat.OneOrMore others behind Behind behind_path outer full all stand one behind_via input done rounds = absurd rounds
-  rounds_via at inner separator repeat.OneOrMore others behind Behind behind_path outer full all stand one behind_via input (took trees more) rounds = absurd rounds
-  rounds_via at inner separator repeat.OneOrMore others behind Behind behind_path outer full all stand one behind_via input (held inside more) rounds = absurd rounds
-  rounds_via at inner separator repeat.OneOrMore others behind Behind behind_path outer full all stand one behind_via input (round this more_rounds) (rest, takes, rounds) =
-      first_via at inner separator repeat.OneOrMore (entries (at + place_count inner + separator_count separator) others behind) Behind behind_path outer full all stand one behind_via this more_rounds input rest takes rounds
-  rounds_via at inner separator repeat.OneOrMore others behind Behind behind_path outer full all stand one behind_via input (over more) rounds = absurd (cc rounds.0)
+  rounds_via at inner separator repeat.OneOrMore others behind Behind behind_path outer full all laid one behind_via input done rounds = absurd rounds
+  rounds_via at inner separator repeat.OneOrMore others behind Behind behind_path outer full all laid one behind_via input (took trees more) rounds = absurd rounds
+  rounds_via at inner separator repeat.OneOrMore others behind Behind behind_path outer full all laid one behind_via input (held inside more) rounds = absurd rounds
+  rounds_via at inner separator repeat.OneOrMore others behind Behind behind_path outer full all laid one behind_via input (round this more_rounds) (rest, takes, rounds) =
+      first_via at inner separator repeat.OneOrMore (entries (at + place_count inner + separator_count separator) others behind) Behind behind_path outer full all laid one behind_via this more_rounds input rest takes rounds
+  rounds_via at inner separator repeat.OneOrMore others behind Behind behind_path outer full all laid one behind_via input (over more) rounds = absurd (cc rounds.0)
 
   pub from_reading : (at : ℕ) (pattern : Pattern) (behind : List ℕ) (input : Forest) (reading : Reading) (rest : Forest) (outer : List Forest) (tail : List ℕ)
-      → IsFull pattern → Stand places at (stops at pattern behind) → Takes pattern input reading rest → Via places Last behind (rest ∷ outer) tail
+      → IsFull pattern → AreLaid places at (stops at pattern behind) → Takes pattern input reading rest → Via places Last behind (rest ∷ outer) tail
       → Via places Last (entries at pattern behind) (input ∷ outer) (path_of at pattern reading tail)
-  from_reading at nothing behind input reading rest outer tail full stand takes via = subst (λ r. Via places Last behind (r ∷ outer) tail) takes.1 via
-  from_reading at (variable it others) behind input reading rest outer tail full stand (more, is, taken, takes) via =
-      goes_by places Last (input ∷ outer) at (record { label = label.take it; edges = entries (suc at) others behind }) stand.0
+  from_reading at nothing behind input reading rest outer tail full laid takes via = subst (λ r. Via places Last behind (r ∷ outer) tail) takes.1 via
+  from_reading at (variable it others) behind input reading rest outer tail full laid (more, is, taken, takes) via =
+      goes_by places Last (input ∷ outer) at (record { label = label.take it; edges = entries (suc at) others behind }) laid.0
       (path_of (suc at) others (more_of reading) tail) taken
       (subst (λ r. Via places Last (entries (suc at) others behind) (left_by it.fragment input ∷ outer) (path_of (suc at) others (more_of r) tail)) (sym is)
-      (from_reading (suc at) others behind (left_by it.fragment input) more rest outer tail full stand.1 takes via))
-  from_reading at (token it others) behind input reading rest outer tail full stand takes via =
-      goes_by places Last (input ∷ outer) at (record { label = label.same it; edges = entries (suc at) others behind }) stand.0
+      (from_reading (suc at) others behind (left_by it.fragment input) more rest outer tail full laid.1 takes via))
+  from_reading at (token it others) behind input reading rest outer tail full laid takes via =
+      goes_by places Last (input ∷ outer) at (record { label = label.same it; edges = entries (suc at) others behind }) laid.0
       (path_of (suc at) others reading tail) takes.0
-      (from_reading (suc at) others behind (after_trees (length it) input) reading rest outer tail full stand.1 takes.1 via)
-  from_reading at (subtree kind inner others) behind input reading rest outer tail full stand (inside, more, is, node, takes, further) via =
+      (from_reading (suc at) others behind (after_trees (length it) input) reading rest outer tail full laid.1 takes.1 via)
+  from_reading at (subtree kind inner others) behind input reading rest outer tail full laid (inside, more, is, node, takes, further) via =
       let leave = suc at + place_count inner in
       let last : Stop = record { label = label.leave; edges = entries (suc leave) others behind } in
-      let later = stand_leave places at inner others behind kind stand in
+      let later = laid_leave places at inner others behind kind laid in
       let path = path_of (suc leave) others more tail in
       subst (λ r. Via places Last (at ∷ []) (input ∷ outer) (0 ∷ path_of (suc at) inner (inside_of r) (0 ∷ path_of (suc leave) others (more_of r) tail))) (sym is)
-      (goes_by places Last (input ∷ outer) at (record { label = label.enter kind; edges = entries (suc at) inner (leave ∷ []) }) stand.0
+      (goes_by places Last (input ∷ outer) at (record { label = label.enter kind; edges = entries (suc at) inner (leave ∷ []) }) laid.0
       (path_of (suc at) inner inside (0 ∷ path)) node
-      (from_reading (suc at) inner (leave ∷ []) (children_of input) inside end (after_tree input ∷ outer) (0 ∷ path) full.0 (stand_inside places at inner others behind kind stand) takes
+      (from_reading (suc at) inner (leave ∷ []) (children_of input) inside end (after_tree input ∷ outer) (0 ∷ path) full.0 (laid_inside places at inner others behind kind laid) takes
       (goes_by places Last (end ∷ after_tree input ∷ outer) leave last later.0 path refl
       (from_reading (suc leave) others behind (after_tree input) more rest outer tail full.1 later.1 further via))))
-  from_reading at (repetition inner separator op others) behind input reading rest outer tail full stand rounds via =
+  from_reading at (repetition inner separator op others) behind input reading rest outer tail full laid rounds via =
       let after = at + place_count inner + separator_count separator in
       let next_edges = again at inner separator op ++ entries after others behind in
       rounds_via at inner separator op others behind (λ trees more. Takes others trees more rest) (λ more. path_of after others more tail) outer full.0 full.1
-      (stand_separator places at inner others behind separator op stand)
-      (λ trees this middle more takes on. from_reading at inner next_edges trees this middle outer more full.1 (stand_round places at inner others behind separator op stand) takes on)
-      (λ trees more takes. from_reading after others behind trees more rest outer tail full.2 (stand_behind places at inner others behind separator op stand) takes via)
+      (laid_separator places at inner others behind separator op laid)
+      (λ trees this middle more takes on. from_reading at inner next_edges trees this middle outer more full.1 (laid_round places at inner others behind separator op laid) takes on)
+      (λ trees more takes. from_reading after others behind trees more rest outer tail full.2 (laid_behind places at inner others behind separator op laid) takes via)
       input reading rounds

@@ -7,14 +7,14 @@ use Rattle.tt.specs.Moves.{after_tree}
 use Rattle.tt.specs.Siblings.{children_of}
 use Rattle.mbe_matcher.specs.Labels as label
 use Rattle.mbe_matcher.specs.declared.places.Place.{Place}
-use Rattle.mbe_matcher.specs.Compiled.{Stop, Stand, separator_count, place_count, entries, again, stops}
+use Rattle.mbe_matcher.specs.Compiled.{Stop, AreLaid, separator_count, place_count, entries, again, stops}
 use Rattle.mbe_matcher.specs.Fragments.{taken, left_by}
 use Rattle.mbe_matcher.specs.Fronts.{TakesUpTo}
 use Rattle.mbe_matcher.specs.Paths.{path_of}
 use Rattle.mbe_pattern.specs.Patterns.{Pattern, nothing, variable, token, subtree, repetition, IsFull}
 use Rattle.mbe_matcher.specs.Places.{Goes, Passes, left_in}
 use Rattle.mbe_matcher.specs.Readings.{done, took, held, Takes}
-use Rattle.mbe_matcher.proofs.Compiling.{stand_inside, stand_leave, stand_round, stand_separator, stand_behind}
+use Rattle.mbe_matcher.proofs.Compiling.{laid_inside, laid_leave, laid_round, laid_separator, laid_behind}
 use Rattle.mbe_matcher.proofs.DecompilingRounds.{Read, Halts, halts_with, halts_at, to_rounds}
 use Rattle.mbe_matcher.proofs.Fronts.{whole_front}
 use Rattle.mbe_matcher.proofs.Via.{Via, via_one, comes_by}
@@ -30,11 +30,11 @@ module _ (places : List Place) (Last : Option Place → List Forest → Type 0) 
 
   -- Each path that leads on from a pattern does one or the other.
   pub to_reading : (at : ℕ) (pattern : Pattern) (behind : List ℕ) (outer : List Forest) (input : Forest) (path : List ℕ)
-      → IsFull pattern → Stand places at (stops at pattern behind) → Via places Last (entries at pattern behind) (input ∷ outer) path → Found at pattern behind outer input path
-  to_reading at nothing behind outer input path full stand via =
+      → IsFull pattern → AreLaid places at (stops at pattern behind) → Via places Last (entries at pattern behind) (input ∷ outer) path → Found at pattern behind outer input path
+  to_reading at nothing behind outer input path full laid via =
       inl (record { reading = done; rest = input; tail = path; takes = (refl, refl); via = via; is = refl; shorter = omega arith; less = λ e. absurd (cc e) })
-  to_reading at (variable it others) behind outer input path full stand via =
-      first (via_one places Last (input ∷ outer) at path via) (λ more v. to_reading (suc at) others behind outer (left_by it.fragment input) more full stand.1 v)
+  to_reading at (variable it others) behind outer input path full laid via =
+      first (via_one places Last (input ∷ outer) at path via) (λ more v. to_reading (suc at) others behind outer (left_by it.fragment input) more full laid.1 v)
     where
       Further : List ℕ → Type 0
       Further more = Found (suc at) others behind outer (left_by it.fragment input) more
@@ -59,13 +59,13 @@ module _ (places : List Place) (Last : Option Place → List Forest → Type 0) 
 
       first : (more : List ℕ) × (path ≡ 0 ∷ more) × Goes places Last at (input ∷ outer) more
           → ((more : List ℕ) → Via places Last (entries (suc at) others behind) (left_by it.fragment input ∷ outer) more → Further more) → Found at (variable it others) behind outer input path
-      first (more, same, goes) further = elim (comes_by places Last (input ∷ outer) at stop stand.0 more goes) [
+      first (more, same, goes) further = elim (comes_by places Last (input ∷ outer) at stop laid.0 more goes) [
         | inl (none, last) ↦
-            inr (halts_at places Last at (input ∷ outer) stop stand.0 (λ leave ended. cc leave) last (TakesUpTo (variable it others) input (left_in outer)) (inl refl))
+            inr (halts_at places Last at (input ∷ outer) stop laid.0 (λ leave ended. cc leave) last (TakesUpTo (variable it others) input (left_in outer)) (inl refl))
         | inr (takes, v) ↦ on more same takes (further more v)
       ]
-  to_reading at (token its others) behind outer input path full stand via =
-      first (via_one places Last (input ∷ outer) at path via) (λ more v. to_reading (suc at) others behind outer (after_trees (length its) input) more full stand.1 v)
+  to_reading at (token its others) behind outer input path full laid via =
+      first (via_one places Last (input ∷ outer) at path via) (λ more v. to_reading (suc at) others behind outer (after_trees (length its) input) more full laid.1 v)
     where
       Further : List ℕ → Type 0
       Further more = Found (suc at) others behind outer (after_trees (length its) input) more
@@ -90,15 +90,15 @@ module _ (places : List Place) (Last : Option Place → List Forest → Type 0) 
 
       first : (more : List ℕ) × (path ≡ 0 ∷ more) × Goes places Last at (input ∷ outer) more
           → ((more : List ℕ) → Via places Last (entries (suc at) others behind) (after_trees (length its) input ∷ outer) more → Further more) → Found at (token its others) behind outer input path
-      first (more, same, goes) further = elim (comes_by places Last (input ∷ outer) at stop stand.0 more goes) [
+      first (more, same, goes) further = elim (comes_by places Last (input ∷ outer) at stop laid.0 more goes) [
         | inl (none, last) ↦
-            inr (halts_at places Last at (input ∷ outer) stop stand.0 (λ leave ended. cc leave) last (TakesUpTo (token its others) input (left_in outer)) (inl refl))
+            inr (halts_at places Last at (input ∷ outer) stop laid.0 (λ leave ended. cc leave) last (TakesUpTo (token its others) input (left_in outer)) (inl refl))
         | inr (like, v) ↦ on more same like (further more v)
       ]
-  to_reading at (subtree kind inner others) behind outer input path full stand via =
+  to_reading at (subtree kind inner others) behind outer input path full laid via =
       enter (via_one places Last (input ∷ outer) at path via)
-      (λ more v. to_reading (suc at) inner ((suc at + place_count inner) ∷ []) (after_tree input ∷ outer) (children_of input) more full.0 (stand_inside places at inner others behind kind stand) v)
-      (λ more v. to_reading (suc (suc at + place_count inner)) others behind outer (after_tree input) more full.1 (stand_leave places at inner others behind kind stand).1 v)
+      (λ more v. to_reading (suc at) inner ((suc at + place_count inner) ∷ []) (after_tree input ∷ outer) (children_of input) more full.0 (laid_inside places at inner others behind kind laid) v)
+      (λ more v. to_reading (suc (suc at + place_count inner)) others behind outer (after_tree input) more full.1 (laid_leave places at inner others behind kind laid).1 v)
     where
       Inner : List ℕ → Type 0
       Inner more = Found (suc at) inner ((suc at + place_count inner) ∷ []) (after_tree input ∷ outer) (children_of input) more
@@ -142,10 +142,10 @@ module _ (places : List Place) (Last : Option Place → List Forest → Type 0) 
           → ((more : List ℕ) → Via places Last (entries (suc (suc at + place_count inner)) others behind) (after_tree input ∷ outer) more → Further more)
           → Found at (subtree kind inner others) behind outer input path
       leave_by more same node inside (after, tail, goes) further =
-          let stands = (stand_leave places at inner others behind kind stand).0 in
-          elim (comes_by places Last (inside.rest ∷ after_tree input ∷ outer) (suc at + place_count inner) last_stop stands after goes) [
+          let arrived = (laid_leave places at inner others behind kind laid).0 in
+          elim (comes_by places Last (inside.rest ∷ after_tree input ∷ outer) (suc at + place_count inner) last_stop arrived after goes) [
             | inl (none, last) ↦
-                inr (halts_at places Last (suc at + place_count inner) (inside.rest ∷ after_tree input ∷ outer) last_stop stands
+                inr (halts_at places Last (suc at + place_count inner) (inside.rest ∷ after_tree input ∷ outer) last_stop arrived
                 (λ leave ended. not_outermost inside.rest (after_tree input) outer ended) last UpTo
                 (inr (node, inl (whole_front inner (children_of input) inside.reading inside.rest (left_in (after_tree input ∷ outer)) inside.takes))))
             | inr (ended, v) ↦ out more same node inside after tail ended (further after v)
@@ -162,16 +162,16 @@ module _ (places : List Place) (Last : Option Place → List Forest → Type 0) 
           → ((more : List ℕ) → Via places Last (entries (suc at) inner ((suc at + place_count inner) ∷ [])) (children_of input ∷ after_tree input ∷ outer) more → Inner more)
           → ((more : List ℕ) → Via places Last (entries (suc (suc at + place_count inner)) others behind) (after_tree input ∷ outer) more → Further more)
           → Found at (subtree kind inner others) behind outer input path
-      enter (more, same, goes) inner_of further = elim (comes_by places Last (input ∷ outer) at first stand.0 more goes) [
-        | inl (none, last) ↦ inr (halts_at places Last at (input ∷ outer) first stand.0 (λ leave ended. cc leave) last UpTo (inl refl))
+      enter (more, same, goes) inner_of further = elim (comes_by places Last (input ∷ outer) at first laid.0 more goes) [
+        | inl (none, last) ↦ inr (halts_at places Last at (input ∷ outer) first laid.0 (λ leave ended. cc leave) last UpTo (inl refl))
         | inr (node, v) ↦ within more same node (inner_of more v) further
       ]
-  to_reading at (repetition inner separator op others) behind outer input path full stand via =
+  to_reading at (repetition inner separator op others) behind outer input path full laid via =
       let after = at + place_count inner + separator_count separator in
       let next_edges = again at inner separator op ++ entries after others behind in
-      let sooner = stand_round places at inner others behind separator op stand in
-      let later = stand_behind places at inner others behind separator op stand in
-      to_rounds places Last at inner others behind outer separator op full.0 full.1 (stand_separator places at inner others behind separator op stand)
+      let sooner = laid_round places at inner others behind separator op laid in
+      let later = laid_behind places at inner others behind separator op laid in
+      to_rounds places Last at inner others behind outer separator op full.0 full.1 (laid_separator places at inner others behind separator op laid)
       (λ trees p v. to_reading at inner next_edges outer trees p full.1 sooner v)
       (λ trees p v. to_reading after others behind outer trees p full.2 later v)
       input path via

@@ -8,7 +8,7 @@ use Rattle.mbe_pattern.specs.declared.pattern.RepeatKind.{RepeatKind}
 use Rattle.mbe_pattern.specs.declared.pattern.RepeatKind.TheVariants as repeat
 use Rattle.mbe_matcher.specs.Labels as label
 use Rattle.mbe_matcher.specs.declared.places.Place.{Place}
-use Rattle.mbe_matcher.specs.Compiled.{Stop, IsStop, Stand, separator_count, place_count, entries, again, separator_stops}
+use Rattle.mbe_matcher.specs.Compiled.{Stop, IsStop, AreLaid, separator_count, place_count, entries, again, separator_stops}
 use Rattle.mbe_matcher.specs.Fronts.{OtherRoundsUpTo, TakesUpTo}
 use Rattle.mbe_matcher.specs.Paths.{shift, firsts, entry_count, path_of, path_of_others}
 use Rattle.mbe_pattern.specs.Patterns.{Pattern, repetition, may_be_empty, may_be_none, may_be_more, IsFull}
@@ -51,12 +51,12 @@ module _ (places : List Place) (Last : Option Place → List Forest → Type 0) 
   -- A path that ends at a place ends early if the place is not the end of everything.
   pub halts_at : (at : ℕ) (levels : List Forest) (stop : Stop) → IsStop (slice_get places at) stop → (is_leave stop.label ≡ true → levels ≡ end ∷ [] → ⊥)
       → Last (slice_get places at) levels → (Comes : (left : ℕ) → Type 0) → Comes (left_in levels) → Halts Comes
-  halts_at at levels stop stands never last Comes comes =
+  halts_at at levels stop arrived never last Comes comes =
       record {
         place = slice_get places at;
         levels = levels;
         last = last;
-        sooner = λ ends. let all = ended_by places levels at stop stands ends in never all.0 all.1;
+        sooner = λ ends. let all = ended_by places levels at stop arrived ends in never all.0 all.1;
         comes = comes;
       }
 
@@ -74,12 +74,12 @@ module _ (places : List Place) (Last : Option Place → List Forest → Type 0) 
   Before input outer = Halts (λ left. left ≡ size input + left_in outer)
 
   to_separator : (at : ℕ) (it : Leaf) (others : List Leaf) (behind : List ℕ) (outer : List Forest) (input : Forest) (path : List ℕ)
-      → Stand places at (separator_stops (it ∷ others) behind) → Goes places Last at (input ∷ outer) path
+      → AreLaid places at (separator_stops (it ∷ others) behind) → Goes places Last at (input ∷ outer) path
       → Separated (it ∷ others) behind outer input (0 ∷ path) ⊎ Before input outer
-  to_separator at it others behind outer input path stand goes =
+  to_separator at it others behind outer input path laid goes =
       let stop : Stop = record { label = label.same (it ∷ others); edges = behind } in
-      elim (comes_by places Last (input ∷ outer) at stop stand.0 path goes) [
-        | inl (none, last) ↦ inr (halts_at at (input ∷ outer) stop stand.0 (λ leave ended. cc leave) last (λ left. left ≡ size input + left_in outer) refl)
+      elim (comes_by places Last (input ∷ outer) at stop laid.0 path goes) [
+        | inl (none, last) ↦ inr (halts_at at (input ∷ outer) stop laid.0 (λ leave ended. cc leave) last (λ left. left ≡ size input + left_in outer) refl)
         | inr (like, via) ↦
             inl (record { start = after_trees (length (it ∷ others)) input; tail = path; separates = (like, refl); via = via; is = refl; shorter = omega arith })
       ]
@@ -99,24 +99,24 @@ module _ (places : List Place) (Last : Option Place → List Forest → Type 0) 
         })
 
     through : (it : Leaf) (separator : List Leaf) (op : RepeatKind) (input : Forest) (path : List ℕ) → may_be_more op ≡ true
-        → Stand places (at + place_count inner) (separator_stops (it ∷ separator) (entries at inner []))
+        → AreLaid places (at + place_count inner) (separator_stops (it ∷ separator) (entries at inner []))
         → (more : List ℕ) × (path ≡ 0 ∷ more) × Goes places Last (at + place_count inner) (input ∷ outer) more → Again (it ∷ separator) op input path ⊎ Before input outer
-    through it separator op input path may stand (more, same, goes) =
-        elim (to_separator (at + place_count inner) it separator (entries at inner []) outer input more stand goes) [
+    through it separator op input path may laid (more, same, goes) =
+        elim (to_separator (at + place_count inner) it separator (entries at inner []) outer input more laid goes) [
           | inl separated ↦ inl (record { may_be = may; separated = subst (Separated (it ∷ separator) (entries at inner []) outer input) (sym same) separated })
           | inr halts ↦ inr halts
         ]
 
     to_again : (separator : List Leaf) (op : RepeatKind) (input : Forest) (path : List ℕ)
-        → Stand places (at + place_count inner) (separator_stops separator (entries at inner []))
+        → AreLaid places (at + place_count inner) (separator_stops separator (entries at inner []))
         → Via places Last (again at inner separator op) (input ∷ outer) path → Again separator op input path ⊎ Before input outer
-    to_again separator repeat.ZeroOrOne input path stand via = absurd (via_none places Last (input ∷ outer) path via)
-    to_again [] repeat.ZeroOrMore input path stand via = at_once repeat.ZeroOrMore input path refl via
-    to_again [] repeat.OneOrMore input path stand via = at_once repeat.OneOrMore input path refl via
-    to_again (it ∷ separator) repeat.ZeroOrMore input path stand via =
-        through it separator repeat.ZeroOrMore input path refl stand (via_one places Last (input ∷ outer) (at + place_count inner) path via)
-    to_again (it ∷ separator) repeat.OneOrMore input path stand via =
-        through it separator repeat.OneOrMore input path refl stand (via_one places Last (input ∷ outer) (at + place_count inner) path via)
+    to_again separator repeat.ZeroOrOne input path laid via = absurd (via_none places Last (input ∷ outer) path via)
+    to_again [] repeat.ZeroOrMore input path laid via = at_once repeat.ZeroOrMore input path refl via
+    to_again [] repeat.OneOrMore input path laid via = at_once repeat.OneOrMore input path refl via
+    to_again (it ∷ separator) repeat.ZeroOrMore input path laid via =
+        through it separator repeat.ZeroOrMore input path refl laid (via_one places Last (input ∷ outer) (at + place_count inner) path via)
+    to_again (it ∷ separator) repeat.OneOrMore input path laid via =
+        through it separator repeat.OneOrMore input path refl laid (via_one places Last (input ∷ outer) (at + place_count inner) path via)
 
     module _ (separator : List Leaf) (op : RepeatKind) where
       -- where what follows the rounds begins, and where the input continues after a round
@@ -154,7 +154,7 @@ module _ (places : List Place) (Last : Option Place → List Forest → Type 0) 
       Whole input path =
           Read at (repetition inner separator op others) behind outer input path ⊎ Halts (TakesUpTo (repetition inner separator op others) input (left_in outer))
 
-      module _ (full : may_be_empty inner ≡ false) (all : IsFull inner) (stand : Stand places (at + place_count inner) (separator_stops separator (entries at inner [])))
+      module _ (full : may_be_empty inner ≡ false) (all : IsFull inner) (laid : AreLaid places (at + place_count inner) (separator_stops separator (entries at inner [])))
           (one : (input : Forest) (path : List ℕ) → Via places Last (entries at inner next_edges) (input ∷ outer) path → Inner input path)
           (past : (input : Forest) (path : List ℕ) → Via places Last over_edges (input ∷ outer) path → Past input path) where
         one_here : (input : Forest) (path : List ℕ) → Via places Last (entries at inner []) (input ∷ outer) path → Inner input path
@@ -195,7 +195,7 @@ module _ (places : List Place) (Last : Option Place → List Forest → Type 0) 
                 ⊎ ((p : List ℕ) × (path ≡ shift (length (again at inner separator op)) p) × Via places Last over_edges (input ∷ outer) p)
                 → ((input : Forest) (path : List ℕ) → length path ≤ n → Via places Last next_edges (input ∷ outer) path → Others input path ⊎ Halts (OthersUpTo input))
                 → Others input path ⊎ Halts (OthersUpTo input)
-            by (inl v) further = elim (to_again separator op input path stand v) [
+            by (inl v) further = elim (to_again separator op input path laid v) [
               | inl found ↦ with_round found (one_here found.separated.start found.separated.tail found.separated.via) further
               | inr halts ↦
                   inr (halts_with (λ left. left ≡ size input + left_in outer) (OthersUpTo input) (λ left up. (0, front_here others input (left_in outer) left up)) halts)
@@ -271,10 +271,10 @@ module _ (places : List Place) (Last : Option Place → List Forest → Type 0) 
         ]
 
     pub to_rounds : (separator : List Leaf) (op : RepeatKind) (full : may_be_empty inner ≡ false) (all : IsFull inner)
-        (stand : Stand places (at + place_count inner) (separator_stops separator (entries at inner [])))
+        (laid : AreLaid places (at + place_count inner) (separator_stops separator (entries at inner [])))
         (one : (input : Forest) (path : List ℕ) → Via places Last (entries at inner (next_edges separator op)) (input ∷ outer) path → Inner separator op input path)
         (past : (input : Forest) (path : List ℕ) → Via places Last (over_edges separator op) (input ∷ outer) path → Past separator op input path)
         (input : Forest) (path : List ℕ) → Via places Last (entries at (repetition inner separator op others) behind) (input ∷ outer) path → Whole separator op input path
-    to_rounds separator repeat.ZeroOrMore full all stand one past input path via = either_round separator repeat.ZeroOrMore full all stand one past refl input path via
-    to_rounds separator repeat.ZeroOrOne full all stand one past input path via = either_round separator repeat.ZeroOrOne full all stand one past refl input path via
-    to_rounds separator repeat.OneOrMore full all stand one past input path via = first_round separator repeat.OneOrMore full all stand one past input path via
+    to_rounds separator repeat.ZeroOrMore full all laid one past input path via = either_round separator repeat.ZeroOrMore full all laid one past refl input path via
+    to_rounds separator repeat.ZeroOrOne full all laid one past input path via = either_round separator repeat.ZeroOrOne full all laid one past refl input path via
+    to_rounds separator repeat.OneOrMore full all laid one past input path via = first_round separator repeat.OneOrMore full all laid one past input path via

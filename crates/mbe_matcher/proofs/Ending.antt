@@ -18,8 +18,8 @@ use Rattle.mbe_matcher.specs.Places.{Passes, passed, onward, is_leave, OnEdge, E
 use Rattle.mbe_matcher.specs.Closures.{passes_nothing, passes_nothing_at, AreClosed}
 use Rattle.mbe_matcher.specs.Threads.{View, view_of, views_of, path_to}
 use Rattle.mbe_pattern.specs.Units.{IsUnitLike}
-use Rattle.mbe_matcher.proofs.Leading.{Config, thread, threads, IsMany, Leads, Has, HasMany, AreApart, Told}
-use Rattle.mbe_matcher.proofs.Telling as telling
+use Rattle.mbe_matcher.proofs.Leading.{Config, thread, threads, IsMany, Leads, Has, HasMany, AreApart, Cover}
+use Rattle.mbe_matcher.proofs.Covering as covering
 use Rattle.mbe_pattern.proofs.Passing.{after_end}
 use Rattle.mbe_matcher.proofs.GrammarTaken.{takes_no_tree}
 
@@ -203,8 +203,8 @@ module _ (places : List Place) where
           by choice.Many m = more m
 
     -- After all threads the choice says what is wanted.
-    says_all : (news : List Config) → Told places Ends Whole news [] → (it : Choice) → Means it news → Says it
-    says_all news told it means = by it means
+    says_all : (news : List Config) → Cover places Ends Whole news [] → (it : Choice) → Means it news → Says it
+    says_all news cover it means = by it means
       where
         none : ((path : List ℕ) → Has places Ends news path → ⊥) → (HasMany places Ends news → ⊥) → (path : List ℕ)
             → (Has places Ends news path ⊎ Has places Ends [] path) ⊎ (HasMany places Ends news ⊎ HasMany places Ends []) → ⊥
@@ -221,44 +221,44 @@ module _ (places : List Place) where
         only trace one no_many path (inr (inr m)) = absurd m
 
         two : HasMany places Ends news ⊎ LeadApart news → AreTwo Whole
-        two (inl m) = told.new_two m
+        two (inl m) = cover.new_two m
         two (inr pair) =
             record {
               one = pair.one;
               other = pair.other;
               differ = pair.differ;
-              one_is = told.new_sound pair.one pair.one_there;
-              other_is = told.new_sound pair.other pair.other_there;
+              one_is = cover.new_sound pair.one pair.one_there;
+              other_is = cover.new_sound pair.other pair.other_there;
             }
 
         by : (it : Choice) → Means it news → Says it
-        by choice.Nothing m = λ path w. none m.0 m.1 path (told.whole path w)
+        by choice.Nothing m = λ path w. none m.0 m.1 path (cover.whole path w)
         by (choice.One last) m =
             record {
-              holds = told.new_sound (path_to log last) m.0;
-              alone = λ path w. only (path_to log last) m.1 m.2 path (told.whole path w);
+              holds = cover.new_sound (path_to log last) m.0;
+              alone = λ path w. only (path_to log last) m.1 m.2 path (cover.whole path w);
             }
         by choice.Many m = two m
 
     -- The choice of threads at the end says what is wanted.
-    says_choice : (so_far : Choice) (its : List Thread) (news : List Config) → AreClosed places end (views_of log its) → Told places Ends Whole news (threads (end ∷ []) (views_of log its))
+    says_choice : (so_far : Choice) (its : List Thread) (news : List Config) → AreClosed places end (views_of log its) → Cover places Ends Whole news (threads (end ∷ []) (views_of log its))
         → Means so_far news
         → Says (choice_of places so_far its)
-    says_choice so_far [] news calm told means = says_all news told so_far means
-    says_choice so_far (it ∷ its) news calm told means =
+    says_choice so_far [] news calm cover means = says_all news cover so_far means
+    says_choice so_far (it ∷ its) news calm cover means =
         by (is_leave_at (slice_get places it.at)) refl (λ so_far means. says_choice so_far its (here it news ∷ news) calm.1 over means)
       where
-        over : Told places Ends Whole (here it news ∷ news) (threads (end ∷ []) (views_of log its))
-        over = telling.told_over Config (Leads places Ends) IsMany Whole news (threads (end ∷ []) (views_of log its)) (here it news) told
+        over : Cover places Ends Whole (here it news ∷ news) (threads (end ∷ []) (views_of log its))
+        over = covering.cover_over Config (Leads places Ends) IsMany Whole news (threads (end ∷ []) (views_of log its)) (here it news) cover
 
         by : (b : Bool) → is_leave_at (slice_get places it.at) ≡ b → ((so_far : Choice) → Means so_far (here it news ∷ news) → Says (choice_of places so_far its))
             → Says (choice_of places (cond b (with_thread so_far it) so_far) its)
         by true leave rest = rest (with_thread so_far it) (means_more it news leave over.new_apart so_far means)
         by false missed rest = rest so_far (means_missed it news missed calm.0 so_far means)
 
-    pub says : (its : List Thread) (trees : Forest) → trees ≡ end → AreClosed places trees (views_of log its) → Told places Ends Whole [] (threads (trees ∷ []) (views_of log its) ++ [])
+    pub says : (its : List Thread) (trees : Forest) → trees ≡ end → AreClosed places trees (views_of log its) → Cover places Ends Whole [] (threads (trees ∷ []) (views_of log its) ++ [])
         → Says (choice_of places choice.Nothing its)
-    says its trees ended calm told =
+    says its trees ended calm cover =
         says_choice choice.Nothing its [] (subst (λ t. AreClosed places t (views_of log its)) ended calm)
-        (subst (λ t. Told places Ends Whole [] (threads (t ∷ []) (views_of log its))) ended (subst (Told places Ends Whole []) (append-nil (threads (trees ∷ []) (views_of log its))) told))
+        (subst (λ t. Cover places Ends Whole [] (threads (t ∷ []) (views_of log its))) ended (subst (Cover places Ends Whole []) (append-nil (threads (trees ∷ []) (views_of log its))) cover))
         (λ path h. h, λ m. m)

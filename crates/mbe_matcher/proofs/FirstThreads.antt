@@ -6,8 +6,8 @@ use Rattle.mbe_matcher.specs.declared.places.Place.{Place}
 use Rattle.mbe_matcher.specs.Levels.{AreTwo}
 use Rattle.mbe_matcher.specs.Places.{GoesAll}
 use Rattle.mbe_matcher.specs.Threads.{View, spread}
-use Rattle.mbe_matcher.proofs.Leading.{Config, fan, threads, IsMany, Leads, Has, HasMany, Told, told_spread}
-use Rattle.mbe_matcher.proofs.Telling as telling
+use Rattle.mbe_matcher.proofs.Leading.{Config, fan, threads, IsMany, Leads, Has, HasMany, Cover, cover_spread}
+use Rattle.mbe_matcher.proofs.Covering as covering
 
 -- the view that everything starts from
 abbrev pub outside : View
@@ -15,10 +15,10 @@ outside = record { at = 0; wait = 0; is_many = false; trace = [] }
 
 module _ (places : List Place) (Last : Option Place → List Forest → Type 0) where
   -- At the start the edges from outside account for all paths.
-  pub told_start : (starts : List ℕ) (input : Forest) → Told places Last (GoesAll places Last starts input) [] (threads (input ∷ []) (spread outside 0 starts []) ++ [])
-  told_start starts input =
-      telling.told_joined Config (Leads places Last) IsMany Whole (threads (input ∷ []) (spread outside 0 starts [])) []
-      (told_spread places Last Whole (input ∷ []) outside 0 starts [] [] start)
+  pub cover_start : (starts : List ℕ) (input : Forest) → Cover places Last (GoesAll places Last starts input) [] (threads (input ∷ []) (spread outside 0 starts []) ++ [])
+  cover_start starts input =
+      covering.cover_joined Config (Leads places Last) IsMany Whole (threads (input ∷ []) (spread outside 0 starts [])) []
+      (cover_spread places Last Whole (input ∷ []) outside 0 starts [] [] start)
     where
       Whole : List ℕ → Type 0
       Whole = GoesAll places Last starts input
@@ -43,7 +43,7 @@ module _ (places : List Place) (Last : Option Place → List Forest → Type 0) 
       two (inl m) = absurd (cc m.1)
       two (inr m) = absurd m
 
-      start : Told places Last Whole [] (fanned ∷ [])
+      start : Cover places Last Whole [] (fanned ∷ [])
       start =
           record {
             whole = λ path w. inl (inr (inl (goes path w)));

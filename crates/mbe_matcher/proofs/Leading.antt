@@ -9,7 +9,7 @@ use Rattle.mbe_matcher.specs.Labels.{label_of}
 use Rattle.mbe_matcher.specs.Levels.{AreTwo}
 use Rattle.mbe_matcher.specs.Places.{Passes, passed, onward, OnEdge, GoesOn, Goes}
 use Rattle.mbe_matcher.specs.Threads.{View, meet, doubled, delayed, added, turned, spread}
-use Rattle.mbe_matcher.proofs.Telling as telling
+use Rattle.mbe_matcher.proofs.Covering as covering
 
 -- a thread before levels, or edges before levels; the first edge has that number
 pub data Config : Type 0 where
@@ -34,16 +34,16 @@ module _ (places : List Place) (Last : Option Place → List Forest → Type 0) 
 
   -- the words of `Telling` for threads
   abbrev pub Has : List Config → List ℕ → Type 0
-  Has = telling.Has Config Leads IsMany
+  Has = covering.Has Config Leads IsMany
 
   abbrev pub HasMany : List Config → Type 0
-  HasMany = telling.HasMany Config Leads IsMany
+  HasMany = covering.HasMany Config Leads IsMany
 
   abbrev pub AreApart : List Config → Type 0
-  AreApart = telling.AreApart Config Leads IsMany
+  AreApart = covering.AreApart Config Leads IsMany
 
-  abbrev pub Told : (List ℕ → Type 0) → List Config → List Config → Type 0
-  Told = telling.Told Config Leads IsMany
+  abbrev pub Cover : (List ℕ → Type 0) → List Config → List Config → Type 0
+  Cover = covering.Cover Config Leads IsMany
 
   -- If two views meet, they are at one place, and wait alike.
   meet_at : (view other : View) → meet other view ≡ true → other.at ≡ view.at
@@ -207,17 +207,17 @@ module _ (places : List Place) (Last : Option Place → List Forest → Type 0) 
 
   module _ (Whole : List ℕ → Type 0) where
     -- The account stays complete with fewer threads.
-    told_joins : (olds news others : List Config) → Joins olds news → Told Whole olds others → Told Whole news others
-    told_joins olds news others joins told =
+    cover_joins : (olds news others : List Config) → Joins olds news → Cover Whole olds others → Cover Whole news others
+    cover_joins olds news others joins cover =
         record {
-          whole = λ path w. all path (told.whole path w);
-          new_sound = λ path h. told.new_sound path (joins.comes path h);
-          old_sound = told.old_sound;
+          whole = λ path w. all path (cover.whole path w);
+          new_sound = λ path h. cover.new_sound path (joins.comes path h);
+          old_sound = cover.old_sound;
           new_two = λ m. pair (joins.two m);
-          old_two = told.old_two;
-          apart = λ path h o. told.apart path (joins.comes path h) o;
+          old_two = cover.old_two;
+          apart = λ path h o. cover.apart path (joins.comes path h) o;
           new_apart = joins.apart;
-          old_apart = told.old_apart;
+          old_apart = cover.old_apart;
         }
       where
         first : (path : List ℕ) → Has news path ⊎ HasMany news → (Has news path ⊎ Has others path) ⊎ (HasMany news ⊎ HasMany others)
@@ -232,25 +232,25 @@ module _ (places : List Place) (Last : Option Place → List Forest → Type 0) 
         all path (inr (inr m)) = inr (inr m)
 
         pair : HasMany olds ⊎ LeadApart olds → AreTwo Whole
-        pair (inl m) = told.new_two m
+        pair (inl m) = cover.new_two m
         pair (inr two) =
             record {
               one = two.one;
               other = two.other;
               differ = two.differ;
-              one_is = told.new_sound two.one two.one_there;
-              other_is = told.new_sound two.other two.other_there;
+              one_is = cover.new_sound two.one two.one_there;
+              other_is = cover.new_sound two.other two.other_there;
             }
 
     -- A thread is added.
-    pub told_added : (levels : List Forest) (view : View) (views : List View) (olds : List Config)
-        → Told Whole (thread levels view ∷ threads levels views) olds → Told Whole (threads levels (added view views)) olds
-    told_added levels view views olds told =
-        told_joins (threads levels (view ∷ views)) (threads levels (added view views)) olds (joins_added levels view views told.new_apart) told
+    pub cover_added : (levels : List Forest) (view : View) (views : List View) (olds : List Config)
+        → Cover Whole (thread levels view ∷ threads levels views) olds → Cover Whole (threads levels (added view views)) olds
+    cover_added levels view views olds cover =
+        cover_joins (threads levels (view ∷ views)) (threads levels (added view views)) olds (joins_added levels view views cover.new_apart) cover
 
   -- The first of some edges, and the others.
   divides_fan : (turn to : ℕ) (others : List ℕ) (levels : List Forest) (view : View)
-      → telling.Divides Config Leads IsMany (fan turn (to ∷ others) levels view) (thread levels (turned view turn to)) (fan (suc turn) others levels view)
+      → covering.Divides Config Leads IsMany (fan turn (to ∷ others) levels view) (thread levels (turned view turn to)) (fan (suc turn) others levels view)
   divides_fan turn to others levels view =
       record {
         split = split;
@@ -293,20 +293,20 @@ module _ (places : List Place) (Last : Option Place → List Forest → Type 0) 
   none_lead turn levels view path (ahead, more, is, reads) = reads
 
   -- A thread for each edge replaces the edges.
-  pub told_spread : (Whole : List ℕ → Type 0) (levels : List Forest) (view : View) (turn : ℕ) (edges : List ℕ) (views : List View) (olds : List Config)
-      → Told Whole (threads levels views) (fan turn edges levels view ∷ olds) → Told Whole (threads levels (spread view turn edges views)) olds
-  told_spread Whole levels view turn [] views olds told =
-      telling.told_dropped Config Leads IsMany Whole (threads levels views) olds (fan turn [] levels view) told (none_lead turn levels view)
-  told_spread Whole levels view turn (to ∷ others) views olds told =
-      told_spread Whole levels view (suc turn) others (added (turned view turn to) views) olds
-      (told_added Whole levels (turned view turn to) views (fan (suc turn) others levels view ∷ olds)
-      (telling.told_divided Config Leads IsMany Whole (threads levels views) olds (fan turn (to ∷ others) levels view)
-      (thread levels (turned view turn to)) (fan (suc turn) others levels view) told (divides_fan turn to others levels view)))
+  pub cover_spread : (Whole : List ℕ → Type 0) (levels : List Forest) (view : View) (turn : ℕ) (edges : List ℕ) (views : List View) (olds : List Config)
+      → Cover Whole (threads levels views) (fan turn edges levels view ∷ olds) → Cover Whole (threads levels (spread view turn edges views)) olds
+  cover_spread Whole levels view turn [] views olds cover =
+      covering.cover_dropped Config Leads IsMany Whole (threads levels views) olds (fan turn [] levels view) cover (none_lead turn levels view)
+  cover_spread Whole levels view turn (to ∷ others) views olds cover =
+      cover_spread Whole levels view (suc turn) others (added (turned view turn to) views) olds
+      (cover_added Whole levels (turned view turn to) views (fan (suc turn) others levels view ∷ olds)
+      (covering.cover_divided Config Leads IsMany Whole (threads levels views) olds (fan turn (to ∷ others) levels view)
+      (thread levels (turned view turn to)) (fan (suc turn) others levels view) cover (divides_fan turn to others levels view)))
 
   module _ (levels : List Forest) (view : View) where
     -- A thread that waits is one tree nearer after a tree.
     pub becomes_nearer : (n : ℕ) (further : List Forest) → passed view.wait levels ≡ passed n further
-        → telling.Becomes Config Leads IsMany (thread levels view) (thread further (delayed n view))
+        → covering.Becomes Config Leads IsMany (thread levels view) (thread further (delayed n view))
     becomes_nearer n further same =
         record {
           goes = λ path l. (l.0, l.1, subst (λ ls. Goes places Last view.at ls l.0) same l.2);
@@ -318,7 +318,7 @@ module _ (places : List Place) (Last : Option Place → List Forest → Type 0) 
       -- A thread whose place is passed is replaced by the edges of its place.
       pub becomes_fan : (place : Place) → slice_get places view.at ≡ Some place → (n : ℕ) (further : List Forest)
           → onward (label_of place.atom) levels ≡ passed n further → Passes (label_of place.atom) levels → (Last (Some place) levels → ⊥)
-          → telling.Becomes Config Leads IsMany (thread levels view) (fan 0 place.edges.items further (delayed n view))
+          → covering.Becomes Config Leads IsMany (thread levels view) (fan 0 place.edges.items further (delayed n view))
       becomes_fan place found n further on passes goes_on =
           record { goes = goes; comes = comes; many = (λ m. m, λ m. m) }
         where

@@ -21,10 +21,10 @@ use Rattle.mbe_matcher.specs.Places.{Passes, passed, onward}
 use Rattle.mbe_matcher.specs.Threads.{View, delayed, added, spread, IsMoved, wait_of, IsMovedAt, wait_at, edges_of, is_waiting, waited, StepsOn, Steps, AllStep}
 use Rattle.mbe_pattern.specs.Units.{IsUnitLike, IsNodeOf}
 use Rattle.mbe_matcher.proofs.Ending.{takes_none, no_unit, passed_end}
-use Rattle.mbe_matcher.proofs.Leading.{Config, thread, fan, threads, IsMany, Leads, Told, told_spread, told_added, becomes_nearer, becomes_fan, leads_nowhere}
+use Rattle.mbe_matcher.proofs.Leading.{Config, thread, fan, threads, IsMany, Leads, Cover, cover_spread, cover_added, becomes_nearer, becomes_fan, leads_nowhere}
 use Rattle.mbe_matcher.proofs.Reaching.{take_onward, same_onward}
-use Rattle.mbe_matcher.proofs.Stands.{AreGoingOn}
-use Rattle.mbe_matcher.proofs.Telling as telling
+use Rattle.mbe_matcher.proofs.HasArrived.{AreGoingOn}
+use Rattle.mbe_matcher.proofs.Covering as covering
 
 -- what is left of levels, the innermost first
 abbrev pub levels_of : List LevelView → List Forest
@@ -48,63 +48,63 @@ calm_place places trees view place here calm found =
 
 module _ (places : List Place) (Last : Option Place → List Forest → Type 0) (Whole : List ℕ → Type 0) (levels : List Forest) where
   -- A thread is moved.
-  told_moved : (by : Move) (further : List Forest) (sound : (it : Label) → IsMoved by it → Passes it levels × (onward it levels ≡ passed (wait_of by it) further))
+  cover_moved : (by : Move) (further : List Forest) (sound : (it : Label) → IsMoved by it → Passes it levels × (onward it levels ≡ passed (wait_of by it) further))
       (view : View) (old : List View) (olds : List Config) → ((place : Option Place) → Last place levels → ⊥) → passed view.wait levels ≡ levels → IsMovedAt by (slice_get places view.at)
-      → Told places Last Whole (threads further old) (thread levels view ∷ olds)
-      → Told places Last Whole (threads further (spread (delayed (wait_at by (slice_get places view.at)) view) 0 (edges_of (slice_get places view.at)) old)) olds
-  told_moved by further sound view old olds goes_on here moved told = at (slice_get places view.at) refl moved
+      → Cover places Last Whole (threads further old) (thread levels view ∷ olds)
+      → Cover places Last Whole (threads further (spread (delayed (wait_at by (slice_get places view.at)) view) 0 (edges_of (slice_get places view.at)) old)) olds
+  cover_moved by further sound view old olds goes_on here moved cover = at (slice_get places view.at) refl moved
     where
       at : (place : Option Place) → slice_get places view.at ≡ place → IsMovedAt by place
-          → Told places Last Whole (threads further (spread (delayed (wait_at by place) view) 0 (edges_of place) old)) olds
+          → Cover places Last Whole (threads further (spread (delayed (wait_at by place) view) 0 (edges_of place) old)) olds
       at None found m = absurd m
       at (Some place) found m =
           let n = wait_of by (label_of place.atom) in
           let is = sound (label_of place.atom) m in
-          told_spread places Last Whole further (delayed n view) 0 place.edges.items old olds
-          (telling.told_same Config (Leads places Last) IsMany Whole (threads further old) olds (thread levels view) (fan 0 place.edges.items further (delayed n view)) told
+          cover_spread places Last Whole further (delayed n view) 0 place.edges.items old olds
+          (covering.cover_same Config (Leads places Last) IsMany Whole (threads further old) olds (thread levels view) (fan 0 place.edges.items further (delayed n view)) cover
           (becomes_fan places Last levels view here place found n further is.1 is.0 (goes_on (Some place))))
 
   -- A thread whose place requires something else is dropped.
-  told_stuck : (news : List Config) (view : View) (olds : List Config) → ((place : Option Place) → Last place levels → ⊥) → passed view.wait levels ≡ levels
+  cover_stuck : (news : List Config) (view : View) (olds : List Config) → ((place : Option Place) → Last place levels → ⊥) → passed view.wait levels ≡ levels
       → ((place : Place) → slice_get places view.at ≡ Some place → Passes (label_of place.atom) levels → ⊥)
-      → Told places Last Whole news (thread levels view ∷ olds) → Told places Last Whole news olds
-  told_stuck news view olds goes_on here stuck told =
-      telling.told_dropped Config (Leads places Last) IsMany Whole news olds (thread levels view) told
+      → Cover places Last Whole news (thread levels view ∷ olds) → Cover places Last Whole news olds
+  cover_stuck news view olds goes_on here stuck cover =
+      covering.cover_dropped Config (Leads places Last) IsMany Whole news olds (thread levels view) cover
       (leads_nowhere places Last levels view here stuck goes_on)
 
   -- A thread that waits is one tree nearer.
-  told_nearer : (further : List Forest) (view : View) (old : List View) (olds : List Config) → passed view.wait levels ≡ passed (view.wait - 1) further
-      → Told places Last Whole (threads further old) (thread levels view ∷ olds) → Told places Last Whole (threads further (added (delayed (view.wait - 1) view) old)) olds
-  told_nearer further view old olds same told =
-      told_added places Last Whole further (delayed (view.wait - 1) view) old olds
-      (telling.told_over Config (Leads places Last) IsMany Whole (threads further old) olds (thread further (delayed (view.wait - 1) view))
-      (telling.told_same Config (Leads places Last) IsMany Whole (threads further old) olds (thread levels view) (thread further (delayed (view.wait - 1) view)) told
+  cover_nearer : (further : List Forest) (view : View) (old : List View) (olds : List Config) → passed view.wait levels ≡ passed (view.wait - 1) further
+      → Cover places Last Whole (threads further old) (thread levels view ∷ olds) → Cover places Last Whole (threads further (added (delayed (view.wait - 1) view) old)) olds
+  cover_nearer further view old olds same cover =
+      cover_added places Last Whole further (delayed (view.wait - 1) view) old olds
+      (covering.cover_over Config (Leads places Last) IsMany Whole (threads further old) olds (thread further (delayed (view.wait - 1) view))
+      (covering.cover_same Config (Leads places Last) IsMany Whole (threads further old) olds (thread levels view) (thread further (delayed (view.wait - 1) view)) cover
       (becomes_nearer places Last levels view (view.wait - 1) further same)))
 
   -- If all threads that pass are moved alike.
   module _ (by : Move) (further : List Forest) (sound : (it : Label) → IsMoved by it → Passes it levels × (onward it levels ≡ passed (wait_of by it) further))
       (trees : Forest) (complete : (it : Label) → passes_nothing it trees ≡ false → Passes it levels → IsMoved by it)
       (here : (n : ℕ) → is_waiting by n ≡ false → passed n levels ≡ levels)
-      (standing : (n : ℕ) → is_waiting by n ≡ false → is_here trees n ≡ true)
+      (arriving : (n : ℕ) → is_waiting by n ≡ false → is_here trees n ≡ true)
       (nearer : (view : View) (old : List View) (olds : List Config) → is_waiting by view.wait ≡ true
-      → Told places Last Whole (threads further old) (thread levels view ∷ olds) → Told places Last Whole (threads further (waited by view old)) olds) where
-    told_step : (view : View) (old new : List View) (olds : List Config) → goes_at_once places trees view.at view.wait ≡ false
+      → Cover places Last Whole (threads further old) (thread levels view ∷ olds) → Cover places Last Whole (threads further (waited by view old)) olds) where
+    cover_step : (view : View) (old new : List View) (olds : List Config) → goes_at_once places trees view.at view.wait ≡ false
         → (is_here trees view.wait ≡ true → (place : Option Place) → Last place levels → ⊥) → Steps places by view old new
-        → Told places Last Whole (threads further old) (thread levels view ∷ olds) → Told places Last Whole (threads further new) olds
-    told_step view old new olds calm goes_on (inl (waits, is)) told =
-        subst (λ views. Told places Last Whole (threads further views) olds) (sym is) (nearer view old olds waits told)
-    told_step view old new olds calm goes_on (inr (stands, inl (moved, is))) told =
-        subst (λ views. Told places Last Whole (threads further views) olds) (sym is) (told_moved by further sound view old olds (goes_on (standing view.wait stands)) (here view.wait stands) moved told)
-    told_step view old new olds calm goes_on (inr (stands, inr (stays, is))) told =
-        subst (λ views. Told places Last Whole (threads further views) olds) (sym is)
-        (told_stuck (threads further old) view olds (goes_on (standing view.wait stands)) (here view.wait stands)
-        (λ place found passes. stays (subst (IsMovedAt by) (sym found) (complete (label_of place.atom) (calm_place places trees view place (standing view.wait stands) calm found) passes))) told)
+        → Cover places Last Whole (threads further old) (thread levels view ∷ olds) → Cover places Last Whole (threads further new) olds
+    cover_step view old new olds calm goes_on (inl (waits, is)) cover =
+        subst (λ views. Cover places Last Whole (threads further views) olds) (sym is) (nearer view old olds waits cover)
+    cover_step view old new olds calm goes_on (inr (arrived, inl (moved, is))) cover =
+        subst (λ views. Cover places Last Whole (threads further views) olds) (sym is) (cover_moved by further sound view old olds (goes_on (arriving view.wait arrived)) (here view.wait arrived) moved cover)
+    cover_step view old new olds calm goes_on (inr (arrived, inr (stays, is))) cover =
+        subst (λ views. Cover places Last Whole (threads further views) olds) (sym is)
+        (cover_stuck (threads further old) view olds (goes_on (arriving view.wait arrived)) (here view.wait arrived)
+        (λ place found passes. stays (subst (IsMovedAt by) (sym found) (complete (label_of place.atom) (calm_place places trees view place (arriving view.wait arrived) calm found) passes))) cover)
 
-    pub told_steps : (views old new : List View) (olds : List Config) → AreClosed places trees views → AreGoingOn Last levels trees views → AllStep places by views old new
-        → Told places Last Whole (threads further old) (threads levels views ++ olds) → Told places Last Whole (threads further new) olds
-    told_steps [] old new olds calm goes_on is told = subst (λ views. Told places Last Whole (threads further views) olds) (sym is) told
-    told_steps (view ∷ views) old new olds calm goes_on (middle, step, steps) told =
-        told_steps views middle new olds calm.1 (λ stands. goes_on (inr stands)) steps (told_step view old middle (threads levels views ++ olds) calm.0 (λ here. goes_on (inl here)) step told)
+    pub cover_steps : (views old new : List View) (olds : List Config) → AreClosed places trees views → AreGoingOn Last levels trees views → AllStep places by views old new
+        → Cover places Last Whole (threads further old) (threads levels views ++ olds) → Cover places Last Whole (threads further new) olds
+    cover_steps [] old new olds calm goes_on is cover = subst (λ views. Cover places Last Whole (threads further views) olds) (sym is) cover
+    cover_steps (view ∷ views) old new olds calm goes_on (middle, step, steps) cover =
+        cover_steps views middle new olds calm.1 (λ arrived. goes_on (inr arrived)) steps (cover_step view old middle (threads levels views ++ olds) calm.0 (λ here. goes_on (inl here)) step cover)
 
   -- If some threads pass the first tree, and some enter it.
   module _ (before : Ahead) (kind : DelimiterKind) (behind inside : List Forest)
@@ -113,33 +113,33 @@ module _ (places : List Place) (Last : Option Place → List Forest → Type 0) 
       (trees : Forest) (complete : (it : Label) → passes_nothing it trees ≡ false → Passes it levels → IsMoved (move.Passes before) it ⊎ IsMoved (move.Enters kind) it)
       (not_both : (it : Label) → IsMoved (move.Passes before) it → IsMoved (move.Enters kind) it → ⊥)
       (here : (n : ℕ) → is_waiting (move.Passes before) n ≡ false → passed n levels ≡ levels)
-      (standing : (n : ℕ) → is_waiting (move.Passes before) n ≡ false → is_here trees n ≡ true)
+      (arriving : (n : ℕ) → is_waiting (move.Passes before) n ≡ false → is_here trees n ≡ true)
       (nearer : (n : ℕ) → is_waiting (move.Passes before) n ≡ true → passed n levels ≡ passed (n - 1) behind) where
-    told_here : (view : View) (old new old_in new_in : List View) (olds : List Config) → ((place : Option Place) → Last place levels → ⊥) → passed view.wait levels ≡ levels
+    cover_here : (view : View) (old new old_in new_in : List View) (olds : List Config) → ((place : Option Place) → Last place levels → ⊥) → passed view.wait levels ≡ levels
         → ((place : Place) → slice_get places view.at ≡ Some place → passes_nothing (label_of place.atom) trees ≡ false)
         → StepsOn places (move.Passes before) view old new → StepsOn places (move.Enters kind) view old_in new_in
-        → Told places Last Whole (threads inside old_in) ((thread levels view ∷ olds) ++ threads behind old)
-        → Told places Last Whole (threads inside new_in) (olds ++ threads behind new)
-    told_here view old new old_in new_in olds goes_on stands some (inl (moved, is)) (inl (moved_in, is_in)) told =
+        → Cover places Last Whole (threads inside old_in) ((thread levels view ∷ olds) ++ threads behind old)
+        → Cover places Last Whole (threads inside new_in) (olds ++ threads behind new)
+    cover_here view old new old_in new_in olds goes_on arrived some (inl (moved, is)) (inl (moved_in, is_in)) cover =
         absurd (at (slice_get places view.at) moved moved_in)
       where
         at : (place : Option Place) → IsMovedAt (move.Passes before) place → IsMovedAt (move.Enters kind) place → ⊥
         at None a b = a
         at (Some place) a b = not_both (label_of place.atom) a b
-    told_here view old new old_in new_in olds goes_on stands some (inl (moved, is)) (inr (stays_in, is_in)) told =
-        subst (λ views. Told places Last Whole (threads inside views) (olds ++ threads behind new)) (sym is_in)
-        (telling.told_swapped Config (Leads places Last) IsMany Whole (threads behind new) (threads inside old_in) olds
-        (subst (λ views. Told places Last Whole (threads behind views) (olds ++ threads inside old_in)) (sym is)
-        (told_moved (move.Passes before) behind pass_sound view old (olds ++ threads inside old_in) goes_on stands moved
-        (telling.told_swapped Config (Leads places Last) IsMany Whole (threads inside old_in) (threads behind old) (thread levels view ∷ olds) told))))
-    told_here view old new old_in new_in olds goes_on stands some (inr (stays, is)) (inl (moved_in, is_in)) told =
-        subst (λ views. Told places Last Whole (threads inside new_in) (olds ++ threads behind views)) (sym is)
-        (subst (λ views. Told places Last Whole (threads inside views) (olds ++ threads behind old)) (sym is_in)
-        (told_moved (move.Enters kind) inside enter_sound view old_in (olds ++ threads behind old) goes_on stands moved_in told))
-    told_here view old new old_in new_in olds goes_on stands some (inr (stays, is)) (inr (stays_in, is_in)) told =
-        subst (λ views. Told places Last Whole (threads inside new_in) (olds ++ threads behind views)) (sym is)
-        (subst (λ views. Told places Last Whole (threads inside views) (olds ++ threads behind old)) (sym is_in)
-        (told_stuck (threads inside old_in) view (olds ++ threads behind old) goes_on stands stuck told))
+    cover_here view old new old_in new_in olds goes_on arrived some (inl (moved, is)) (inr (stays_in, is_in)) cover =
+        subst (λ views. Cover places Last Whole (threads inside views) (olds ++ threads behind new)) (sym is_in)
+        (covering.cover_swapped Config (Leads places Last) IsMany Whole (threads behind new) (threads inside old_in) olds
+        (subst (λ views. Cover places Last Whole (threads behind views) (olds ++ threads inside old_in)) (sym is)
+        (cover_moved (move.Passes before) behind pass_sound view old (olds ++ threads inside old_in) goes_on arrived moved
+        (covering.cover_swapped Config (Leads places Last) IsMany Whole (threads inside old_in) (threads behind old) (thread levels view ∷ olds) cover))))
+    cover_here view old new old_in new_in olds goes_on arrived some (inr (stays, is)) (inl (moved_in, is_in)) cover =
+        subst (λ views. Cover places Last Whole (threads inside new_in) (olds ++ threads behind views)) (sym is)
+        (subst (λ views. Cover places Last Whole (threads inside views) (olds ++ threads behind old)) (sym is_in)
+        (cover_moved (move.Enters kind) inside enter_sound view old_in (olds ++ threads behind old) goes_on arrived moved_in cover))
+    cover_here view old new old_in new_in olds goes_on arrived some (inr (stays, is)) (inr (stays_in, is_in)) cover =
+        subst (λ views. Cover places Last Whole (threads inside new_in) (olds ++ threads behind views)) (sym is)
+        (subst (λ views. Cover places Last Whole (threads inside views) (olds ++ threads behind old)) (sym is_in)
+        (cover_stuck (threads inside old_in) view (olds ++ threads behind old) goes_on arrived stuck cover))
       where
         which : (place : Place) → slice_get places view.at ≡ Some place → IsMoved (move.Passes before) (label_of place.atom) ⊎ IsMoved (move.Enters kind) (label_of place.atom) → ⊥
         which place found (inl m) = stays (subst (IsMovedAt (move.Passes before)) (sym found) m)
@@ -149,55 +149,55 @@ module _ (places : List Place) (Last : Option Place → List Forest → Type 0) 
         stuck place found passes = which place found (complete (label_of place.atom) (some place found) passes)
 
     -- A thread that waits goes on after the tree.
-    told_waits : (view : View) (old new old_in new_in : List View) (olds : List Config) → is_waiting (move.Passes before) view.wait ≡ true
+    cover_waits : (view : View) (old new old_in new_in : List View) (olds : List Config) → is_waiting (move.Passes before) view.wait ≡ true
         → new ≡ added (delayed (view.wait - 1) view) old → new_in ≡ old_in
-        → Told places Last Whole (threads inside old_in) ((thread levels view ∷ olds) ++ threads behind old)
-        → Told places Last Whole (threads inside new_in) (olds ++ threads behind new)
-    told_waits view old new old_in new_in olds waits is is_in told =
-        subst (λ views. Told places Last Whole (threads inside views) (olds ++ threads behind new)) (sym is_in)
-        (telling.told_swapped Config (Leads places Last) IsMany Whole (threads behind new) (threads inside old_in) olds
-        (subst (λ views. Told places Last Whole (threads behind views) (olds ++ threads inside old_in)) (sym is)
-        (told_nearer behind view old (olds ++ threads inside old_in) (nearer view.wait waits)
-        (telling.told_swapped Config (Leads places Last) IsMany Whole (threads inside old_in) (threads behind old) (thread levels view ∷ olds) told))))
+        → Cover places Last Whole (threads inside old_in) ((thread levels view ∷ olds) ++ threads behind old)
+        → Cover places Last Whole (threads inside new_in) (olds ++ threads behind new)
+    cover_waits view old new old_in new_in olds waits is is_in cover =
+        subst (λ views. Cover places Last Whole (threads inside views) (olds ++ threads behind new)) (sym is_in)
+        (covering.cover_swapped Config (Leads places Last) IsMany Whole (threads behind new) (threads inside old_in) olds
+        (subst (λ views. Cover places Last Whole (threads behind views) (olds ++ threads inside old_in)) (sym is)
+        (cover_nearer behind view old (olds ++ threads inside old_in) (nearer view.wait waits)
+        (covering.cover_swapped Config (Leads places Last) IsMany Whole (threads inside old_in) (threads behind old) (thread levels view ∷ olds) cover))))
 
     -- Passing and entering wait alike.
     alike : (n : ℕ) → is_waiting (move.Passes before) n ≡ is_waiting (move.Enters kind) n
     alike zero = refl
     alike (suc n) = refl
 
-    told_either : (view : View) (old new old_in new_in : List View) (olds : List Config) → goes_at_once places trees view.at view.wait ≡ false
+    cover_either : (view : View) (old new old_in new_in : List View) (olds : List Config) → goes_at_once places trees view.at view.wait ≡ false
         → (is_here trees view.wait ≡ true → (place : Option Place) → Last place levels → ⊥)
         → Steps places (move.Passes before) view old new → Steps places (move.Enters kind) view old_in new_in
-        → Told places Last Whole (threads inside old_in) ((thread levels view ∷ olds) ++ threads behind old)
-        → Told places Last Whole (threads inside new_in) (olds ++ threads behind new)
-    told_either view old new old_in new_in olds calm goes_on (inl (waits, is)) (inl (waits_in, is_in)) told = told_waits view old new old_in new_in olds waits is is_in told
-    told_either view old new old_in new_in olds calm goes_on (inl (waits, is)) (inr (stands_in, on)) told = absurd (cc (sym waits ∙ alike view.wait ∙ stands_in))
-    told_either view old new old_in new_in olds calm goes_on (inr (stands, on)) (inl (waits_in, is_in)) told = absurd (cc (sym stands ∙ alike view.wait ∙ waits_in))
-    told_either view old new old_in new_in olds calm goes_on (inr (stands, on)) (inr (stands_in, on_in)) told =
-        told_here view old new old_in new_in olds (goes_on (standing view.wait stands)) (here view.wait stands) (λ place found. calm_place places trees view place (standing view.wait stands) calm found) on on_in told
+        → Cover places Last Whole (threads inside old_in) ((thread levels view ∷ olds) ++ threads behind old)
+        → Cover places Last Whole (threads inside new_in) (olds ++ threads behind new)
+    cover_either view old new old_in new_in olds calm goes_on (inl (waits, is)) (inl (waits_in, is_in)) cover = cover_waits view old new old_in new_in olds waits is is_in cover
+    cover_either view old new old_in new_in olds calm goes_on (inl (waits, is)) (inr (arrived_in, on)) cover = absurd (cc (sym waits ∙ alike view.wait ∙ arrived_in))
+    cover_either view old new old_in new_in olds calm goes_on (inr (arrived, on)) (inl (waits_in, is_in)) cover = absurd (cc (sym arrived ∙ alike view.wait ∙ waits_in))
+    cover_either view old new old_in new_in olds calm goes_on (inr (arrived, on)) (inr (arrived_in, on_in)) cover =
+        cover_here view old new old_in new_in olds (goes_on (arriving view.wait arrived)) (here view.wait arrived) (λ place found. calm_place places trees view place (arriving view.wait arrived) calm found) on on_in cover
 
-    pub told_both : (views old new old_in new_in : List View) (olds : List Config) → AreClosed places trees views → AreGoingOn Last levels trees views
+    pub cover_both : (views old new old_in new_in : List View) (olds : List Config) → AreClosed places trees views → AreGoingOn Last levels trees views
         → AllStep places (move.Passes before) views old new → AllStep places (move.Enters kind) views old_in new_in
-        → Told places Last Whole (threads inside old_in) ((threads levels views ++ olds) ++ threads behind old)
-        → Told places Last Whole (threads inside new_in) (olds ++ threads behind new)
-    told_both [] old new old_in new_in olds calm goes_on is is_in told =
-        subst (λ views. Told places Last Whole (threads inside new_in) (olds ++ threads behind views)) (sym is)
-        (subst (λ views. Told places Last Whole (threads inside views) (olds ++ threads behind old)) (sym is_in) told)
-    told_both (view ∷ views) old new old_in new_in olds calm goes_on (middle, step, steps) (middle_in, step_in, steps_in) told =
-        told_both views middle new middle_in new_in olds calm.1 (λ stands. goes_on (inr stands)) steps steps_in
-        (told_either view old middle old_in middle_in (threads levels views ++ olds) calm.0 (λ here. goes_on (inl here)) step step_in told)
+        → Cover places Last Whole (threads inside old_in) ((threads levels views ++ olds) ++ threads behind old)
+        → Cover places Last Whole (threads inside new_in) (olds ++ threads behind new)
+    cover_both [] old new old_in new_in olds calm goes_on is is_in cover =
+        subst (λ views. Cover places Last Whole (threads inside new_in) (olds ++ threads behind views)) (sym is)
+        (subst (λ views. Cover places Last Whole (threads inside views) (olds ++ threads behind old)) (sym is_in) cover)
+    cover_both (view ∷ views) old new old_in new_in olds calm goes_on (middle, step, steps) (middle_in, step_in, steps_in) cover =
+        cover_both views middle new middle_in new_in olds calm.1 (λ arrived. goes_on (inr arrived)) steps steps_in
+        (cover_either view old middle old_in middle_in (threads levels views ++ olds) calm.0 (λ here. goes_on (inl here)) step step_in cover)
 
 -- A thread that does not wait is at its place; one that waits is a tree nearer after the first.
-stands_here : (before : Ahead) (trees : Forest) (outer : List Forest) (n : ℕ) → is_waiting (move.Passes before) n ≡ false → passed n (trees ∷ outer) ≡ trees ∷ outer
-stands_here before trees outer zero stands = refl
-stands_here before trees outer (suc n) stands = absurd (cc stands)
+arrived_here : (before : Ahead) (trees : Forest) (outer : List Forest) (n : ℕ) → is_waiting (move.Passes before) n ≡ false → passed n (trees ∷ outer) ≡ trees ∷ outer
+arrived_here before trees outer zero arrived = refl
+arrived_here before trees outer (suc n) arrived = absurd (cc arrived)
 
 -- It is there, for any trees.
 is_there : (before : Ahead) (trees : Forest) (n : ℕ) → is_waiting (move.Passes before) n ≡ false → is_here trees n ≡ true
-is_there before end zero stands = refl
-is_there before (leaf it rest) zero stands = refl
-is_there before (node delimiter children rest) zero stands = refl
-is_there before trees (suc n) stands = absurd (cc stands)
+is_there before end zero arrived = refl
+is_there before (leaf it rest) zero arrived = refl
+is_there before (node delimiter children rest) zero arrived = refl
+is_there before trees (suc n) arrived = absurd (cc arrived)
 
 goes_nearer : (before : Ahead) (trees : Forest) (outer : List Forest) (n : ℕ) → is_waiting (move.Passes before) n ≡ true
     → passed n (trees ∷ outer) ≡ passed (n - 1) (after_tree trees ∷ outer)
@@ -215,15 +215,15 @@ module _ (places : List Place) (Last : Option Place → List Forest → Type 0) 
   node_no_end trees children rest delimiter is ended = cc (sym is ∙ ended)
 
   -- A level is left.
-  pub told_left : (level : LevelView) (outer news : List LevelView) → AreClosed places level.trees level.views
+  pub cover_left : (level : LevelView) (outer news : List LevelView) → AreClosed places level.trees level.views
       → AreGoingOn Last (level.trees ∷ levels_of outer) level.trees level.views → IsLeft places level outer news
-      → Told places Last Whole [] (configs_of (level ∷ outer)) → Told places Last Whole [] (configs_of news)
-  told_left level outer news calm goes_on is told =
-      subst (λ n. Told places Last Whole [] (configs_of n)) (sym is.news_are)
-      (telling.told_joined Config (Leads places Last) IsMany Whole (threads further is.views) (configs_of is.below)
-      (told_steps places Last Whole levels move.Ends further sound level.trees complete here standing nearer level.views is.next.views is.views (configs_of is.below) calm still is.steps
-      (telling.told_lifted Config (Leads places Last) IsMany Whole (threads levels level.views) (threads further is.next.views) (configs_of is.below)
-      (subst (λ o. Told places Last Whole [] (threads (level.trees ∷ levels_of o) level.views ++ configs_of o)) is.outer_is told))))
+      → Cover places Last Whole [] (configs_of (level ∷ outer)) → Cover places Last Whole [] (configs_of news)
+  cover_left level outer news calm goes_on is cover =
+      subst (λ n. Cover places Last Whole [] (configs_of n)) (sym is.news_are)
+      (covering.cover_joined Config (Leads places Last) IsMany Whole (threads further is.views) (configs_of is.below)
+      (cover_steps places Last Whole levels move.Ends further sound level.trees complete here arriving nearer level.views is.next.views is.views (configs_of is.below) calm still is.steps
+      (covering.cover_lifted Config (Leads places Last) IsMany Whole (threads levels level.views) (threads further is.next.views) (configs_of is.below)
+      (subst (λ o. Cover places Last Whole [] (threads (level.trees ∷ levels_of o) level.views ++ configs_of o)) is.outer_is cover))))
     where
       further : List Forest
       further = is.next.trees ∷ levels_of is.below
@@ -241,14 +241,14 @@ module _ (places : List Place) (Last : Option Place → List Forest → Type 0) 
       sound label.leave m = (is.is_ended, refl)
 
       here : (n : ℕ) → is_waiting move.Ends n ≡ false → passed n levels ≡ levels
-      here n stands = ap (λ t. passed n (t ∷ further)) is.is_ended ∙ passed_end n further ∙ ap (λ t. t ∷ further) (sym is.is_ended)
+      here n arrived = ap (λ t. passed n (t ∷ further)) is.is_ended ∙ passed_end n further ∙ ap (λ t. t ∷ further) (sym is.is_ended)
 
       nearer : (view : View) (old : List View) (olds : List Config) → is_waiting move.Ends view.wait ≡ true
-          → Told places Last Whole (threads further old) (thread levels view ∷ olds) → Told places Last Whole (threads further (waited move.Ends view old)) olds
-      nearer view old olds waits told = absurd (cc waits)
+          → Cover places Last Whole (threads further old) (thread levels view ∷ olds) → Cover places Last Whole (threads further (waited move.Ends view old)) olds
+      nearer view old olds waits cover = absurd (cc waits)
 
-      standing : (n : ℕ) → is_waiting move.Ends n ≡ false → is_here level.trees n ≡ true
-      standing n stands = subst (λ t. is_here t n ≡ true) (sym is.is_ended) refl
+      arriving : (n : ℕ) → is_waiting move.Ends n ≡ false → is_here level.trees n ≡ true
+      arriving n arrived = subst (λ t. is_here t n ≡ true) (sym is.is_ended) refl
 
       complete : (it : Label) → passes_nothing it level.trees ≡ false → Passes it levels → IsMoved move.Ends it
       complete (label.take which) some p =
@@ -258,13 +258,13 @@ module _ (places : List Place) (Last : Option Place → List Forest → Type 0) 
       complete label.leave some p = tt
 
   -- A leaf is passed.
-  pub told_passed : (level : LevelView) (outer news : List LevelView) → AreClosed places level.trees level.views
+  pub cover_passed : (level : LevelView) (outer news : List LevelView) → AreClosed places level.trees level.views
       → AreGoingOn Last (level.trees ∷ levels_of outer) level.trees level.views → IsPassed places level outer news
-      → Told places Last Whole [] (configs_of (level ∷ outer)) → Told places Last Whole [] (configs_of news)
-  told_passed level outer news calm goes_on is told =
-      subst (λ n. Told places Last Whole [] (configs_of n)) (sym is.news_are)
-      (telling.told_joined Config (Leads places Last) IsMany Whole (threads further is.views) (configs_of outer)
-      (told_steps places Last Whole levels (move.Passes is.before) further sound level.trees complete here (λ n stands. is_there is.before level.trees n stands) nearer level.views [] is.views (configs_of outer) calm goes_on is.steps told))
+      → Cover places Last Whole [] (configs_of (level ∷ outer)) → Cover places Last Whole [] (configs_of news)
+  cover_passed level outer news calm goes_on is cover =
+      subst (λ n. Cover places Last Whole [] (configs_of n)) (sym is.news_are)
+      (covering.cover_joined Config (Leads places Last) IsMany Whole (threads further is.views) (configs_of outer)
+      (cover_steps places Last Whole levels (move.Passes is.before) further sound level.trees complete here (λ n arrived. is_there is.before level.trees n arrived) nearer level.views [] is.views (configs_of outer) calm goes_on is.steps cover))
     where
       levels : List Forest
       levels = level.trees ∷ levels_of outer
@@ -284,12 +284,12 @@ module _ (places : List Place) (Last : Option Place → List Forest → Type 0) 
       sound label.leave m = absurd m
 
       here : (n : ℕ) → is_waiting (move.Passes is.before) n ≡ false → passed n levels ≡ levels
-      here n stands = stands_here is.before level.trees (levels_of outer) n stands
+      here n arrived = arrived_here is.before level.trees (levels_of outer) n arrived
 
       nearer : (view : View) (old : List View) (olds : List Config) → is_waiting (move.Passes is.before) view.wait ≡ true
-          → Told places Last Whole (threads further old) (thread levels view ∷ olds) → Told places Last Whole (threads further (waited (move.Passes is.before) view old)) olds
-      nearer view old olds waits told =
-          told_nearer places Last Whole levels further view old olds (goes_nearer is.before level.trees (levels_of outer) view.wait waits) told
+          → Cover places Last Whole (threads further old) (thread levels view ∷ olds) → Cover places Last Whole (threads further (waited (move.Passes is.before) view old)) olds
+      nearer view old olds waits cover =
+          cover_nearer places Last Whole levels further view old olds (goes_nearer is.before level.trees (levels_of outer) view.wait waits) cover
 
       complete : (it : Label) → passes_nothing it level.trees ≡ false → Passes it levels → IsMoved (move.Passes is.before) it
       complete (label.take which) some p = (subst (λ t. takes which.fragment t ≡ true) (sym is.before_is) p, subst (λ t. takes_nothing which.fragment t ≡ false) (sym is.before_is) some)
@@ -298,11 +298,11 @@ module _ (places : List Place) (Last : Option Place → List Forest → Type 0) 
       complete label.leave some p = leaf_no_end level.trees (after_tree level.trees) is.it is.first p
 
   -- A subtree is passed, or entered.
-  pub told_entered : (level : LevelView) (outer news : List LevelView) → AreClosed places level.trees level.views
+  pub cover_entered : (level : LevelView) (outer news : List LevelView) → AreClosed places level.trees level.views
       → AreGoingOn Last (level.trees ∷ levels_of outer) level.trees level.views → IsEntered places level outer news
-      → Told places Last Whole [] (configs_of (level ∷ outer)) → Told places Last Whole [] (configs_of news)
-  told_entered level outer news calm goes_on is told =
-      subst (λ n. Told places Last Whole [] (configs_of n)) (sym is.news_are) (joined ins (threads behind is.views ++ rest) (lifted (threads behind is.views) ins rest (joined (threads behind is.views) (ins ++ rest) (swapped rest (threads behind is.views) ins (lifted ins rest (threads behind is.views) (joined ins (rest ++ threads behind is.views) stepped))))))
+      → Cover places Last Whole [] (configs_of (level ∷ outer)) → Cover places Last Whole [] (configs_of news)
+  cover_entered level outer news calm goes_on is cover =
+      subst (λ n. Cover places Last Whole [] (configs_of n)) (sym is.news_are) (joined ins (threads behind is.views ++ rest) (lifted (threads behind is.views) ins rest (joined (threads behind is.views) (ins ++ rest) (swapped rest (threads behind is.views) ins (lifted ins rest (threads behind is.views) (joined ins (rest ++ threads behind is.views) stepped))))))
     where
       levels : List Forest
       levels = level.trees ∷ levels_of outer
@@ -319,14 +319,14 @@ module _ (places : List Place) (Last : Option Place → List Forest → Type 0) 
       ins : List Config
       ins = threads inside is.inside
 
-      joined : (xs ys : List Config) → Told places Last Whole xs ys → Told places Last Whole [] (xs ++ ys)
-      joined = telling.told_joined Config (Leads places Last) IsMany Whole
+      joined : (xs ys : List Config) → Cover places Last Whole xs ys → Cover places Last Whole [] (xs ++ ys)
+      joined = covering.cover_joined Config (Leads places Last) IsMany Whole
 
-      lifted : (xs ys zs : List Config) → Told places Last Whole [] (xs ++ (ys ++ zs)) → Told places Last Whole ys (xs ++ zs)
-      lifted = telling.told_lifted Config (Leads places Last) IsMany Whole
+      lifted : (xs ys zs : List Config) → Cover places Last Whole [] (xs ++ (ys ++ zs)) → Cover places Last Whole ys (xs ++ zs)
+      lifted = covering.cover_lifted Config (Leads places Last) IsMany Whole
 
-      swapped : (xs ys zs : List Config) → Told places Last Whole xs (zs ++ ys) → Told places Last Whole ys (zs ++ xs)
-      swapped = telling.told_swapped Config (Leads places Last) IsMany Whole
+      swapped : (xs ys zs : List Config) → Cover places Last Whole xs (zs ++ ys) → Cover places Last Whole ys (zs ++ xs)
+      swapped = covering.cover_swapped Config (Leads places Last) IsMany Whole
 
       pass_sound : (it : Label) → IsMoved (move.Passes is.before) it → Passes it levels × (onward it levels ≡ passed (wait_of (move.Passes is.before) it) behind)
       pass_sound (label.take which) m = (
@@ -357,19 +357,19 @@ module _ (places : List Place) (Last : Option Place → List Forest → Type 0) 
       not_both (label.enter kind) a b = a
       not_both label.leave a b = a
 
-      stepped : Told places Last Whole ins (rest ++ threads behind is.views)
+      stepped : Cover places Last Whole ins (rest ++ threads behind is.views)
       stepped =
-          told_both places Last Whole levels is.before is.delimiter.kind behind inside pass_sound enter_sound level.trees complete not_both
-          (λ n stands. stands_here is.before level.trees (levels_of outer) n stands) (λ n stands. is_there is.before level.trees n stands) (λ n waits. goes_nearer is.before level.trees (levels_of outer) n waits) level.views [] is.views [] is.inside rest calm goes_on is.steps is.enters
-          (subst (λ o. Told places Last Whole [] o) (sym (append-nil (threads levels level.views ++ rest))) told)
+          cover_both places Last Whole levels is.before is.delimiter.kind behind inside pass_sound enter_sound level.trees complete not_both
+          (λ n arrived. arrived_here is.before level.trees (levels_of outer) n arrived) (λ n arrived. is_there is.before level.trees n arrived) (λ n waits. goes_nearer is.before level.trees (levels_of outer) n waits) level.views [] is.views [] is.inside rest calm goes_on is.steps is.enters
+          (subst (λ o. Cover places Last Whole [] o) (sym (append-nil (threads levels level.views ++ rest))) cover)
 
   -- A subtree that no thread enters is passed.
-  pub told_skipped : (level : LevelView) (outer news : List LevelView) → AreClosed places level.trees level.views
+  pub cover_skipped : (level : LevelView) (outer news : List LevelView) → AreClosed places level.trees level.views
       → AreGoingOn Last (level.trees ∷ levels_of outer) level.trees level.views → IsSkipped places level outer news
-      → Told places Last Whole [] (configs_of (level ∷ outer)) → Told places Last Whole [] (configs_of news)
-  told_skipped level outer news calm goes_on is told =
-      subst (λ n. Told places Last Whole [] (configs_of n)) (sym is.news_are)
-      (told_entered level outer
+      → Cover places Last Whole [] (configs_of (level ∷ outer)) → Cover places Last Whole [] (configs_of news)
+  cover_skipped level outer news calm goes_on is cover =
+      subst (λ n. Cover places Last Whole [] (configs_of n)) (sym is.news_are)
+      (cover_entered level outer
       (record { trees = is.children; until = level.until - size (after_tree level.trees); views = [] } ∷ record { trees = after_tree level.trees; until = level.until; views = is.views } ∷ outer) calm goes_on
       (record {
         delimiter = is.delimiter;
@@ -382,13 +382,13 @@ module _ (places : List Place) (Last : Option Place → List Forest → Type 0) 
         steps = is.steps;
         enters = is.enters;
         news_are = refl;
-      }) told)
+      }) cover)
 
   -- Each step still accounts for all paths.
-  pub told_advances : (level : LevelView) (outer news : List LevelView) → AreClosed places level.trees level.views
+  pub cover_advances : (level : LevelView) (outer news : List LevelView) → AreClosed places level.trees level.views
       → AreGoingOn Last (level.trees ∷ levels_of outer) level.trees level.views → Advances places level outer news
-      → Told places Last Whole [] (configs_of (level ∷ outer)) → Told places Last Whole [] (configs_of news)
-  told_advances level outer news calm goes_on (inl is) told = told_left level outer news calm goes_on is told
-  told_advances level outer news calm goes_on (inr (inl is)) told = told_passed level outer news calm goes_on is told
-  told_advances level outer news calm goes_on (inr (inr (inl is))) told = told_entered level outer news calm goes_on is told
-  told_advances level outer news calm goes_on (inr (inr (inr is))) told = told_skipped level outer news calm goes_on is told
+      → Cover places Last Whole [] (configs_of (level ∷ outer)) → Cover places Last Whole [] (configs_of news)
+  cover_advances level outer news calm goes_on (inl is) cover = cover_left level outer news calm goes_on is cover
+  cover_advances level outer news calm goes_on (inr (inl is)) cover = cover_passed level outer news calm goes_on is cover
+  cover_advances level outer news calm goes_on (inr (inr (inl is))) cover = cover_entered level outer news calm goes_on is cover
+  cover_advances level outer news calm goes_on (inr (inr (inr is))) cover = cover_skipped level outer news calm goes_on is cover

@@ -10,7 +10,7 @@ pub mod EndSteps
 pub mod Ending
 pub mod FirstThreads
 pub mod FrontCompiling
-pub mod FrontTold
+pub mod FrontPlaces
 pub mod Fronts
 pub mod GrammarTaken
 pub mod GroupSteps
@@ -29,14 +29,14 @@ pub mod Reaching
 pub mod ReadingSteps
 pub mod Results
 mod Rows
-pub mod Standing
-pub mod Stands
+pub mod LaidPlaces
+pub mod HasArrived
 pub mod Starting
 pub mod Stepping
 pub mod StepsMade
 pub mod Stopping
-pub mod Telling
-pub mod Told
+pub mod Covering
+pub mod Cover
 pub mod Via
 pub mod WalkEnds
 pub mod WalkLeft

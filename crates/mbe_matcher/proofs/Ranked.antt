@@ -9,7 +9,7 @@ use Rattle.mbe_pattern.specs.Patterns.{Pattern, nothing, variable, token, subtre
 use Rattle.mbe_matcher.specs.declared.places.Place.{Place}
 use Rattle.mbe_matcher.specs.Labels.{label_of}
 use Rattle.mbe_matcher.specs.Labels as label
-use Rattle.mbe_matcher.specs.Compiled.{Stop, IsStop, Stand, place_count, separator_count, entries, again, separator_stops, stops, all_stops}
+use Rattle.mbe_matcher.specs.Compiled.{Stop, IsStop, AreLaid, place_count, separator_count, entries, again, separator_stops, stops, all_stops}
 use Rattle.mbe_matcher.specs.Compiling.{stop_of}
 use Rattle.mbe_matcher.specs.Closures.{may_pass_nothing, may_pass_nothing_at, AreBelow, AreRanked}
 use Rattle.mbe_matcher.specs.Threads.{edges_of}
@@ -257,23 +257,23 @@ module _ (rank : ℕ → ℕ) where
         (most_more (most + (most - suc (at + (place_count inner + (separator_count separator + place_count others))))) (most + (most - suc (next + place_count others))) behind (omega arith) low)))
 
     -- If the places are these stops, each of them is ranked.
-    at_stop : (places : List Place) (at : ℕ) (its : List Stop) → Stand places at its → StopsRanked at its → (n : ℕ) → at ≤ n → n < at + length its
+    at_stop : (places : List Place) (at : ℕ) (its : List Stop) → AreLaid places at its → StopsRanked at its → (n : ℕ) → at ≤ n → n < at + length its
         → may_pass_nothing_at (slice_get places n) ≡ true → (rank n < most + most) × AreBelow rank (rank n) (edges_of (slice_get places n))
-    at_stop places at [] stand are n le lt h = absurd (omega (arith, le, lt))
-    at_stop places at (it ∷ others) stand are n le lt h =
-        by (n - at) refl (λ more less. at_stop places (suc at) others stand.1 are.1 n more less h)
+    at_stop places at [] laid are n le lt h = absurd (omega (arith, le, lt))
+    at_stop places at (it ∷ others) laid are n le lt h =
+        by (n - at) refl (λ more less. at_stop places (suc at) others laid.1 are.1 n more less h)
       where
         found : (place : Option Place) → IsStop place it → IsRanked n it → may_pass_nothing_at place ≡ true → (rank n < most + most) × AreBelow rank (rank n) (edges_of place)
         found None is ranked h = absurd is
         found (Some place) is ranked h =
-            let told = ranked (subst (λ a. may_pass_nothing a ≡ true) is.0 h) in
-            (told.0, subst (AreBelow rank (rank n)) (sym is.1) told.1)
+            let cover = ranked (subst (λ a. may_pass_nothing a ≡ true) is.0 h) in
+            (cover.0, subst (AreBelow rank (rank n)) (sym is.1) cover.1)
 
         by : (ahead : ℕ) → n - at ≡ ahead → (suc at ≤ n → n < suc at + length others → (rank n < most + most) × AreBelow rank (rank n) (edges_of (slice_get places n)))
             → (rank n < most + most) × AreBelow rank (rank n) (edges_of (slice_get places n))
         by zero is further =
             let same : at ≡ n = omega (arith, is, le) in
-            found (slice_get places n) (subst (λ k. IsStop (slice_get places k) it) same stand.0) (subst (λ k. IsRanked k it) same are.0) h
+            found (slice_get places n) (subst (λ k. IsStop (slice_get places k) it) same laid.0) (subst (λ k. IsRanked k it) same are.0) h
         by (suc ahead) is further = further (omega (arith, is)) (omega (arith, lt))
 
 -- the rank of each place of a pattern
@@ -303,8 +303,8 @@ none_beyond (it ∷ others) zero le = absurd (omega (arith, le))
 none_beyond (it ∷ others) (suc n) le = none_beyond others n (omega (arith, le))
 
 -- The places of a pattern are ranked.
-pub are_ranked : (places : List Place) (pattern : Pattern) → IsFull pattern → length places ≡ suc (place_count pattern) → Stand places 0 (all_stops pattern) → AreRanked places (rank_in pattern)
-are_ranked places pattern full count stand at may = by (length places - at) refl
+pub are_ranked : (places : List Place) (pattern : Pattern) → IsFull pattern → length places ≡ suc (place_count pattern) → AreLaid places 0 (all_stops pattern) → AreRanked places (rank_in pattern)
+are_ranked places pattern full count laid at may = by (length places - at) refl
   where
     rank : ℕ → ℕ
     rank = rank_in pattern
@@ -330,7 +330,7 @@ are_ranked places pattern full count stand at may = by (length places - at) refl
     by : (ahead : ℕ) → length places - at ≡ ahead → (rank at < length places + length places) × AreBelow rank (rank at) (edges_of (slice_get places at))
     by zero is = absurd (cc (sym (ap may_pass_nothing_at (none_beyond places at (omega (arith, is)))) ∙ may))
     by (suc ahead) is =
-        let told =
-        at_stop rank most places 0 (all_stops pattern) stand all at (omega arith)
+        let cover =
+        at_stop rank most places 0 (all_stops pattern) laid all at (omega arith)
         (omega (arith, is, count, length-append (stops 0 pattern (place_count pattern ∷ [])) (last ∷ []), length-stops 0 pattern (place_count pattern ∷ []))) may in
-        (omega (arith, count, told.0), told.1)
+        (omega (arith, count, cover.0), cover.1)

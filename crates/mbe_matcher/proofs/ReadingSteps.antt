@@ -13,22 +13,22 @@ use Rattle.mbe_matcher.specs.Places.{Ends, GoesAll, AreLeft, left_in}
 use Rattle.mbe_matcher.specs.Closures.{IsClosure}
 use Rattle.mbe_matcher.specs.Threads.{View, views_of, AreWithin, IsGrown, spread, threads_spread}
 use Rattle.mbe_matcher.proofs.Logs.{views_spread, within_spread, path_none}
-use Rattle.mbe_matcher.proofs.Leading.{threads, Told}
+use Rattle.mbe_matcher.proofs.Leading.{threads, Cover}
 use Rattle.mbe_matcher.proofs.Levelling.{views_last, levels_kept, within_reverse, work_left}
 use Rattle.mbe_matcher.proofs.LevelSteps.{configs_of, levels_of}
-use Rattle.mbe_matcher.proofs.FirstThreads.{outside, told_start}
-use Rattle.mbe_matcher.proofs.Stands.{Stands}
-use Rattle.mbe_matcher.proofs.Stopping.{AreCounted, AreTold, IsUpTo, AreUpTo, told_here, told_calm, reached_is}
+use Rattle.mbe_matcher.proofs.FirstThreads.{outside, cover_start}
+use Rattle.mbe_matcher.proofs.HasArrived.{HasArrived}
+use Rattle.mbe_matcher.proofs.Stopping.{AreCounted, AreCovering, IsUpTo, AreUpTo, cover_here, cover_calm, reached_is}
 
 -- At the start the threads account for all wanted paths.
-pub told_init : (places : List Place) (Last : Option Place → List Forest → Type 0) (starts : List ℕ) (input : TtIter) (log : List Turn) (its : List Thread) (levels : List Level) (level : Level)
+pub cover_init : (places : List Place) (Last : Option Place → List Forest → Type 0) (starts : List ℕ) (input : TtIter) (log : List Turn) (its : List Thread) (levels : List Level) (level : Level)
     → its ≡ threads_spread 0 false 0 0 starts [] → levels ≡ [] ++ level ∷ [] → rest_of level.rest ≡ rest_of input → level.threads.items ≡ its
-    → Told places Last (GoesAll places Last starts (rest_of input)) [] (configs_of (level_views log (reverse levels)))
-told_init places Last starts input log its levels level spreads is rest same =
-    subst (λ ls. Told places Last Whole [] (configs_of ls)) (sym (views_last log levels [] level is))
-    (subst (λ vs. Told places Last Whole [] (threads (rest_of level.rest ∷ []) vs ++ [])) (sym seen)
-    (subst (λ trees. Told places Last Whole [] (threads (trees ∷ []) (spread outside 0 starts []) ++ [])) (sym rest)
-    (told_start places Last starts (rest_of input))))
+    → Cover places Last (GoesAll places Last starts (rest_of input)) [] (configs_of (level_views log (reverse levels)))
+cover_init places Last starts input log its levels level spreads is rest same =
+    subst (λ ls. Cover places Last Whole [] (configs_of ls)) (sym (views_last log levels [] level is))
+    (subst (λ vs. Cover places Last Whole [] (threads (rest_of level.rest ∷ []) vs ++ [])) (sym seen)
+    (subst (λ trees. Cover places Last Whole [] (threads (trees ∷ []) (spread outside 0 starts []) ++ [])) (sym rest)
+    (cover_start places Last starts (rest_of input))))
   where
     Whole : List ℕ → Type 0
     Whole = GoesAll places Last starts (rest_of input)
@@ -70,38 +70,38 @@ module _ (places : List Place) (starts : List ℕ) (input : Forest) (log new : L
   far_with = reached (rest_of level.rest) (level.until - size (rest_of level.rest)) far level.threads.items
 
   -- Each thread of the innermost level is checked for being at its place.
-  told_reached : AreTold places starts input far (level_view log level ∷ level_views log (reverse popped))
-      → AreTold places starts input far_with (level_view log level ∷ level_views log (reverse popped)) × IsUpTo places starts input far_with (level_view log level) (level_views log (reverse popped))
-  told_reached told = by (reached_is log (rest_of level.rest) (level.until - size (rest_of level.rest)) far level.threads.items)
+  cover_reached : AreCovering places starts input far (level_view log level ∷ level_views log (reverse popped))
+      → AreCovering places starts input far_with (level_view log level ∷ level_views log (reverse popped)) × IsUpTo places starts input far_with (level_view log level) (level_views log (reverse popped))
+  cover_reached cover = by (reached_is log (rest_of level.rest) (level.until - size (rest_of level.rest)) far level.threads.items)
     where
       Both : ℕ → Type 0
-      Both at = AreTold places starts input at (level_view log level ∷ level_views log (reverse popped)) × IsUpTo places starts input at (level_view log level) (level_views log (reverse popped))
+      Both at = AreCovering places starts input at (level_view log level ∷ level_views log (reverse popped)) × IsUpTo places starts input at (level_view log level) (level_views log (reverse popped))
 
-      by : (Stands (rest_of level.rest) (views_of log level.threads.items) × (far_with ≡ level.until - size (rest_of level.rest)))
-          ⊎ ((Stands (rest_of level.rest) (views_of log level.threads.items) → ⊥) × (far_with ≡ far)) → Both far_with
-      by (inl (stands, same)) =
+      by : (HasArrived (rest_of level.rest) (views_of log level.threads.items) × (far_with ≡ level.until - size (rest_of level.rest)))
+          ⊎ ((HasArrived (rest_of level.rest) (views_of log level.threads.items) → ⊥) × (far_with ≡ far)) → Both far_with
+      by (inl (arrived, same)) =
           subst Both (sym same)
-          (told_here places starts input far (level_view log level) (level_views log (reverse popped)) (level.until - size (rest_of level.rest)) refl stands told)
-      by (inr (none, same)) = subst Both (sym same) (told, λ stands. absurd (none stands))
+          (cover_here places starts input far (level_view log level) (level_views log (reverse popped)) (level.until - size (rest_of level.rest)) refl arrived cover)
+      by (inr (none, same)) = subst Both (sym same) (cover, λ arrived. absurd (none arrived))
 
   -- Then they are settled.
-  pub told_next : levels ≡ popped ++ level ∷ [] → IsGrown log new → AreLevelsWithin log popped → rest_of next.rest ≡ rest_of level.rest → next.until ≡ level.until
+  pub cover_next : levels ≡ popped ++ level ∷ [] → IsGrown log new → AreLevelsWithin log popped → rest_of next.rest ≡ rest_of level.rest → next.until ≡ level.until
       → IsClosure places (rest_of level.rest) (views_of log level.threads.items) (views_of new next.threads.items)
-      → AreTold places starts input far (level_views log (reverse levels))
-      → AreTold places starts input far_with (level_view new next ∷ level_views new (reverse popped)) × IsUpTo places starts input far_with (level_view new next) (level_views new (reverse popped))
-  told_next was grown within rest until by told =
-      let seen = told_reached (subst (AreTold places starts input far) (views_last log levels popped level was) told) in
-      subst (λ ls. AreTold places starts input far_with ls × AreUpTo places starts input far_with ls) (sym (calm_is log new popped level next grown within rest until))
-      (told_calm places starts input far_with (level_view log level) (level_views log (reverse popped)) seen.0 seen.1 (views_of new next.threads.items) by)
+      → AreCovering places starts input far (level_views log (reverse levels))
+      → AreCovering places starts input far_with (level_view new next ∷ level_views new (reverse popped)) × IsUpTo places starts input far_with (level_view new next) (level_views new (reverse popped))
+  cover_next was grown within rest until by cover =
+      let seen = cover_reached (subst (AreCovering places starts input far) (views_last log levels popped level was) cover) in
+      subst (λ ls. AreCovering places starts input far_with ls × AreUpTo places starts input far_with ls) (sym (calm_is log new popped level next grown within rest until))
+      (cover_calm places starts input far_with (level_view log level) (level_views log (reverse popped)) seen.0 seen.1 (views_of new next.threads.items) by)
 
 -- At the start.
-pub told_first : (places : List Place) (starts : List ℕ) (input : TtIter) (log : List Turn) (its : List Thread) (levels : List Level) (level : Level)
+pub cover_first : (places : List Place) (starts : List ℕ) (input : TtIter) (log : List Turn) (its : List Thread) (levels : List Level) (level : Level)
     → its ≡ threads_spread 0 false 0 0 starts [] → levels ≡ [] ++ level ∷ [] → rest_of level.rest ≡ rest_of input → level.until ≡ size (rest_of input) → level.threads.items ≡ its
-    → AreTold places starts (rest_of input) 0 (level_views log (reverse levels))
-told_first places starts input log its levels level spreads is rest until same =
+    → AreCovering places starts (rest_of input) 0 (level_views log (reverse levels))
+cover_first places starts input log its levels level spreads is rest until same =
     record {
-      whole = told_init places Ends starts input log its levels level spreads is rest same;
-      stops = λ left less. told_init places (AreLeft left) starts input log its levels level spreads is rest same;
+      whole = cover_init places Ends starts input log its levels level spreads is rest same;
+      stops = λ left less. cover_init places (AreLeft left) starts input log its levels level spreads is rest same;
       comes = (size (rest_of input), omega arith, inl refl);
       counted = subst (AreCounted (size (rest_of input))) (sym first) (omega (arith, until), omega (arith, until, ap size rest), tt);
       behind = omega (arith, ap (λ ls. left_in (levels_of ls)) first, ap size rest);

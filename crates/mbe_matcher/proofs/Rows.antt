@@ -14,6 +14,7 @@ use Rattle.mbe_matcher.specs.Grouping.{variables_of, binding_by}
 use Rattle.mbe_matcher.specs.Marks.{taken as took_by, begun, ended, notes_of}
 use Rattle.mbe_matcher.specs.Steps.{steps_of}
 use Rattle.mbe_matcher.specs.Compiled.{starts_of, all_stops}
+use Rattle.mbe_matcher.specs.GrammarReach.{is_block}
 use Rattle.mbe_matcher.specs.Fragments.{takes, taken, reach}
 use Rattle.mbe_matcher.specs.Fronts.{StopsAt, TakesUpTo}
 use Rattle.mbe_pattern.specs.Patterns.{Pattern}
@@ -52,8 +53,8 @@ module _ (rest : Forest) where
 quote_left : takes fragment.Lifetime (joint 39 (comma end)) ≡ false
 quote_left = refl
 
--- A block is a subtree in braces.
-block_takes : takes fragment.Block (subtree Brace end) ≡ true
+-- A block is a subtree in braces with the contents of a block.
+block_takes : takes fragment.Block (subtree Brace end) ≡ is_block end
 block_takes = refl
 
 parentheses_left : takes fragment.Block (subtree Parenthesis end) ≡ false

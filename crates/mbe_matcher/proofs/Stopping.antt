@@ -17,11 +17,11 @@ use Rattle.mbe_matcher.specs.Places.{is_leave, Ends, ReadsAll, StopsAll, AreLeft
 use Rattle.mbe_matcher.specs.Closures.{is_here, passes_nothing, AreClosed, IsClosure}
 use Rattle.mbe_matcher.specs.Threads.{View, view_of, views_of}
 use Rattle.mbe_matcher.proofs.Ending.{Says, says}
-use Rattle.mbe_matcher.proofs.Leading.{threads, Has, HasMany, Told}
-use Rattle.mbe_matcher.proofs.LevelSteps.{configs_of, levels_of, told_advances}
+use Rattle.mbe_matcher.proofs.Leading.{threads, Has, HasMany, Cover}
+use Rattle.mbe_matcher.proofs.LevelSteps.{configs_of, levels_of, cover_advances}
 use Rattle.mbe_matcher.proofs.Results.{less_or_not}
-use Rattle.mbe_matcher.proofs.ClosureSteps.{here_is, told_closure}
-use Rattle.mbe_matcher.proofs.Stands.{Stands, AreGoingOn, AreGoingAtOnce, stands_closed}
+use Rattle.mbe_matcher.proofs.ClosureSteps.{here_is, cover_closure}
+use Rattle.mbe_matcher.proofs.HasArrived.{HasArrived, AreGoingOn, AreGoingAtOnce, arrived_closed}
 
 -- the levels, the innermost first, end where the tokens of the ones outside begin
 abbrev pub AreCounted : (total : ℕ) → List LevelView → Type 0
@@ -52,15 +52,15 @@ left_on places level outer news (inr (inr (inr is))) = omega (arith, ap (λ ls. 
 
 -- If a step is made, no path ends at the end of everything.
 no_end : (places : List Place) (level : LevelView) (outer news : List LevelView) → Advances places level outer news → AreGoingOn Ends (level.trees ∷ levels_of outer) level.trees level.views
-no_end places level outer news is stands None ends = ends
-no_end places level outer news (inl is) stands (Some place) ends =
+no_end places level outer news is arrived None ends = ends
+no_end places level outer news (inl is) arrived (Some place) ends =
     not_outermost (levels_of is.below) (subst (λ o. level.trees ∷ levels_of o ≡ end ∷ []) is.outer_is ends.1)
   where
     not_outermost : (below : List Forest) → level.trees ∷ is.next.trees ∷ below ≡ end ∷ [] → ⊥
     not_outermost below e = cc e
-no_end places level outer news (inr (inl is)) stands (Some place) ends = let none : level.trees ≡ end = cc ends.1 in cc (sym is.first ∙ none)
-no_end places level outer news (inr (inr (inl is))) stands (Some place) ends = let none : level.trees ≡ end = cc ends.1 in cc (sym is.first ∙ none)
-no_end places level outer news (inr (inr (inr is))) stands (Some place) ends = let none : level.trees ≡ end = cc ends.1 in cc (sym is.first ∙ none)
+no_end places level outer news (inr (inl is)) arrived (Some place) ends = let none : level.trees ≡ end = cc ends.1 in cc (sym is.first ∙ none)
+no_end places level outer news (inr (inr (inl is))) arrived (Some place) ends = let none : level.trees ≡ end = cc ends.1 in cc (sym is.first ∙ none)
+no_end places level outer news (inr (inr (inr is))) arrived (Some place) ends = let none : level.trees ≡ end = cc ends.1 in cc (sym is.first ∙ none)
 
 -- A place that requires nothing is no end.
 asks_inside : (it : Label) (trees : Forest) → passes_nothing it trees ≡ true → is_leave it ≡ true → ⊥
@@ -70,7 +70,7 @@ asks_inside (label.enter kind) trees none leave = cc leave
 asks_inside label.leave trees none leave = cc none
 
 no_end_at_once : (levels : List Forest) (trees : Forest) (views : List View) → AreGoingAtOnce Ends levels trees views
-no_end_at_once levels trees views stands place none ends = asks_inside (label_of place.atom) trees none ends.0
+no_end_at_once levels trees views arrived place none ends = asks_inside (label_of place.atom) trees none ends.0
 
 module _ (places : List Place) (starts : List ℕ) (input : Forest) where
   -- that many tokens precede the place where paths stop
@@ -78,16 +78,16 @@ module _ (places : List Place) (starts : List ℕ) (input : Forest) where
   Comes at = (left : ℕ) × (at + left ≡ size input) × ((left ≡ size input) ⊎ ((path : List ℕ) × StopsAll places left starts input path))
 
   -- what the threads of the levels account for, if some came up to a flat place
-  pub record AreTold (at : ℕ) (levels : List LevelView) : Type 0 where
-    pub whole : Told places Ends (ReadsAll places starts input) [] (configs_of levels)
-    pub stops : (left : ℕ) → at + left < size input → Told places (AreLeft left) (StopsAll places left starts input) [] (configs_of levels)
+  pub record AreCovering (at : ℕ) (levels : List LevelView) : Type 0 where
+    pub whole : Cover places Ends (ReadsAll places starts input) [] (configs_of levels)
+    pub stops : (left : ℕ) → at + left < size input → Cover places (AreLeft left) (StopsAll places left starts input) [] (configs_of levels)
     pub comes : Comes at
     pub counted : AreCounted (size input) levels
     pub behind : at + left_in (levels_of levels) ≤ size input
 
   -- the threads at their places are where paths came to
   abbrev pub IsUpTo : (at : ℕ) → LevelView → (outer : List LevelView) → Type 0
-  IsUpTo at level outer = Stands level.trees level.views → at + left_in (levels_of (level ∷ outer)) ≡ size input
+  IsUpTo at level outer = HasArrived level.trees level.views → at + left_in (levels_of (level ∷ outer)) ≡ size input
 
   -- the same of the innermost level
   abbrev pub AreUpTo : (at : ℕ) → List LevelView → Type 0
@@ -96,15 +96,15 @@ module _ (places : List Place) (starts : List ℕ) (input : Forest) where
 
   module _ (at : ℕ) (level : LevelView) (outer : List LevelView) where
     -- A thread at its place leads to that place.
-    has_path : (left : ℕ) → left ≡ left_in (levels_of (level ∷ outer)) → Stands level.trees level.views
+    has_path : (left : ℕ) → left ≡ left_in (levels_of (level ∷ outer)) → HasArrived level.trees level.views
         → (path : List ℕ) × Has places (AreLeft left) (configs_of (level ∷ outer)) path
-    has_path left is stands = by level.views stands
+    has_path left is arrived = by level.views arrived
       where
         levels : List Forest
         levels = level.trees ∷ levels_of outer
 
-        by : (views : List View) → Stands level.trees views → (path : List ℕ) × Has places (AreLeft left) (threads levels views ++ configs_of outer) path
-        by [] stands = absurd stands
+        by : (views : List View) → HasArrived level.trees views → (path : List ℕ) × Has places (AreLeft left) (threads levels views ++ configs_of outer) path
+        by [] arrived = absurd arrived
         by (view ∷ views) (inl here) = (
           view.trace,
           inl (
@@ -113,17 +113,17 @@ module _ (places : List Place) (starts : List ℕ) (input : Forest) where
             subst (λ ls. left ≡ left_in ls) (sym (here_is level.trees view.wait (levels_of outer) here)) is,
           ),
         )
-        by (view ∷ views) (inr stands) = let found = by views stands in (found.0, inr found.1)
+        by (view ∷ views) (inr arrived) = let found = by views arrived in (found.0, inr found.1)
 
     -- So paths come to where one thread is.
-    pub told_here : (here : ℕ) → here ≡ level.until - size level.trees → Stands level.trees level.views → AreTold at (level ∷ outer)
-        → AreTold here (level ∷ outer) × IsUpTo here level outer
-    told_here here is stands told = (
+    pub cover_here : (here : ℕ) → here ≡ level.until - size level.trees → HasArrived level.trees level.views → AreCovering at (level ∷ outer)
+        → AreCovering here (level ∷ outer) × IsUpTo here level outer
+    cover_here here is arrived cover = (
       record {
-        whole = told.whole;
-        stops = λ left less. told.stops left (omega (arith, less, same, told.behind));
+        whole = cover.whole;
+        stops = λ left less. cover.stops left (omega (arith, less, same, cover.behind));
         comes = (left, same, comes);
-        counted = told.counted;
+        counted = cover.counted;
         behind = omega (arith, same);
       },
       λ s. same,
@@ -133,59 +133,59 @@ module _ (places : List Place) (starts : List ℕ) (input : Forest) where
         left = size level.trees + left_in (levels_of outer)
 
         same : here + left ≡ size input
-        same = omega (arith, is, told.counted.0, told.counted.1)
+        same = omega (arith, is, cover.counted.0, cover.counted.1)
 
         path : at + left < size input → (path : List ℕ) × StopsAll places left starts input path
-        path less = let found = has_path left refl stands in (found.0, (told.stops left less).old_sound found.0 found.1)
+        path less = let found = has_path left refl arrived in (found.0, (cover.stops left less).old_sound found.0 found.1)
 
         before : at + left ≡ size input → (left ≡ size input) ⊎ ((path : List ℕ) × StopsAll places left starts input path)
         before equal =
-            let alike : told.comes.0 ≡ left = omega (arith, equal, told.comes.1) in
-            subst (λ n. (n ≡ size input) ⊎ ((path : List ℕ) × StopsAll places n starts input path)) alike told.comes.2
+            let alike : cover.comes.0 ≡ left = omega (arith, equal, cover.comes.1) in
+            subst (λ n. (n ≡ size input) ⊎ ((path : List ℕ) × StopsAll places n starts input path)) alike cover.comes.2
 
         comes : (left ≡ size input) ⊎ ((path : List ℕ) × StopsAll places left starts input path)
         comes = by (less_or_not (at + left) (size input))
           where
             by : (at + left < size input) ⊎ (size input ≤ at + left) → (left ≡ size input) ⊎ ((path : List ℕ) × StopsAll places left starts input path)
             by (inl less) = inr (path less)
-            by (inr more) = before (omega (arith, more, told.behind))
+            by (inr more) = before (omega (arith, more, cover.behind))
 
     -- Paths do not stop before the place where the threads are.
     no_stop : IsUpTo at level outer → (left : ℕ) → at + left < size input → AreGoingOn (AreLeft left) (level.trees ∷ levels_of outer) level.trees level.views
-    no_stop up left less stands place is = omega (arith, up stands, less, is)
+    no_stop up left less arrived place is = omega (arith, up arrived, less, is)
 
-    module _ (told : AreTold at (level ∷ outer)) (up : IsUpTo at level outer) where
+    module _ (cover : AreCovering at (level ∷ outer)) (up : IsUpTo at level outer) where
       -- Settled threads account for the same.
-      pub told_calm : (views : List View) → IsClosure places level.trees level.views views
-          → AreTold at (record { trees = level.trees; until = level.until; views = views } ∷ outer) × IsUpTo at (record { trees = level.trees; until = level.until; views = views }) outer
-      told_calm views by = (
+      pub cover_calm : (views : List View) → IsClosure places level.trees level.views views
+          → AreCovering at (record { trees = level.trees; until = level.until; views = views } ∷ outer) × IsUpTo at (record { trees = level.trees; until = level.until; views = views }) outer
+      cover_calm views by = (
         record {
           whole =
-              subst (λ vs. Told places Ends (ReadsAll places starts input) [] (threads levels vs ++ configs_of outer)) (sym by.same)
-              (told_closure places Ends (ReadsAll places starts input) level.trees (levels_of outer) by.count level.views (configs_of outer) (no_end_at_once levels level.trees level.views) told.whole);
+              subst (λ vs. Cover places Ends (ReadsAll places starts input) [] (threads levels vs ++ configs_of outer)) (sym by.same)
+              (cover_closure places Ends (ReadsAll places starts input) level.trees (levels_of outer) by.count level.views (configs_of outer) (no_end_at_once levels level.trees level.views) cover.whole);
           stops = λ left less.
-              subst (λ vs. Told places (AreLeft left) (StopsAll places left starts input) [] (threads levels vs ++ configs_of outer)) (sym by.same)
-              (told_closure places (AreLeft left) (StopsAll places left starts input) level.trees (levels_of outer) by.count level.views (configs_of outer)
-              (λ stands place none. no_stop up left less stands (Some place)) (told.stops left less));
-          comes = told.comes;
-          counted = told.counted;
-          behind = told.behind;
+              subst (λ vs. Cover places (AreLeft left) (StopsAll places left starts input) [] (threads levels vs ++ configs_of outer)) (sym by.same)
+              (cover_closure places (AreLeft left) (StopsAll places left starts input) level.trees (levels_of outer) by.count level.views (configs_of outer)
+              (λ arrived place none. no_stop up left less arrived (Some place)) (cover.stops left less));
+          comes = cover.comes;
+          counted = cover.counted;
+          behind = cover.behind;
         },
-        λ stands. up (stands_closed level.trees places by.count level.views (subst (Stands level.trees) by.same stands)),
+        λ arrived. up (arrived_closed level.trees places by.count level.views (subst (HasArrived level.trees) by.same arrived)),
       )
         where
           levels : List Forest
           levels = level.trees ∷ levels_of outer
 
       -- The threads after a step do so too.
-      pub told_on : (news : List LevelView) → AreClosed places level.trees level.views → Advances places level outer news → AreTold at news
-      told_on news calm is =
+      pub cover_on : (news : List LevelView) → AreClosed places level.trees level.views → Advances places level outer news → AreCovering at news
+      cover_on news calm is =
           record {
-            whole = told_advances places Ends (ReadsAll places starts input) level outer news calm (no_end places level outer news is) is told.whole;
-            stops = λ left less. told_advances places (AreLeft left) (StopsAll places left starts input) level outer news calm (no_stop up left less) is (told.stops left less);
-            comes = told.comes;
-            counted = counted_on places (size input) level outer news is told.counted;
-            behind = omega (arith, told.behind, left_on places level outer news is);
+            whole = cover_advances places Ends (ReadsAll places starts input) level outer news calm (no_end places level outer news is) is cover.whole;
+            stops = λ left less. cover_advances places (AreLeft left) (StopsAll places left starts input) level outer news calm (no_stop up left less) is (cover.stops left less);
+            comes = cover.comes;
+            counted = counted_on places (size input) level outer news is cover.counted;
+            behind = omega (arith, cover.behind, left_on places level outer news is);
           }
 
       -- At the end of the outermost level the choice says which paths are wanted.
@@ -193,31 +193,31 @@ module _ (places : List Place) (starts : List ℕ) (input : Forest) where
           → Says places (ReadsAll places starts input) log (choice_of places choice.Nothing its)
       says_ended log its calm is =
           says places (ReadsAll places starts input) log its level.trees is.is_ended (subst (AreClosed places level.trees) (sym is.views_are) calm)
-          (subst (λ vs. Told places Ends (ReadsAll places starts input) [] (threads (level.trees ∷ []) vs ++ [])) (sym is.views_are)
-          (subst (λ ls. Told places Ends (ReadsAll places starts input) [] (configs_of (level ∷ ls))) is.is_outermost told.whole))
+          (subst (λ vs. Cover places Ends (ReadsAll places starts input) [] (threads (level.trees ∷ []) vs ++ [])) (sym is.views_are)
+          (subst (λ ls. Cover places Ends (ReadsAll places starts input) [] (configs_of (level ∷ ls))) is.is_outermost cover.whole))
 
       -- No path goes on from there.
       pub stopped_ended : (views : List View) → IsEndedWith level outer views → AreStopped (λ left. StopsAll places left starts input) (size input) at
       stopped_ended views is =
           record {
-            left = told.comes.0;
-            place = told.comes.1;
-            comes = told.comes.2;
-            least = λ other less path stops. none other (omega (arith, less, told.comes.1)) path ((told.stops other (omega (arith, less, told.comes.1))).whole path stops);
+            left = cover.comes.0;
+            place = cover.comes.1;
+            comes = cover.comes.2;
+            least = λ other less path stops. none other (omega (arith, less, cover.comes.1)) path ((cover.stops other (omega (arith, less, cover.comes.1))).whole path stops);
           }
         where
-          some : (left : ℕ) → at + left < size input → Stands level.trees level.views → ⊥
-          some left less stands = omega (arith, less, up stands, ap size is.is_ended, ap (λ o. left_in (levels_of o)) is.is_outermost)
+          some : (left : ℕ) → at + left < size input → HasArrived level.trees level.views → ⊥
+          some left less arrived = omega (arith, less, up arrived, ap size is.is_ended, ap (λ o. left_in (levels_of o)) is.is_outermost)
 
-          stands_there : (view : View) → is_here level.trees view.wait ≡ true
-          stands_there view = ended_here level.trees view.wait is.is_ended
+          arrived_there : (view : View) → is_here level.trees view.wait ≡ true
+          arrived_there view = ended_here level.trees view.wait is.is_ended
             where
               ended_here : (trees : Forest) (n : ℕ) → trees ≡ end → is_here trees n ≡ true
               ended_here trees n ended = subst (λ t. is_here t n ≡ true) (sym ended) refl
 
-          stand : (views : List View) → views ≡ [] ⊎ Stands level.trees views
-          stand [] = inl refl
-          stand (view ∷ views) = inr (inl (stands_there view))
+          laid : (views : List View) → views ≡ [] ⊎ HasArrived level.trees views
+          laid [] = inl refl
+          laid (view ∷ views) = inr (inl (arrived_there view))
 
           none_has : (left : ℕ) (views : List View) → views ≡ [] → (path : List ℕ) → Has places (AreLeft left) (threads (level.trees ∷ levels_of outer) views ++ []) path → ⊥
           none_has left [] e path h = h
@@ -230,12 +230,12 @@ module _ (places : List Place) (starts : List ℕ) (input : Forest) where
           none : (left : ℕ) → at + left < size input → (path : List ℕ)
               → (Has places (AreLeft left) [] path ⊎ Has places (AreLeft left) (configs_of (level ∷ outer)) path)
               ⊎ (HasMany places (AreLeft left) [] ⊎ HasMany places (AreLeft left) (configs_of (level ∷ outer))) → ⊥
-          none left less path w = by (stand level.views) w
+          none left less path w = by (laid level.views) w
             where
-              by : level.views ≡ [] ⊎ Stands level.trees level.views
+              by : level.views ≡ [] ⊎ HasArrived level.trees level.views
                   → (Has places (AreLeft left) [] path ⊎ Has places (AreLeft left) (configs_of (level ∷ outer)) path)
                   ⊎ (HasMany places (AreLeft left) [] ⊎ HasMany places (AreLeft left) (configs_of (level ∷ outer))) → ⊥
-              by (inr stands) w = some left less stands
+              by (inr arrived) w = some left less arrived
               by (inl empty) (inl (inl h)) = h
               by (inl empty) (inl (inr h)) =
                   none_has left level.views empty path
@@ -246,8 +246,8 @@ module _ (places : List Place) (starts : List ℕ) (input : Forest) where
                   (subst (λ o. HasMany places (AreLeft left) (threads (level.trees ∷ levels_of outer) level.views ++ configs_of o)) is.is_outermost m)
 
   -- If no level is left, there is no path.
-  pub none_told : (at : ℕ) → AreTold at [] → (path : List ℕ) → ReadsAll places starts input path → ⊥
-  none_told at told path w = none (told.whole.whole path w)
+  pub none_covered : (at : ℕ) → AreCovering at [] → (path : List ℕ) → ReadsAll places starts input path → ⊥
+  none_covered at cover path w = none (cover.whole.whole path w)
     where
       none : (Has places Ends [] path ⊎ Has places Ends [] path) ⊎ (HasMany places Ends [] ⊎ HasMany places Ends []) → ⊥
       none (inl (inl h)) = h
@@ -256,13 +256,13 @@ module _ (places : List Place) (starts : List ℕ) (input : Forest) where
       none (inr (inr m)) = m
 
   -- And no path stops.
-  pub stopped_nowhere : (at : ℕ) → AreTold at [] → AreStopped (λ left. StopsAll places left starts input) (size input) at
-  stopped_nowhere at told =
+  pub stopped_nowhere : (at : ℕ) → AreCovering at [] → AreStopped (λ left. StopsAll places left starts input) (size input) at
+  stopped_nowhere at cover =
       record {
-        left = told.comes.0;
-        place = told.comes.1;
-        comes = told.comes.2;
-        least = λ other less path stops. none other path ((told.stops other (omega (arith, less, told.comes.1))).whole path stops);
+        left = cover.comes.0;
+        place = cover.comes.1;
+        comes = cover.comes.2;
+        least = λ other less path stops. none other path ((cover.stops other (omega (arith, less, cover.comes.1))).whole path stops);
       }
     where
       none : (left : ℕ) (path : List ℕ) → (Has places (AreLeft left) [] path ⊎ Has places (AreLeft left) [] path) ⊎ (HasMany places (AreLeft left) [] ⊎ HasMany places (AreLeft left) []) → ⊥
@@ -281,21 +281,21 @@ module _ (places : List Place) (starts : List ℕ) (input : Forest) where
 
 -- If a thread is there, the place before what is left is reached; otherwise none is.
 pub reached_is : (log : List Turn) (trees : Forest) (here so_far : ℕ) (its : List Thread)
-    → (Stands trees (views_of log its) × (reached trees here so_far its ≡ here)) ⊎ ((Stands trees (views_of log its) → ⊥) × (reached trees here so_far its ≡ so_far))
+    → (HasArrived trees (views_of log its) × (reached trees here so_far its ≡ here)) ⊎ ((HasArrived trees (views_of log its) → ⊥) × (reached trees here so_far its ≡ so_far))
 reached_is log trees here so_far [] = inr (λ s. s, refl)
 reached_is log trees here so_far (it ∷ others) = by (is_here trees it.wait) refl (reached_is log trees here so_far others)
   where
     by : (b : Bool) → is_here trees it.wait ≡ b
-        → (Stands trees (views_of log others) × (reached trees here so_far others ≡ here)) ⊎ ((Stands trees (views_of log others) → ⊥) × (reached trees here so_far others ≡ so_far))
-        → (Stands trees (view_of log it ∷ views_of log others) × (cond b here (reached trees here so_far others) ≡ here))
-        ⊎ ((Stands trees (view_of log it ∷ views_of log others) → ⊥) × (cond b here (reached trees here so_far others) ≡ so_far))
+        → (HasArrived trees (views_of log others) × (reached trees here so_far others ≡ here)) ⊎ ((HasArrived trees (views_of log others) → ⊥) × (reached trees here so_far others ≡ so_far))
+        → (HasArrived trees (view_of log it ∷ views_of log others) × (cond b here (reached trees here so_far others) ≡ here))
+        ⊎ ((HasArrived trees (view_of log it ∷ views_of log others) → ⊥) × (cond b here (reached trees here so_far others) ≡ so_far))
     by true is rest = inl (inl is, refl)
-    by false is (inl (stands, same)) = inl (inr stands, same)
+    by false is (inl (arrived, same)) = inl (inr arrived, same)
     by false is (inr (none, same)) = inr (λ s. no s, same)
       where
-        no : Stands trees (view_of log it ∷ views_of log others) → ⊥
+        no : HasArrived trees (view_of log it ∷ views_of log others) → ⊥
         no (inl here) = cc (sym is ∙ here)
-        no (inr stands) = none stands
+        no (inr arrived) = none arrived
 
 module _ (trees : Forest) (here so_far : ℕ) (its : List Thread) (i : ℕ) (d : Thread) where
   module _ (lt : i < length its) where

@@ -3,30 +3,30 @@ use Rattle.std.proofs.Common.{◌≡◌, inl, inr, ◌+◌, ℕ, suc, zero, true
 use Rattle.std.specs.Prelude.{◌⊎◌, slice_get, Option}
 use Rattle.tt.specs.Forest.{Forest, end}
 use Rattle.mbe_matcher.specs.declared.places.Place.{Place}
-use Rattle.mbe_matcher.specs.Compiled.{Stop, IsStop, Stand}
+use Rattle.mbe_matcher.specs.Compiled.{Stop, IsStop, AreLaid}
 use Rattle.mbe_matcher.specs.Paths.{shift}
 use Rattle.mbe_matcher.specs.Places.{Passes, onward, OnEdge, Ends, Goes, GoesOn, Reads, is_leave}
 
 module _ (places : List Place) where
-  pub stand_left : (at : ℕ) (xs ys : List Stop) → Stand places at (xs ++ ys) → Stand places at xs
-  stand_left at [] ys all = tt
-  stand_left at (x ∷ xs) ys all = (all.0, stand_left (suc at) xs ys all.1)
+  pub laid_left : (at : ℕ) (xs ys : List Stop) → AreLaid places at (xs ++ ys) → AreLaid places at xs
+  laid_left at [] ys all = tt
+  laid_left at (x ∷ xs) ys all = (all.0, laid_left (suc at) xs ys all.1)
 
-  pub stand_right : (at to : ℕ) (xs ys : List Stop) → to ≡ at + length xs → Stand places at (xs ++ ys) → Stand places to ys
-  stand_right at to [] ys is all = let same : at ≡ to = omega (arith, is) in subst (λ n. Stand places n ys) same all
-  stand_right at to (x ∷ xs) ys is all = stand_right (suc at) to xs ys (omega (arith, is)) all.1
+  pub laid_right : (at to : ℕ) (xs ys : List Stop) → to ≡ at + length xs → AreLaid places at (xs ++ ys) → AreLaid places to ys
+  laid_right at to [] ys is all = let same : at ≡ to = omega (arith, is) in subst (λ n. AreLaid places n ys) same all
+  laid_right at to (x ∷ xs) ys is all = laid_right (suc at) to xs ys (omega (arith, is)) all.1
 
-  module _ (levels : List Forest) (at : ℕ) (stop : Stop) (stands : IsStop (slice_get places at) stop) where
+  module _ (levels : List Forest) (at : ℕ) (stop : Stop) (arrived : IsStop (slice_get places at) stop) where
     -- At the end of everything a path ends, and only there.
     pub ends_by : is_leave stop.label ≡ true → levels ≡ end ∷ [] → Reads places at levels []
-    ends_by leave ended = by (slice_get places at) stands
+    ends_by leave ended = by (slice_get places at) arrived
       where
         by : (place : Option Place) → IsStop place stop → Ends place levels
         by None is = absurd is
         by (Some place) is = (subst (λ a. is_leave a ≡ true) (sym is.0) leave, ended)
 
     pub ended_by : Ends (slice_get places at) levels → (is_leave stop.label ≡ true) × (levels ≡ end ∷ [])
-    ended_by ends = by (slice_get places at) stands ends
+    ended_by ends = by (slice_get places at) arrived ends
       where
         by : (place : Option Place) → IsStop place stop → Ends place levels → (is_leave stop.label ≡ true) × (levels ≡ end ∷ [])
         by None is e = absurd is
@@ -94,11 +94,11 @@ module _ (places : List Place) (Last : Option Place → List Forest → Type 0) 
     via_one to (zero ∷ more) v = (more, refl, v)
     via_one to (suc turn ∷ more) v = absurd v
 
-    module _ (at : ℕ) (stop : Stop) (stands : IsStop (slice_get places at) stop) where
+    module _ (at : ℕ) (stop : Stop) (arrived : IsStop (slice_get places at) stop) where
       -- The place has what it requires, and one of its edges leads on.
       pub goes_by : (path : List ℕ) → Passes stop.label levels → Via stop.edges (onward stop.label levels) path → Goes places Last at levels path
       goes_by [] passes v = absurd v
-      goes_by (turn ∷ more) passes v = by (slice_get places at) stands
+      goes_by (turn ∷ more) passes v = by (slice_get places at) arrived
         where
           by : (place : Option Place) → IsStop place stop → GoesOn place levels turn (λ to further. Goes places Last to further more)
           by None is = absurd is
@@ -112,7 +112,7 @@ module _ (places : List Place) (Last : Option Place → List Forest → Type 0) 
       pub comes_by : (path : List ℕ) → Goes places Last at levels path
           → ((path ≡ []) × Last (slice_get places at) levels) ⊎ (Passes stop.label levels × Via stop.edges (onward stop.label levels) path)
       comes_by [] last = inl (refl, last)
-      comes_by (turn ∷ more) goes = by (slice_get places at) stands goes
+      comes_by (turn ∷ more) goes = by (slice_get places at) arrived goes
         where
           by : (place : Option Place) → IsStop place stop → GoesOn place levels turn (λ to further. Goes places Last to further more)
               → ((turn ∷ more ≡ []) × Last (slice_get places at) levels) ⊎ (Passes stop.label levels × Via stop.edges (onward stop.label levels) (turn ∷ more))

@@ -80,6 +80,6 @@ IsStop None stop = ⊥
 IsStop (Some place) stop = (label_of place.atom ≡ stop.label) × (place.edges.items ≡ stop.edges)
 
 -- the places from there on are these stops
-abbrev pub Stand : List Place → (at : ℕ) → List Stop → Type 0
-Stand places at [] = Unit {0}
-Stand places at (stop ∷ others) = IsStop (slice_get places at) stop × Stand places (suc at) others
+abbrev pub AreLaid : List Place → (at : ℕ) → List Stop → Type 0
+AreLaid places at [] = Unit {0}
+AreLaid places at (stop ∷ others) = IsStop (slice_get places at) stop × AreLaid places (suc at) others

@@ -10,7 +10,7 @@ use Rattle.tt.specs.Types.LitKind.{LitKind}
 use Rattle.tt.specs.Types.LitKind.TheVariants as literal
 use Rattle.tt.specs.Types.Leaf.{Leaf}
 use Rattle.tt.specs.Types.Leaf.TheVariants as leaf_of
-use Rattle.mbe_matcher.specs.GrammarReach.{grammar_reach}
+use Rattle.mbe_matcher.specs.GrammarReach.{grammar_reach, is_block}
 use Rattle.mbe_pattern.specs.declared.pattern.Fragment.{Fragment}
 use Rattle.mbe_pattern.specs.declared.pattern.Fragment.TheVariants as fragment
 use Rattle.mbe_pattern.specs.Spelling.{is_parenthesis}
@@ -58,11 +58,11 @@ literal_size trees = if is_at_negative trees then 2 else 1
 abbrev pub is_at_lifetime : Forest → Bool
 is_at_lifetime trees = is_at_punct (codes "'") trees && is_at_ident (after_tree trees)
 
--- the first tree is a subtree in braces
+-- the first tree is a block
 abbrev pub is_at_block : Forest → Bool
 is_at_block end = false
 is_at_block (leaf it rest) = false
-is_at_block (node delimiter children rest) = is_brace delimiter.kind
+is_at_block (node delimiter children rest) = is_brace delimiter.kind && is_block children
 
 -- `in` and what follows it, or `crate`, `self` or `super` alone
 abbrev pub is_scope : (inside : Forest) → Bool
@@ -81,7 +81,7 @@ abbrev pub visibility_size : Forest → ℕ
 visibility_size trees = if is_at_word (codes "pub") trees then (if is_at_scope (after_tree trees) then 2 else 1) else 0
 
 -- the fragment takes the trees at the front: an ident other than `_`; a literal, a truth value, or a number after `-`; a lifetime; a
--- subtree in braces; a visibility, or nothing if there is none; any token or subtree; or what Rust's grammar takes
+-- block; a visibility, or nothing if there is none; any token or subtree; or what Rust's grammar takes
 abbrev pub takes : Fragment → Forest → Bool
 takes fragment.Ident trees = is_some (unless_underscore (first_leaf_as as_ident_or_underscore trees))
 takes fragment.Literal trees = is_at_literal trees || is_at_negative trees

@@ -2,15 +2,16 @@
 ghost use Rattle.std.specs.Prelude.{◌≡◌, ◌↔◌, IfOk, IsTrue};
 ghost use Rattle.tt.specs.Iters.{rest_of};
 ghost use Rattle.tt.specs.Moves.{after_tree};
-ghost use Rattle.mbe_grammar.specs.Fragments.{Reaches};
+ghost use Rattle.tt.specs.Views.{trees_of};
+ghost use Rattle.mbe_grammar.specs.Fragments.{ReachesDeep};
 ghost use Rattle.mbe_matcher.specs.Fragments.{is_at_number, is_at_negative, is_at_lifetime, is_at_block, is_scope, is_at_scope, visibility_size, literal_size, takes, takes_nothing, reach};
 ghost use Rattle.mbe_pattern.specs.Units.{is_at_word, unit_size, AreLeavesLike};
-ghost use Rattle.mbe_matcher.specs.GrammarReach.{grammar_reach};
+ghost use Rattle.mbe_matcher.specs.GrammarReach.{grammar_reach, is_block};
 
-use mbe_grammar::reach as reach_by_grammar;
+use mbe_grammar::{is_block as is_block_by_grammar, reach_deep};
 use mbe_pattern::{Fragment, GrammarFragment, is_at_word, passes_leaf, unit_size};
 use std::alloc::{AllocError, Global};
-use tt::{DelimiterKind, Leaf, LitKind, TtElement, TtIter};
+use tt::{DelimiterKind, Leaf, LitKind, TokenTreesView, TtElement, TtIter};
 
 /// Returns whether the first trees are such leaves, one by one.
 pub(crate) fn are_leaves_like(leaves: &[Leaf], mut trees: TtIter<'_>) -> bool
@@ -51,13 +52,23 @@ fn is_at_lifetime(mut trees: TtIter<'_>) -> bool
     trees.expect_char('\'').is_ok() && trees.expect_ident_or_underscore().is_ok()
 }
 
-// Returns whether the first tree is a subtree in braces.
-fn is_at_block(mut trees: TtIter<'_>) -> bool
-    ensures { result ≡ is_at_block (rest_of trees.entry) }
+// Returns whether the trees are the contents of a block.
+fn is_block(alloc: Global, trees: TokenTreesView<'_>) -> Result<bool, AllocError>
+    ensures { IfOk result (λ answer. answer ≡ is_block (trees_of trees.entry)) }
+{
+    is_block_by_grammar(alloc, trees)
+}
+
+// Returns whether the first tree is a block.
+fn is_at_block(alloc: Global, mut trees: TtIter<'_>) -> Result<bool, AllocError>
+    ensures { IfOk result (λ answer. answer ≡ is_at_block (rest_of trees.entry)) }
 {
     match trees.next() {
-        Some(TtElement::Subtree(header, _)) => header.delimiter.kind == DelimiterKind::Brace,
-        _ => false,
+        Some(TtElement::Subtree(header, inside)) => match header.delimiter.kind {
+            DelimiterKind::Brace => is_block(alloc, inside.remaining()),
+            _ => Ok(false),
+        },
+        _ => Ok(false),
     }
 }
 
@@ -98,16 +109,17 @@ fn visibility_size(mut trees: TtIter<'_>) -> usize
     if is_at_scope(trees) { 2 } else { 1 }
 }
 
-/// Returns how many trees the fragment of Rust's grammar takes from the front, if it takes any there. Fails only if memory runs out.
+/// Returns how many trees the fragment of Rust's grammar takes from the front; none if it takes none there, or if a subtree that it takes
+/// has other contents than its name in the grammar says. Fails only if memory runs out.
 pub(crate) fn grammar_reach(
     alloc: Global,
     fragment: GrammarFragment,
     trees: TtIter<'_>,
 ) -> Result<Option<usize>, AllocError>
-    ensures reaches { IfOk result (λ count. Reaches fragment (rest_of trees.entry) count) }
-    ensures told { IfOk result (λ count. count ≡ grammar_reach fragment (rest_of trees.entry)) }
+    ensures reaches { IfOk result (λ count. ReachesDeep fragment (rest_of trees.entry) count) }
+    ensures count_is { IfOk result (λ count. count ≡ grammar_reach fragment (rest_of trees.entry)) }
 {
-    reach_by_grammar(alloc, fragment, trees)
+    reach_deep(alloc, fragment, trees)
 }
 
 /// Returns whether the fragment takes the trees at the front. Fails only if memory runs out.
@@ -125,7 +137,7 @@ pub(crate) fn takes(
             Ok(trees.expect_literal().is_ok() || is_at_negative(ahead))
         }
         Fragment::Lifetime => Ok(is_at_lifetime(trees)),
-        Fragment::Block => Ok(is_at_block(trees)),
+        Fragment::Block => is_at_block(alloc, trees),
         Fragment::Vis => Ok(true),
         Fragment::Tt => Ok(!trees.is_empty()),
         Fragment::Grammar(which) => Ok(grammar_reach(alloc, which, trees)?.is_some()),

@@ -69,5 +69,5 @@ front_joined (suc n) (leaf it rest) = ap (leaf it) (front_joined n rest)
 front_joined (suc n) (node delimiter children rest) = ap (node delimiter children) (front_joined n rest)
 
 -- The trees before the rest are determined by the rest.
-pub front_told : (n : ℕ) (trees given : Forest) → join given (after_trees n trees) ≡ trees → given ≡ front_trees n trees
-front_told n trees given is = join-cancel given (front_trees n trees) (after_trees n trees) (is ∙ front_joined n trees)
+pub front_is : (n : ℕ) (trees given : Forest) → join given (after_trees n trees) ≡ trees → given ≡ front_trees n trees
+front_is n trees given is = join-cancel given (front_trees n trees) (after_trees n trees) (is ∙ front_joined n trees)

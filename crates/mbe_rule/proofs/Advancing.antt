@@ -98,24 +98,24 @@ module _ (old new : Pair) (before after : List Forest) where
 
     module _ (at : variable_at it (after_tree (rest_of old.pattern)) ≡ None) where
       -- as a leaf
-      stands : pattern_of (rest_of old.pattern) ≡ token it (pattern_of (after_tree (rest_of old.pattern)))
-      stands = ap pattern_of begins ∙ token_first it (after_tree (rest_of old.pattern)) at
+      spells : pattern_of (rest_of old.pattern) ≡ token it (pattern_of (after_tree (rest_of old.pattern)))
+      spells = ap pattern_of begins ∙ token_first it (after_tree (rest_of old.pattern)) at
 
       -- The input has the leaf.
       pub token_passes : IsLeafLike it (rest_of old.input) → rest_of new.pattern ≡ after_tree (rest_of old.pattern) → rest_of new.input ≡ after_tree (rest_of old.input)
           → after ≡ before → Advances old before progress.Passes new after
       token_passes like behind rest same = (
         (
-          λ m. subst (λ f. Matches (pattern_of f) (rest_of new.input)) (sym behind) (subst (Matches (pattern_of (after_tree (rest_of old.pattern)))) (sym rest) (subst (λ p. Matches p (rest_of old.input)) stands m).1),
-          λ m. subst (λ p. Matches p (rest_of old.input)) (sym stands) (like, subst (Matches (pattern_of (after_tree (rest_of old.pattern)))) rest (subst (λ f. Matches (pattern_of f) (rest_of new.input)) behind m)),
+          λ m. subst (λ f. Matches (pattern_of f) (rest_of new.input)) (sym behind) (subst (Matches (pattern_of (after_tree (rest_of old.pattern)))) (sym rest) (subst (λ p. Matches p (rest_of old.input)) spells m).1),
+          λ m. subst (λ p. Matches p (rest_of old.input)) (sym spells) (like, subst (Matches (pattern_of (after_tree (rest_of old.pattern)))) rest (subst (λ f. Matches (pattern_of f) (rest_of new.input)) behind m)),
         ),
-        ap₂ (λ l t. l ++ t) same (ap₂ (λ f i. trees_bound (pattern_of f) i) behind rest ∙ ap (λ p. trees_bound p (rest_of old.input)) (sym stands)),
+        ap₂ (λ l t. l ++ t) same (ap₂ (λ f i. trees_bound (pattern_of f) i) behind rest ∙ ap (λ p. trees_bound p (rest_of old.input)) (sym spells)),
         omega (arith, ap size begins, ap size behind),
       )
 
       -- The input does not have it.
       pub token_differs : (IsLeafLike it (rest_of old.input) → ⊥) → Advances old before progress.Differs new after
-      token_differs other m = other (subst (λ p. Matches p (rest_of old.input)) stands m).0
+      token_differs other m = other (subst (λ p. Matches p (rest_of old.input)) spells m).0
 
   module _ (header : Subtree) (inside : TtIter) (first : IsFirstElement (rest_of old.pattern) (Some (element.Subtree header inside))) where
     -- the pattern as it is read

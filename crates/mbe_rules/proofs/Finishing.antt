@@ -1,5 +1,5 @@
 -- A template is filled from its first part to its last.
-use Rattle.std.proofs.Common.{◌≡◌, true, List, [], ◌∷◌, map, reverse, None, refl, ap, ap₂, sym, subst, ◌∙◌, arith}
+use Rattle.std.proofs.Common.{◌≡◌, List, [], ◌∷◌, map, reverse, None, refl, ap, ap₂, sym, subst, ◌∙◌, arith}
 use Rattle.tt.specs.Building.{lowest, bottom, built, empty_builder, tokens_held, IsAbove, IsOpen}
 use Rattle.tt.specs.TreeFault.{under}
 use Rattle.tt.specs.Types.Delimiter.{Delimiter}
@@ -14,14 +14,13 @@ use Rattle.mbe_rules.specs.declared.parts.Part.{Part}
 use Rattle.mbe_rules.specs.declared.taken.Round.{Round}
 use Rattle.mbe_rules.specs.Transcribing.{Transcribed, transcribed, in_round}
 use Rattle.mbe_rules.specs.Parts.{Bit, bit_of, bits_of}
-use Rattle.mbe_rules.specs.Results.{IsToldOf, IsTranscribeError}
+use Rattle.mbe_rules.specs.Results.{IsLimitOf, IsTranscribeError}
 use Rattle.mbe_rules.specs.Rounds.{bound_in}
-use Rattle.mbe_rules.specs.Standing.{AreLevels, IsAt, IsStop}
+use Rattle.mbe_rules.specs.Filling.{AreLevels, IsAt, IsStop}
 use Rattle.mbe_rules.specs.Templates.{Template, nothing, use_of, token, subtree, repetition}
-use Rattle.mbe_rules.specs.Wholes.{are_whole, whole_of}
+use Rattle.mbe_rules.specs.Wholes.{AreWhole, whole_of}
 use Rattle.mbe_rules.specs.Writing.{Closing, last, Level, end_of, Written, written_by, finished}
 use Rattle.mbe_rules.proofs.Going.{level_of}
-use Rattle.mbe_rules.proofs.Wholeness.{parts_are}
 
 -- what is written if everything is filled
 abbrev pub written_of : Transcribed → Written
@@ -37,14 +36,14 @@ abbrev pub first_level : List Part → Binding → Level
 first_level parts binding = level_of (whole_of parts) binding last
 
 -- At the beginning the filling is in that level.
-pub starts : (parts : List Part) (binding : Binding) (it : Transcriber) (delimiter : Delimiter) → are_whole parts ≡ true → it.builder ≡ empty_builder delimiter
+pub starts : (parts : List Part) (binding : Binding) (it : Transcriber) (delimiter : Delimiter) → AreWhole parts → it.builder ≡ empty_builder delimiter
     → it.rounds.items ≡ [] → it.closes.items ≡ [] → IsAt (map bit_of parts) binding (first_level parts binding ∷ []) it (map bit_of parts)
 starts parts binding it delimiter whole builder rounds closes =
     record {
-      stand =
+      agree =
           subst (λ l. AreLevels (map bit_of parts) binding (first_level parts binding ∷ []) l (reverse it.closes.items) (map bit_of parts)) (sym (ap reverse rounds))
           (subst (λ l. AreLevels (map bit_of parts) binding (first_level parts binding ∷ []) [] l (map bit_of parts)) (sym (ap reverse closes))
-          ([], parts_are parts whole, nothing_begun binding, (refl, (refl, refl, refl))));
+          ([], whole, nothing_begun binding, (refl, (refl, refl, refl))));
       few = omega (arith, ap (λ b. tokens_held b.stack) builder);
     }
 
@@ -61,7 +60,7 @@ none_left (subtree delimiter inner others) closing behind is = cc is
 none_left (repetition at inner separator kind others) closing behind is = cc is
 
 pub ends : (bits : List Bit) (whole : Binding) (levels : List Level) (rounds : List Round) (closes : List Span) → AreLevels bits whole levels rounds closes [] → levels ≡ []
-ends bits whole [] rounds closes stand = refl
+ends bits whole [] rounds closes agree = refl
 ends bits whole (level ∷ outer) rounds closes (behind, is, bound, more) = absurd (none_left level.rest level.closing behind is)
 
 -- So everything is written.
@@ -76,31 +75,31 @@ pub built_is : (it : Transcriber) (all : Transcribed) (delimiter : Delimiter) �
 built_is it all delimiter is top = ap₂ (λ d w. under d (bottom w.stack)) top is
 
 -- Each limit is one of the whole filled template.
-pub told_all : (it : Transcribed) (fault : TtFault) → None ≡ it.fault → IsToldOf it fault
-told_all it limit.Memory none = tt
-told_all it limit.TooManyTokens none = tt
-told_all it limit.NotOneSubtree none = sym none
-told_all it limit.NoSuchPlace none = sym none
-told_all it limit.NotALeaf none = sym none
-told_all it limit.SuffixTooLong none = sym none
-told_all it limit.BadScan none = sym none
-told_all it limit.TooManySpanParts none = sym none
-told_all it limit.TooManySymbols none = sym none
-told_all it limit.TooManyBytes none = sym none
-told_all it limit.PointsSpent none = sym none
+pub limit_of_all : (it : Transcribed) (fault : TtFault) → None ≡ it.fault → IsLimitOf it fault
+limit_of_all it limit.Memory none = tt
+limit_of_all it limit.TooManyTokens none = tt
+limit_of_all it limit.NotOneSubtree none = sym none
+limit_of_all it limit.NoSuchPlace none = sym none
+limit_of_all it limit.NotALeaf none = sym none
+limit_of_all it limit.SuffixTooLong none = sym none
+limit_of_all it limit.BadScan none = sym none
+limit_of_all it limit.TooManySpanParts none = sym none
+limit_of_all it limit.TooManySymbols none = sym none
+limit_of_all it limit.TooManyBytes none = sym none
+limit_of_all it limit.PointsSpent none = sym none
 
 -- The error that stops the filling is the right one.
-pub stop_told : (delimiter : Delimiter) (it : Transcribed) (error : TranscribeError) → IsStop (written_of it) error → IsTranscribeError delimiter it error
-stop_told delimiter it (refusal.LengthsDiffer at) stop = stop
-stop_told delimiter it (refusal.NoRound at) stop = stop
-stop_told delimiter it (refusal.Tree limit.Memory) stop = (tt, tt)
-stop_told delimiter it (refusal.Tree limit.TooManyTokens) stop = (tt, stop)
-stop_told delimiter it (refusal.Tree limit.NotOneSubtree) stop = absurd stop
-stop_told delimiter it (refusal.Tree limit.NoSuchPlace) stop = absurd stop
-stop_told delimiter it (refusal.Tree limit.NotALeaf) stop = absurd stop
-stop_told delimiter it (refusal.Tree limit.SuffixTooLong) stop = absurd stop
-stop_told delimiter it (refusal.Tree limit.BadScan) stop = absurd stop
-stop_told delimiter it (refusal.Tree limit.TooManySpanParts) stop = absurd stop
-stop_told delimiter it (refusal.Tree limit.TooManySymbols) stop = absurd stop
-stop_told delimiter it (refusal.Tree limit.TooManyBytes) stop = absurd stop
-stop_told delimiter it (refusal.Tree limit.PointsSpent) stop = absurd stop
+pub stop_is_error : (delimiter : Delimiter) (it : Transcribed) (error : TranscribeError) → IsStop (written_of it) error → IsTranscribeError delimiter it error
+stop_is_error delimiter it (refusal.LengthsDiffer at) stop = stop
+stop_is_error delimiter it (refusal.NoRound at) stop = stop
+stop_is_error delimiter it (refusal.Tree limit.Memory) stop = (tt, tt)
+stop_is_error delimiter it (refusal.Tree limit.TooManyTokens) stop = (tt, stop)
+stop_is_error delimiter it (refusal.Tree limit.NotOneSubtree) stop = absurd stop
+stop_is_error delimiter it (refusal.Tree limit.NoSuchPlace) stop = absurd stop
+stop_is_error delimiter it (refusal.Tree limit.NotALeaf) stop = absurd stop
+stop_is_error delimiter it (refusal.Tree limit.SuffixTooLong) stop = absurd stop
+stop_is_error delimiter it (refusal.Tree limit.BadScan) stop = absurd stop
+stop_is_error delimiter it (refusal.Tree limit.TooManySpanParts) stop = absurd stop
+stop_is_error delimiter it (refusal.Tree limit.TooManySymbols) stop = absurd stop
+stop_is_error delimiter it (refusal.Tree limit.TooManyBytes) stop = absurd stop
+stop_is_error delimiter it (refusal.Tree limit.PointsSpent) stop = absurd stop

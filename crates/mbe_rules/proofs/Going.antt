@@ -10,7 +10,7 @@ use Rattle.mbe_matcher.specs.Bindings.{Binding}
 use Rattle.mbe_rules.specs.declared.taken.Round.{Round}
 use Rattle.mbe_rules.specs.Transcribing.{all_transcribed, in_subtree, transcribed, trees_transcribed}
 use Rattle.mbe_rules.specs.Parts.{Bit, uses, same, enter, leave, bits_of}
-use Rattle.mbe_rules.specs.Standing.{bound_here, IsEnd, AreLevels}
+use Rattle.mbe_rules.specs.Filling.{bound_here, IsEnd, AreLevels}
 use Rattle.mbe_rules.specs.Templates.{Template, nothing, use_of, token, subtree, repetition}
 use Rattle.mbe_rules.specs.Working.{work_of}
 use Rattle.mbe_rules.specs.Writing.{Closing, last, shut, again, Level, end_of, write, behind_end, finished}
@@ -23,7 +23,7 @@ level_of rest binding closing = record { rest = rest; binding = binding; closing
 -- the filling goes on to other levels, with this change to what was written
 pub record Next (bits : List Bit) (whole : Binding) (levels : List Level) (rounds : List Round) (closes : List Span) (left : List Bit) (change : Stack → Stack) : Type 0 where
   pub news : List Level
-  pub stand : AreLevels bits whole news rounds closes left
+  pub agree : AreLevels bits whole news rounds closes left
   pub same : (stack : Stack) → finished levels (sound stack) ≡ finished news (sound (change stack))
   pub less : work_of news < work_of levels
 
@@ -31,8 +31,8 @@ module _ (bits : List Bit) (whole : Binding) (outer : List Level) (rounds : List
     (bound : binding ≡ bound_here whole rounds)
     (ends : IsEnd bits whole (λ more others. AreLevels bits whole outer more others behind) closing rounds closes behind) where
   -- what is then left of the level
-  stand_on : (others : Template) → left ≡ bits_of others (end_of closing ∷ behind) → AreLevels bits whole (level_of others binding closing ∷ outer) rounds closes left
-  stand_on others is = (behind, is, bound, ends)
+  agree_on : (others : Template) → left ≡ bits_of others (end_of closing ∷ behind) → AreLevels bits whole (level_of others binding closing ∷ outer) rounds closes left
+  agree_on others is = (behind, is, bound, ends)
 
   -- A use comes first.
   use_next : (at variable : ℕ) (rest : Template) → uses at variable ∷ left ≡ bits_of rest (end_of closing ∷ behind)
@@ -46,7 +46,7 @@ module _ (bits : List Bit) (whole : Binding) (outer : List Level) (rounds : List
   use_next at variable (use_of there which others) is =
       record {
         news = level_of others binding closing ∷ outer;
-        stand = stand_on others (cc is);
+        agree = agree_on others (cc is);
         same =
             λ stack. ap (λ w. finished outer (behind_end closing w)) (write_both (all_transcribed (trees_transcribed (slice_get binding which))) (transcribed others binding) (sound stack))
             ∙ ap₂ (λ b v. finished outer (behind_end closing (write (transcribed others binding) (sound (append (trees_transcribed (slice_get b v)) stack))))) bound same_variable;
@@ -72,7 +72,7 @@ module _ (bits : List Bit) (whole : Binding) (outer : List Level) (rounds : List
   token_next it (token other others) is =
       record {
         news = level_of others binding closing ∷ outer;
-        stand = stand_on others (cc is);
+        agree = agree_on others (cc is);
         same =
             λ stack. ap (λ w. finished outer (behind_end closing w)) (write_both (all_transcribed (leaf other end)) (transcribed others binding) (sound stack))
             ∙ ap (λ l. finished outer (behind_end closing (write (transcribed others binding) (sound (append (leaf l end) stack))))) same_leaf;
@@ -98,7 +98,7 @@ module _ (bits : List Bit) (whole : Binding) (outer : List Level) (rounds : List
   enter_next delimiter (subtree other inner others) is =
       record {
         news = level_of inner binding (shut delimiter.close) ∷ level_of others binding closing ∷ outer;
-        stand =
+        agree =
             (bits_of others (end_of closing ∷ behind), (λ i. held i), bound, (closes, refl, (behind, refl, bound, ends)));
         same =
             λ stack. ap (λ w. finished outer (behind_end closing w)) (write_both (in_subtree other (transcribed inner binding)) (transcribed others binding) (sound stack))
@@ -117,18 +117,18 @@ module _ (bits : List Bit) (whole : Binding) (outer : List Level) (rounds : List
 module _ (bits : List Bit) (whole : Binding) (rounds : List Round) (closes : List Span) (left : List Bit) where
   pub goes_use : (at variable : ℕ) (levels : List Level) → AreLevels bits whole levels rounds closes (uses at variable ∷ left)
       → Next bits whole levels rounds closes left (append (trees_transcribed (slice_get (bound_here whole rounds) variable)))
-  goes_use at variable [] stand = absurd (cc stand.2)
+  goes_use at variable [] agree = absurd (cc agree.2)
   goes_use at variable (level ∷ outer) (behind, is, bound, ends) =
       use_next bits whole outer rounds closes level.binding level.closing behind left bound ends at variable level.rest is
 
   pub goes_token : (it : Leaf) (levels : List Level) → AreLevels bits whole levels rounds closes (same it ∷ left)
       → Next bits whole levels rounds closes left (append (leaf it end))
-  goes_token it [] stand = absurd (cc stand.2)
+  goes_token it [] agree = absurd (cc agree.2)
   goes_token it (level ∷ outer) (behind, is, bound, ends) =
       token_next bits whole outer rounds closes level.binding level.closing behind left bound ends it level.rest is
 
   pub goes_enter : (delimiter : Delimiter) (levels : List Level) → AreLevels bits whole levels rounds closes (enter delimiter ∷ left)
       → Next bits whole levels rounds (delimiter.close ∷ closes) left (λ stack. above stack delimiter.kind delimiter.open_span end)
-  goes_enter delimiter [] stand = absurd (cc stand.2)
+  goes_enter delimiter [] agree = absurd (cc agree.2)
   goes_enter delimiter (level ∷ outer) (behind, is, bound, ends) =
       enter_next bits whole outer rounds closes level.binding level.closing behind left bound ends delimiter level.rest is

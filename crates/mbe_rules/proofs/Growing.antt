@@ -1,6 +1,6 @@
 -- What is written grows, or an error is returned.
 use Rattle.std.proofs.Common.{◌≡◌, ◌+◌, ◌<◌, ℕ, suc, List, [], ◌∷◌, ◌++◌, length, take, get_or, inl, inr, Ok, Err, Result, refl, ap, sym, subst, ◌∙◌, arith}
-use Rattle.std.specs.Prelude.{OnOk, IfOk, IfErr}
+use Rattle.std.specs.Prelude.{OnOk, IfErr}
 use Rattle.std.proofs.lemmas.List.{take_more, length-take-le}
 use Rattle.tt.specs.Building.{alone, BuilderState, Stack, lowest, above, append, close_innermost, opened, extended, closed, tokens_held, HasRoom, IsAbove, IsGrowthFault}
 use Rattle.tt.specs.Forest.{Forest, end, leaf, node, join, size}
@@ -11,7 +11,7 @@ use Rattle.tt.specs.Types.Span.{Span}
 use Rattle.tt.specs.Types.TtFault.{TtFault}
 use Rattle.mbe_rules.specs.declared.transcribe.Transcriber.{Transcriber}
 use Rattle.mbe_rules.specs.Enclosing.{enclosed_between}
-use Rattle.mbe_rules.specs.Standing.{Grows, IsWant}
+use Rattle.mbe_rules.specs.Filling.{Grows, IsWant}
 use Rattle.tt_base.proofs.Appending.{append-end, append-join, held-append}
 
 -- Trees that there is room for are written.
@@ -96,10 +96,6 @@ ok_both (Err e) then p q = tt
 pub err_so : {A E : Type 0} {P Q : E → Type 0} (result : Result A E) → ((e : E) → P e → Q e) → IfErr result P → IfErr result Q
 err_so (Ok x) then p = tt
 err_so (Err e) then p = then e p
-
-pub ok_so : {A E : Type 0} {P Q : A → Type 0} (result : Result A E) → ((x : A) → P x → Q x) → IfOk result P → IfOk result Q
-ok_so (Ok x) then p = then x p
-ok_so (Err e) then p = tt
 
 -- Making the last token alone does not change the number of tokens.
 pub size-alone : (trees : Forest) → size (alone trees) ≡ size trees

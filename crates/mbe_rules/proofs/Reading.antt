@@ -93,8 +93,8 @@ module _ (until : ℕ) (trees : Forest) (outer : Delimiter) (held between : Fore
         pub body_sound : template_fault (variables (pattern_of held)) (template_of (variables (pattern_of held)) body) ≡ None → body_fault until trees ≡ None
         body_sound is = template_is ∙ ap (template_fault_in until (variables (pattern_of held))) ends ∙ ap (option_map of_template) is
 
-        pub behind_told : behind_arm trees ≡ rest
-        behind_told = ap behind_arm begins ∙ ap after_tree ends
+        pub behind_same : behind_arm trees ≡ rest
+        behind_same = ap behind_arm begins ∙ ap after_tree ends
 
 -- A fault up to the end of the template is a fault of the arm.
 pub body_wrong : (until : ℕ) (trees : Forest) (error : ArmFault) → IsArmFault (body_fault until trees) error → IsArmFault (arm_fault until trees) error
@@ -114,7 +114,7 @@ module _ (until : ℕ) (trees : Forest) (arm : Arm) (rest : Forest) (is : IsArm 
       (ap₂ (λ p t. template_fault (variables p) t) (sym is.is_pattern) (ap (λ p. template_of (variables p) is.template) (sym is.is_pattern) ∙ sym is.is_template) ∙ is.sound_template)
 
   arm_behind : behind_arm trees ≡ rest
-  arm_behind = behind_told until trees is.outer is.pattern is.between is.begins is.sound_pattern is.arrow arm.delimiter is.template rest is.ends
+  arm_behind = behind_same until trees is.outer is.pattern is.between is.begins is.sound_pattern is.arrow arm.delimiter is.template rest is.ends
 
   arm_is : arm_fault until trees ≡ semicolon_fault until rest
   arm_is = ap₂ (λ f r. or_else f (semicolon_fault until r)) arm_body arm_behind

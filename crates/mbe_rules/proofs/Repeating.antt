@@ -12,9 +12,9 @@ use Rattle.mbe_rules.specs.declared.taken.Round.{Round}
 use Rattle.mbe_rules.specs.Counting.{counted_all, rounds_by, uses_before, kind_before, behind_close}
 use Rattle.mbe_rules.specs.Transcribing.{TranscribeFault, all_transcribed, and_then, more_rounds, transcribed_if, transcribed, first_of, others_of, in_round, rounds_of, counts_of, used_in}
 use Rattle.mbe_rules.specs.Parts.{Bit, leave, begin, close, bits_of}
-use Rattle.mbe_rules.specs.Standing.{later, bound_here, IsEnd, AreLevels}
+use Rattle.mbe_rules.specs.Filling.{later, bound_here, IsEnd, AreLevels}
 use Rattle.mbe_rules.specs.Templates.{Template, nothing, use_of, token, subtree, repetition}
-use Rattle.mbe_rules.specs.Working.{told, work_in_rounds, work}
+use Rattle.mbe_rules.specs.Working.{known, work_in_rounds, work}
 use Rattle.mbe_rules.specs.Writing.{Closing, last, shut, again, Level, end_of, write, behind_end, finished}
 use Rattle.mbe_rules.proofs.Going.{level_of, Next}
 use Rattle.mbe_rules.proofs.Rounding.{bound_inside, first_round, other_rounds}
@@ -42,7 +42,7 @@ module _ (bits : List Bit) (whole : Binding) (left : List Bit) where
     end_all last rounds nothing is ends =
         record {
           news = outer;
-          stand = subst_left (cc is) (ends.1);
+          agree = subst_left (cc is) (ends.1);
           same = λ stack. ap (finished outer) (write_nothing (sound stack));
           less = omega arith;
         }
@@ -63,7 +63,7 @@ module _ (bits : List Bit) (whole : Binding) (left : List Bit) where
     end_subtree (shut other) rounds span more nothing is (others, some, ends) =
         record {
           news = outer;
-          stand = moved (cc some) (cc is) ends;
+          agree = moved (cc some) (cc is) ends;
           same = λ stack. ap (λ w. finished outer (behind_end (shut other) w)) (write_nothing (sound stack)) ∙ ap (λ s. finished outer (sound (close_innermost s stack))) same_span;
           less = omega arith;
         }
@@ -85,8 +85,8 @@ module _ (bits : List Bit) (whole : Binding) (left : List Bit) where
       (at : ℕ) (inner : Template) (separator : List Leaf) (kind : RepeatKind) (others : Template)
       (held : left ≡ bits_of inner (close separator kind ∷ bits_of others (end_of closing ∷ behind))) where
     -- how often it is filled
-    told_as : (n : Result ℕ TranscribeFault) → asked at (bound_here whole rounds) left ≡ n → rounds_of at kind (counts_of binding (used_in inner)) ≡ n
-    told_as n is =
+    asked_as : (n : Result ℕ TranscribeFault) → asked at (bound_here whole rounds) left ≡ n → rounds_of at kind (counts_of binding (used_in inner)) ≡ n
+    asked_as n is =
         sym (asked_is at binding inner separator kind (bits_of others (end_of closing ∷ behind)))
         ∙ ap (asked at binding) (sym held) ∙ ap (λ b. asked at b left) bound ∙ is
 
@@ -97,7 +97,7 @@ module _ (bits : List Bit) (whole : Binding) (left : List Bit) where
     written_as n stack is =
         ap (λ w. finished outer (behind_end closing w))
         (write_both (transcribed_if (transcribed inner) (leaves separator) (rounds_of at kind (counts_of binding (used_in inner))) binding) (transcribed others binding) (sound stack))
-        ∙ ap (λ r. finished outer (behind_end closing (write (transcribed others binding) (write (transcribed_if (transcribed inner) (leaves separator) r binding) (sound stack))))) (told_as n is)
+        ∙ ap (λ r. finished outer (behind_end closing (write (transcribed others binding) (write (transcribed_if (transcribed inner) (leaves separator) r binding) (sound stack))))) (asked_as n is)
 
     -- It has no round.
     begin_none : asked at (bound_here whole rounds) left ≡ Ok 0
@@ -105,7 +105,7 @@ module _ (bits : List Bit) (whole : Binding) (left : List Bit) where
     begin_none is =
         record {
           news = level_of others binding closing ∷ outer;
-          stand =
+          agree =
               (behind, ap (behind_close 0) held ∙ scanned_behind inner separator kind (bits_of others (end_of closing ∷ behind)), bound, ends);
           same =
               λ stack. written_as (Ok 0) stack is ∙ ap (λ w. finished outer (behind_end closing (write (transcribed others binding) w))) (write_nothing (sound stack));
@@ -121,7 +121,7 @@ module _ (bits : List Bit) (whole : Binding) (left : List Bit) where
         record {
           news =
               level_of inner (map (in_round first_of) binding) (again inner separator kind n (map (in_round others_of) binding)) ∷ level_of others binding closing ∷ outer;
-          stand = (
+          agree = (
             bits_of others (end_of closing ∷ behind),
             held,
             ap (map (in_round first_of)) bound ∙ bound_inside whole it rounds,
@@ -137,7 +137,7 @@ module _ (bits : List Bit) (whole : Binding) (left : List Bit) where
               λ stack. written_as (Ok (suc n)) stack is
               ∙ ap (λ w. finished outer (behind_end closing (write (transcribed others binding) w)))
               (write_both (transcribed inner (map (in_round first_of) binding)) (more_rounds (transcribed inner) (leaves separator) n (map (in_round others_of) binding)) (sound stack));
-          less = omega (arith, ap (λ r. work_in_rounds (work inner) (told r) binding) (told_as (Ok (suc n)) is));
+          less = omega (arith, ap (λ r. work_in_rounds (work inner) (known r) binding) (asked_as (Ok (suc n)) is));
         }
 
     -- The number of rounds is a fault.
@@ -159,14 +159,14 @@ module _ (bits : List Bit) (whole : Binding) (left : List Bit) where
         → Next bits whole (level_of rest binding closing ∷ outer) more closes left (λ stack. stack)
     close_last last nothing is ends past = absurd (cc is)
     close_last (shut span) nothing is ends past = absurd (cc is)
-    close_last (again body other_separator other_kind (suc n) others) nothing is (this, rest, is_first, round, stand) past = absurd (by (cc is_first))
+    close_last (again body other_separator other_kind (suc n) others) nothing is (this, rest, is_first, round, agree) past = absurd (by (cc is_first))
       where
         by : this ≡ it → ⊥
         by e = omega (arith, round.count, ap (λ r. r.done) e, ap (λ r. r.last) e, past)
-    close_last (again body other_separator other_kind zero others) nothing is (this, rest, is_first, round, stand) past =
+    close_last (again body other_separator other_kind zero others) nothing is (this, rest, is_first, round, agree) past =
         record {
           news = outer;
-          stand = moved (cc is_first) (cc is) stand;
+          agree = moved (cc is_first) (cc is) agree;
           same =
               λ stack. ap (λ w. finished outer (behind_end (again body other_separator other_kind zero others) w)) (write_nothing (sound stack))
               ∙ ap (finished outer) (write_nothing (sound stack));
@@ -187,14 +187,14 @@ module _ (bits : List Bit) (whole : Binding) (left : List Bit) where
         (append (leaves separator))
     close_again last nothing is ends within = absurd (cc is)
     close_again (shut span) nothing is ends within = absurd (cc is)
-    close_again (again body other_separator other_kind zero others) nothing is (this, rest, is_first, round, stand) within = absurd (by (cc is_first))
+    close_again (again body other_separator other_kind zero others) nothing is (this, rest, is_first, round, agree) within = absurd (by (cc is_first))
       where
         by : this ≡ it → ⊥
         by e = omega (arith, round.count, ap (λ r. r.done) e, ap (λ r. r.last) e, within)
-    close_again (again body other_separator other_kind (suc n) others) nothing is (this, rest, is_first, round, stand) within =
+    close_again (again body other_separator other_kind (suc n) others) nothing is (this, rest, is_first, round, agree) within =
         record {
           news = level_of body (map (in_round first_of) others) (again body other_separator other_kind n (map (in_round others_of) others)) ∷ outer;
-          stand = (
+          agree = (
             behind,
             ap (λ r. drop r.body bits) (sym same_round) ∙ round.begins,
             bound_in_it,
@@ -207,7 +207,7 @@ module _ (bits : List Bit) (whole : Binding) (left : List Bit) where
                 count = omega (arith, round.count, ap (λ r. r.done) same_round, ap (λ r. r.last) same_round);
                 bound = ap (map (in_round others_of)) bound_outside ∙ other_rounds (suc it.done) (bound_here whole more);
               },
-              subst (λ l. AreLevels bits whole outer l closes behind) same_rest stand,
+              subst (λ l. AreLevels bits whole outer l closes behind) same_rest agree,
             ),
           );
           same =
@@ -276,12 +276,12 @@ repeats (repetition there inner separator kind others) closing behind at left is
 module _ (bits : List Bit) (whole : Binding) (rounds : List Round) (left : List Bit) where
   -- The template is at its end, or a subtree is.
   pub goes_leave_all : (levels : List Level) → AreLevels bits whole levels rounds [] (leave ∷ left) → Next bits whole levels rounds [] left (λ stack. stack)
-  goes_leave_all [] stand = absurd (cc stand.2)
+  goes_leave_all [] agree = absurd (cc agree.2)
   goes_leave_all (level ∷ outer) (behind, is, bound, ends) = end_all bits whole left outer level.binding behind level.closing rounds level.rest is ends
 
   pub goes_leave : (span : Span) (more : List Span) (levels : List Level) → AreLevels bits whole levels rounds (span ∷ more) (leave ∷ left)
       → Next bits whole levels rounds more left (close_innermost span)
-  goes_leave span more [] stand = absurd (cc stand.2)
+  goes_leave span more [] agree = absurd (cc agree.2)
   goes_leave span more (level ∷ outer) (behind, is, bound, ends) =
       end_subtree bits whole left outer level.binding behind level.closing rounds span more level.rest is ends
 
@@ -289,59 +289,59 @@ module _ (bits : List Bit) (whole : Binding) (rounds : List Round) (left : List 
     -- A repetition has no round.
     pub goes_none : (levels : List Level) → AreLevels bits whole levels rounds closes (begin at ∷ left) → asked at (bound_here whole rounds) left ≡ Ok 0
         → Next bits whole levels rounds closes (behind_close 0 left) (λ stack. stack)
-    goes_none [] stand told = absurd (cc stand.2)
-    goes_none (level ∷ outer) (behind, is, bound, ends) told =
+    goes_none [] agree known = absurd (cc agree.2)
+    goes_none (level ∷ outer) (behind, is, bound, ends) known =
         let it = repeats level.rest level.closing behind at left is in
         subst (λ t. Next bits whole (level_of t level.binding level.closing ∷ outer) rounds closes (behind_close 0 left) (λ stack. stack)) (sym it.is)
-        (begin_none bits whole left outer rounds closes level.binding level.closing behind bound ends at it.inner it.separator it.kind it.others it.held told)
+        (begin_none bits whole left outer rounds closes level.binding level.closing behind bound ends at it.inner it.separator it.kind it.others it.held known)
 
     -- It has some.
     pub goes_begin : (n body : ℕ) (levels : List Level) → AreLevels bits whole levels rounds closes (begin at ∷ left) → asked at (bound_here whole rounds) left ≡ Ok (suc n)
         → drop body bits ≡ left
         → Next bits whole levels (record { body = body; done = 0; last = n } ∷ rounds) closes left (λ stack. stack)
-    goes_begin n body [] stand told here = absurd (cc stand.2)
-    goes_begin n body (level ∷ outer) (behind, is, bound, ends) told here =
+    goes_begin n body [] agree known here = absurd (cc agree.2)
+    goes_begin n body (level ∷ outer) (behind, is, bound, ends) known here =
         let it = repeats level.rest level.closing behind at left is in
         subst (λ t. Next bits whole (level_of t level.binding level.closing ∷ outer) (record { body = body; done = 0; last = n } ∷ rounds) closes left (λ stack. stack)) (sym it.is)
-        (begin_some bits whole left outer rounds closes level.binding level.closing behind bound ends at it.inner it.separator it.kind it.others it.held n body told here)
+        (begin_some bits whole left outer rounds closes level.binding level.closing behind bound ends at it.inner it.separator it.kind it.others it.held n body known here)
 
     -- Or its fault is the fault of the whole.
     pub goes_nowhere : (fault : TranscribeFault) (stack : Stack) (levels : List Level) → AreLevels bits whole levels rounds closes (begin at ∷ left)
         → asked at (bound_here whole rounds) left ≡ Err fault
         → ((finished levels (sound stack)).fault ≡ Some fault) × (tokens_held (finished levels (sound stack)).stack ≡ tokens_held stack)
-    goes_nowhere fault stack [] stand told = absurd (cc stand.2)
-    goes_nowhere fault stack (level ∷ outer) (behind, is, bound, ends) told =
+    goes_nowhere fault stack [] agree known = absurd (cc agree.2)
+    goes_nowhere fault stack (level ∷ outer) (behind, is, bound, ends) known =
         let it = repeats level.rest level.closing behind at left is in
         subst
         (λ t. ((finished (level_of t level.binding level.closing ∷ outer) (sound stack)).fault ≡ Some fault)
         × (tokens_held (finished (level_of t level.binding level.closing ∷ outer) (sound stack)).stack ≡ tokens_held stack)) (sym it.is)
-        (begin_fault bits whole left outer rounds closes level.binding level.closing behind bound ends at it.inner it.separator it.kind it.others it.held fault stack told)
+        (begin_fault bits whole left outer rounds closes level.binding level.closing behind bound ends at it.inner it.separator it.kind it.others it.held fault stack known)
 
 -- A round ends: the last one, or another.
 module _ (bits : List Bit) (whole : Binding) (left : List Bit) (closes : List Span) (separator : List Leaf) (kind : RepeatKind) (it : Round) (more : List Round) where
   pub goes_last : (levels : List Level) → AreLevels bits whole levels (it ∷ more) closes (close separator kind ∷ left) → it.last ≤ it.done
       → Next bits whole levels more closes left (λ stack. stack)
-  goes_last [] stand past = absurd (cc stand.2)
+  goes_last [] agree past = absurd (cc agree.2)
   goes_last (level ∷ outer) (behind, is, bound, ends) past =
       close_last bits whole left outer level.binding behind closes separator kind it more level.closing level.rest is ends past
 
   pub goes_again : (levels : List Level) → AreLevels bits whole levels (it ∷ more) closes (close separator kind ∷ left) → it.done < it.last
       → Next bits whole levels (record { body = it.body; done = suc it.done; last = it.last } ∷ more) closes (drop it.body bits) (append (leaves separator))
-  goes_again [] stand within = absurd (cc stand.2)
+  goes_again [] agree within = absurd (cc agree.2)
   goes_again (level ∷ outer) (behind, is, bound, ends) within =
       close_again bits whole left outer level.binding behind closes separator kind it more level.closing level.rest is ends within
 
 -- No repetition ends if no round is under way.
 pub round_there : (bits : List Bit) (whole : Binding) (left : List Bit) (closes : List Span) (separator : List Leaf) (kind : RepeatKind) (levels : List Level)
     → AreLevels bits whole levels [] closes (close separator kind ∷ left) → ⊥
-round_there bits whole left closes separator kind [] stand = cc stand.2
+round_there bits whole left closes separator kind [] agree = cc agree.2
 round_there bits whole left closes separator kind (level ∷ outer) (behind, is, bound, ends) = by level.rest level.closing is ends
   where
     by : (rest : Template) (closing : Closing) → close separator kind ∷ left ≡ bits_of rest (end_of closing ∷ behind)
         → IsEnd bits whole (λ more others. AreLevels bits whole outer more others behind) closing [] closes behind → ⊥
     by nothing last is ends = cc is
     by nothing (shut span) is ends = cc is
-    by nothing (again body other_separator other_kind n others) is (it, more, some, round, stand) = cc some
+    by nothing (again body other_separator other_kind n others) is (it, more, some, round, agree) = cc some
     by (use_of there which others) closing is ends = cc is
     by (token it others) closing is ends = cc is
     by (subtree delimiter inner others) closing is ends = cc is

@@ -6,7 +6,7 @@ use Rattle.mbe_matcher.specs.Bindings.{Bound, Binding}
 use Rattle.mbe_rules.specs.declared.taken.Round.{Round}
 use Rattle.mbe_rules.specs.Transcribing.{first_of, others_of, in_round}
 use Rattle.mbe_rules.specs.Rounds.{round_at, bound_in, binding_in, dones}
-use Rattle.mbe_rules.specs.Standing.{later, bound_here}
+use Rattle.mbe_rules.specs.Filling.{later, bound_here}
 
 -- Narrowing one way and then another, if that is the same as a third way.
 in_rounds : (f g h : Bound → Bound) → ((bound : Bound) → f (g bound) ≡ h bound) → (binding : Binding) → map (in_round f) (map (in_round g) binding) ≡ map (in_round h) binding

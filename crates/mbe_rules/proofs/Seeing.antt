@@ -49,11 +49,11 @@ length_grouped [] its = refl
 length_grouped (n ∷ counts) its = ap suc (length_grouped counts (drop n its))
 
 -- How many times a repetition at that depth occurred.
-times_told : (counts : List (List ℕ)) (its : List Forest) (n : ℕ) → times_in (slice_get (map (sums 0) counts) n) (length its) ≡ length (nested (drop n counts) its)
-times_told [] its zero = sym (length-map its one)
-times_told [] its (suc n) = sym (length-map its one)
-times_told (c ∷ counts) its zero = length_sums 0 c ∙ sym (length_grouped c (nested counts its))
-times_told (c ∷ counts) its (suc n) = times_told counts its n
+times_counted : (counts : List (List ℕ)) (its : List Forest) (n : ℕ) → times_in (slice_get (map (sums 0) counts) n) (length its) ≡ length (nested (drop n counts) its)
+times_counted [] its zero = sym (length-map its one)
+times_counted [] its (suc n) = sym (length-map its one)
+times_counted (c ∷ counts) its zero = length_sums 0 c ∙ sym (length_grouped c (nested counts its))
+times_counted (c ∷ counts) its (suc n) = times_counted counts its n
 
 module _ (self : Taken) (bound : Bound) (taken : IsTaken bound self) (begun : List Round) where
   -- the trees that were taken
@@ -66,7 +66,7 @@ module _ (self : Taken) (bound : Bound) (taken : IsTaken bound self) (begun : Li
 
   times_are : (n : ℕ) → times_at n self ≡ length (nested (drop n taken.counts) its)
   times_are n =
-      ap₂ (λ l m. times_in (slice_get l n) m) taken.ends (sym (length-map self.trees.items trees_of)) ∙ times_told taken.counts its n
+      ap₂ (λ l m. times_in (slice_get l n) m) taken.ends (sym (length-map self.trees.items trees_of)) ∙ times_counted taken.counts its n
 
   module _ (depth time : ℕ) (next : ℕ) (more : next ≡ suc depth) (here : Here depth time) (ends : List ℕ) (some : slice_get (map (λ v. v.items) self.ends.items) depth ≡ Some ends) (count : ℕ)
       (counted : count ≡ count_at ends time (times_at next self)) where

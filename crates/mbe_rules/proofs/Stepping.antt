@@ -18,7 +18,7 @@ use Rattle.mbe_rules.specs.declared.taken.Round.{Round}
 use Rattle.mbe_rules.specs.Counting.{behind_close, round_error}
 use Rattle.mbe_rules.specs.Transcribing.{TranscribeFault, lengths_differ, no_round, trees_transcribed}
 use Rattle.mbe_rules.specs.Parts.{Bit, uses, same, enter, leave, begin, close}
-use Rattle.mbe_rules.specs.Standing.{AreLevels, IsAt, Goes, Grows, IsWant, Enters, AreClosed, Leaves, IsStop, bound_here}
+use Rattle.mbe_rules.specs.Filling.{AreLevels, IsAt, Goes, Grows, IsWant, Enters, AreClosed, Leaves, IsStop, bound_here}
 use Rattle.mbe_rules.specs.Writing.{Level, written_by, finished}
 use Rattle.mbe_rules.proofs.Going.{Next, goes_use, goes_token, goes_enter}
 use Rattle.mbe_rules.proofs.Repeating.{asked, goes_leave_all, goes_leave, goes_none, goes_begin, goes_nowhere, goes_last, goes_again}
@@ -33,9 +33,9 @@ module _ (bits : List Bit) (whole : Binding) (levels : List Level) (left : List 
   goes_on old new rounds closes change next r c s few top =
       record {
         news = next.news;
-        stands =
+        is_at =
             record {
-              stand = subst (λ l. AreLevels bits whole next.news l (reverse new.closes.items) left) (sym r) (subst (λ l. AreLevels bits whole next.news rounds l left) (sym c) next.stand);
+              agree = subst (λ l. AreLevels bits whole next.news l (reverse new.closes.items) left) (sym r) (subst (λ l. AreLevels bits whole next.news rounds l left) (sym c) next.agree);
               few = few;
             };
         same = ap (λ k. finished next.news (sound k)) s ∙ sym (next.same old.builder.stack);
@@ -71,32 +71,32 @@ module _ (bits : List Bit) (whole : Binding) (levels : List Level) (left : List 
         → Grows (trees_transcribed (slice_get (bound_here whole rounds) variable)) old new → Goes bits whole levels old new left
     use_steps new at variable is grows =
         let trees = trees_transcribed (slice_get (bound_here whole rounds) variable) in
-        goes_on old new rounds closes (append trees) (goes_use bits whole rounds closes left at variable levels is.stand)
+        goes_on old new rounds closes (append trees) (goes_use bits whole rounds closes left at variable levels is.agree)
         (ap (λ r. reverse r.items) grows.rounds) (ap (λ r. reverse r.items) grows.closes) grows.stack (grows.few is.few) grows.top
 
     pub use_stops : (at variable : ℕ) (fault : TtFault) → IsAt bits whole levels old (uses at variable ∷ left)
         → IsWant (size (trees_transcribed (slice_get (bound_here whole rounds) variable))) old fault → IsStop (finished levels (written_by old)) (error.Tree fault)
     use_stops at variable fault is want =
         let trees = trees_transcribed (slice_get (bound_here whole rounds) variable) in
-        want_stops old rounds closes left (append trees) (size trees) fault (goes_use bits whole rounds closes left at variable levels is.stand) (held-append trees old.builder.stack) want
+        want_stops old rounds closes left (append trees) (size trees) fault (goes_use bits whole rounds closes left at variable levels is.agree) (held-append trees old.builder.stack) want
 
     -- A token.
     pub token_steps : (new : Transcriber) (it : Leaf) → IsAt bits whole levels old (same it ∷ left) → Grows (leaf it end) old new → Goes bits whole levels old new left
     token_steps new it is grows =
-        goes_on old new rounds closes (append (leaf it end)) (goes_token bits whole rounds closes left it levels is.stand)
+        goes_on old new rounds closes (append (leaf it end)) (goes_token bits whole rounds closes left it levels is.agree)
         (ap (λ r. reverse r.items) grows.rounds) (ap (λ r. reverse r.items) grows.closes) grows.stack (grows.few is.few) grows.top
 
     pub token_stops : (it : Leaf) (fault : TtFault) → IsAt bits whole levels old (same it ∷ left) → IsWant 1 old fault
         → IsStop (finished levels (written_by old)) (error.Tree fault)
     token_stops it fault is want =
-        want_stops old rounds closes left (append (leaf it end)) 1 fault (goes_token bits whole rounds closes left it levels is.stand) (held-append (leaf it end) old.builder.stack) want
+        want_stops old rounds closes left (append (leaf it end)) 1 fault (goes_token bits whole rounds closes left it levels is.agree) (held-append (leaf it end) old.builder.stack) want
 
     -- A subtree begins.
     pub enter_steps : (new : Transcriber) (delimiter : Delimiter) → IsAt bits whole levels old (enter delimiter ∷ left) → Enters delimiter old new
         → Goes bits whole levels old new left
     enter_steps new delimiter is enters =
         goes_on old new rounds (delimiter.close ∷ closes) (λ stack. above stack delimiter.kind delimiter.open_span end)
-        (goes_enter bits whole rounds closes left delimiter levels is.stand)
+        (goes_enter bits whole rounds closes left delimiter levels is.agree)
         (ap (λ r. reverse r.items) enters.rounds) (ap reverse enters.closes ∙ reverse-append old.closes.items (delimiter.close ∷ []))
         (ap (λ b. b.stack) enters.builder) (omega (arith, ap (λ b. tokens_held b.stack) enters.builder, enters.room)) (ap (λ b. b.top) enters.builder)
 
@@ -104,7 +104,7 @@ module _ (bits : List Bit) (whole : Binding) (levels : List Level) (left : List 
         → IsStop (finished levels (written_by old)) (error.Tree fault)
     enter_stops delimiter fault is want =
         want_stops old rounds (delimiter.close ∷ closes) left (λ stack. above stack delimiter.kind delimiter.open_span end) 1 fault
-        (goes_enter bits whole rounds closes left delimiter levels is.stand) (omega arith) want
+        (goes_enter bits whole rounds closes left delimiter levels is.agree) (omega arith) want
 
     -- A subtree ends, or the template does.
     pub leave_steps : (new : Transcriber) → IsAt bits whole levels old (leave ∷ left) → Leaves old new → Goes bits whole levels old new left
@@ -112,23 +112,23 @@ module _ (bits : List Bit) (whole : Binding) (levels : List Level) (left : List 
       where
         by : (spans : List Span) → closes ≡ spans → AreClosed spans old new → Goes bits whole levels old new left
         by [] none (builder, same_rounds, no_closes) =
-            goes_on old new rounds [] (λ stack. stack) (goes_leave_all bits whole rounds left levels (subst (λ l. AreLevels bits whole levels rounds l (leave ∷ left)) none is.stand))
+            goes_on old new rounds [] (λ stack. stack) (goes_leave_all bits whole rounds left levels (subst (λ l. AreLevels bits whole levels rounds l (leave ∷ left)) none is.agree))
             (ap (λ r. reverse r.items) same_rounds) (ap reverse no_closes) (ap (λ b. b.stack) builder)
             (omega (arith, ap (λ b. tokens_held b.stack) builder, is.few)) (ap (λ b. b.top) builder)
         by (span ∷ more) some (stack, top, same_rounds, same_closes) =
             goes_on old new rounds more (close_innermost span)
-            (goes_leave bits whole rounds left span more levels (subst (λ l. AreLevels bits whole levels rounds l (leave ∷ left)) some is.stand))
+            (goes_leave bits whole rounds left span more levels (subst (λ l. AreLevels bits whole levels rounds l (leave ∷ left)) some is.agree))
             (ap (λ r. reverse r.items) same_rounds) same_closes stack
             (omega (arith, ap tokens_held stack, held-close span old.builder.stack, is.few)) top
 
     -- A repetition begins, and has no round.
     pub none_steps : (new : Transcriber) (at : ℕ) → IsAt bits whole levels old (begin at ∷ left) → asked at (bound_here whole rounds) left ≡ Ok 0 → new ≡ old
         → Goes bits whole levels old new (behind_close 0 left)
-    none_steps new at is told unchanged =
-        let next = goes_none bits whole rounds left closes at levels is.stand told in
+    none_steps new at is answer unchanged =
+        let next = goes_none bits whole rounds left closes at levels is.agree answer in
         record {
           news = next.news;
-          stands = subst (λ f. IsAt bits whole next.news f (behind_close 0 left)) (sym unchanged) (record { stand = next.stand; few = is.few });
+          is_at = subst (λ f. IsAt bits whole next.news f (behind_close 0 left)) (sym unchanged) (record { agree = next.agree; few = is.few });
           same = ap (λ f. finished next.news (written_by f)) unchanged ∙ sym (next.same old.builder.stack);
           less = next.less;
           top = ap (λ f. f.builder.top) unchanged;
@@ -139,17 +139,17 @@ module _ (bits : List Bit) (whole : Binding) (levels : List Level) (left : List 
         → drop body bits ≡ left → new.builder ≡ old.builder → new.closes ≡ old.closes
         → new.rounds.items ≡ old.rounds.items ++ record { body = body; done = 0; last = n } ∷ []
         → Goes bits whole levels old new left
-    begin_steps new at n body is told here builder same_closes same_rounds =
+    begin_steps new at n body is answer here builder same_closes same_rounds =
         let it : Round = record { body = body; done = 0; last = n } in
-        goes_on old new (it ∷ rounds) closes (λ stack. stack) (goes_begin bits whole rounds left closes at n body levels is.stand told here)
+        goes_on old new (it ∷ rounds) closes (λ stack. stack) (goes_begin bits whole rounds left closes at n body levels is.agree answer here)
         (ap reverse same_rounds ∙ reverse-append old.rounds.items (it ∷ [])) (ap (λ r. reverse r.items) same_closes) (ap (λ b. b.stack) builder)
         (omega (arith, ap (λ b. tokens_held b.stack) builder, is.few)) (ap (λ b. b.top) builder)
 
     -- The number of rounds is a fault.
     pub begin_stops : (at : ℕ) (fault : TranscribeFault) → IsAt bits whole levels old (begin at ∷ left) → asked at (bound_here whole rounds) left ≡ Err fault
         → IsStop (finished levels (written_by old)) (round_error fault)
-    begin_stops at fault is told =
-        let (first, held) = goes_nowhere bits whole rounds left closes at fault old.builder.stack levels is.stand told in
+    begin_stops at fault is answer =
+        let (first, held) = goes_nowhere bits whole rounds left closes at fault old.builder.stack levels is.agree answer in
         by fault first (omega (arith, held, is.few))
       where
         by : (fault : TranscribeFault) → (finished levels (written_by old)).fault ≡ Some fault → tokens_held (finished levels (written_by old)).stack ≤ most_tokens
@@ -162,15 +162,15 @@ module _ (bits : List Bit) (whole : Binding) (levels : List Level) (left : List 
     (before : List Round) (it : Round) (was : old.rounds.items ≡ before ++ it ∷ [])
     (is : IsAt bits whole levels old (close separator kind ∷ left)) where
   -- the levels, with that round
-  stand : AreLevels bits whole levels (it ∷ reverse before) (reverse old.closes.items) (close separator kind ∷ left)
-  stand = subst (λ l. AreLevels bits whole levels l (reverse old.closes.items) (close separator kind ∷ left)) (ap reverse was ∙ reverse-append before (it ∷ [])) is.stand
+  agree : AreLevels bits whole levels (it ∷ reverse before) (reverse old.closes.items) (close separator kind ∷ left)
+  agree = subst (λ l. AreLevels bits whole levels l (reverse old.closes.items) (close separator kind ∷ left)) (ap reverse was ∙ reverse-append before (it ∷ [])) is.agree
 
   -- It is the last round.
   pub last_steps : (new : Transcriber) → it.last ≤ it.done → new.builder ≡ old.builder → new.closes ≡ old.closes → new.rounds.items ≡ before
       → Goes bits whole levels old new left
   last_steps new past builder same_closes same_rounds =
       goes_on bits whole levels left old new (reverse before) (reverse old.closes.items) (λ stack. stack)
-      (goes_last bits whole left (reverse old.closes.items) separator kind it (reverse before) levels stand past)
+      (goes_last bits whole left (reverse old.closes.items) separator kind it (reverse before) levels agree past)
       (ap reverse same_rounds) (ap (λ r. reverse r.items) same_closes) (ap (λ b. b.stack) builder)
       (omega (arith, ap (λ b. tokens_held b.stack) builder, is.few)) (ap (λ b. b.top) builder)
 
@@ -182,12 +182,12 @@ module _ (bits : List Bit) (whole : Binding) (levels : List Level) (left : List 
   again_steps new within stack top few same_closes same_rounds =
       let next : Round = record { body = it.body; done = suc it.done; last = it.last } in
       goes_on bits whole levels (drop it.body bits) old new (next ∷ reverse before) (reverse old.closes.items) (append (leaves separator))
-      (goes_again bits whole left (reverse old.closes.items) separator kind it (reverse before) levels stand within)
+      (goes_again bits whole left (reverse old.closes.items) separator kind it (reverse before) levels agree within)
       (ap reverse same_rounds ∙ reverse-append before (next ∷ [])) (ap (λ r. reverse r.items) same_closes) stack (few is.few) top
 
   -- The separator gives an error.
   pub again_stops : (fault : TtFault) → it.done < it.last → IsWant (size (leaves separator)) old fault → IsStop (finished levels (written_by old)) (error.Tree fault)
   again_stops fault within want =
       want_stops bits whole levels left old (record { body = it.body; done = suc it.done; last = it.last } ∷ reverse before) (reverse old.closes.items) (drop it.body bits)
-      (append (leaves separator)) (size (leaves separator)) fault (goes_again bits whole left (reverse old.closes.items) separator kind it (reverse before) levels stand within)
+      (append (leaves separator)) (size (leaves separator)) fault (goes_again bits whole left (reverse old.closes.items) separator kind it (reverse before) levels agree within)
       (held-append (leaves separator) old.builder.stack) want

@@ -1,10 +1,8 @@
 -- What is finally written of the rest of a template.
-use Rattle.std.proofs.Common.{◌≡◌, ◌+◌, ◌≤◌, List, [], ◌∷◌, Some, None, Option, refl, ap, sym, ◌∙◌, arith}
-use Rattle.tt.specs.Building.{Stack, lowest, above, append, close_innermost, tokens_held}
-use Rattle.tt.specs.Forest.{Forest, end, node, join, size}
+use Rattle.std.proofs.Common.{◌≡◌, ◌≤◌, List, [], ◌∷◌, Some, None, Option, refl, ap, ◌∙◌, arith}
+use Rattle.tt.specs.Building.{Stack, tokens_held}
+use Rattle.tt.specs.Forest.{end}
 use Rattle.tt.specs.Siblings.{leaves}
-use Rattle.tt.specs.Types.Span.{Span}
-use Rattle.tt.specs.Unflat.{join-end}
 use Rattle.tt_base.proofs.Appending.{append-end, append-join, held-append, held-close}
 use Rattle.mbe_rules.specs.Transcribing.{TranscribeFault, Transcribed, all_transcribed, and_then, more_rounds, transcribed}
 use Rattle.mbe_rules.specs.Writing.{Closing, last, shut, again, Level, Written, write, behind_end, finished}

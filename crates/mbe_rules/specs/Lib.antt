@@ -13,7 +13,7 @@ pub mod Parts
 pub mod Results
 pub mod Rounds
 pub mod Spelling
-pub mod Standing
+pub mod Filling
 pub mod Stepping
 pub mod Templates
 pub mod Transcribing

@@ -1,5 +1,5 @@
 -- When trees are a template, and which one.
-use Rattle.std.specs.Prelude.{◌≡◌, ◌≤◌, List, map, None, Some}
+use Rattle.std.specs.Prelude.{◌≡◌, ◌≤◌, List, None, Some}
 use Rattle.tt.specs.Forest.{Root, size}
 use Rattle.tt.specs.Stored.{most_tokens}
 use Rattle.tt.specs.TreeFault.{IsTreeFault, under}
@@ -14,12 +14,16 @@ use Rattle.mbe_rules.specs.declared.transcribe_error.TranscribeError.{Transcribe
 use Rattle.mbe_rules.specs.declared.transcribe_error.TranscribeError.TheVariants as refusal
 use Rattle.mbe_rules.specs.Faults.{template_fault}
 use Rattle.mbe_rules.specs.Transcribing.{Transcribed, lengths_differ, no_round}
-use Rattle.mbe_rules.specs.Parts.{bit_of, all_bits}
 use Rattle.mbe_rules.specs.Templates.{Template}
+use Rattle.mbe_rules.specs.Wholes.{whole_of}
 
--- the parts are those of the template, which has no fault
+-- the template that the parts are
+abbrev pub meant : rust.Template → Template
+meant it = whole_of it.parts.items
+
+-- it is the template, which has no fault
 pub record IsTemplate (variables : List Where) (template : Template) (it : rust.Template) : Type 0 where
-  pub parts : map bit_of it.parts.items ≡ all_bits template
+  pub is : meant it ≡ template
   pub sound : template_fault variables template ≡ None
 
 -- why the trees are no template: memory ran out, or this is their first fault
@@ -34,13 +38,13 @@ pub record IsTranscribed (delimiter : Delimiter) (it : Transcribed) (tree : Root
   pub is : tree ≡ under delimiter it.trees
 
 -- a limit other than that of tokens is reported only if the whole template was filled; memory may run out at any time
-abbrev pub IsToldOf : Transcribed → TtFault → Type 0
-IsToldOf it limit.Memory = Unit {0}
-IsToldOf it limit.TooManyTokens = Unit {0}
-IsToldOf it other = it.fault ≡ None
+abbrev pub IsLimitOf : Transcribed → TtFault → Type 0
+IsLimitOf it limit.Memory = Unit {0}
+IsLimitOf it limit.TooManyTokens = Unit {0}
+IsLimitOf it other = it.fault ≡ None
 
 -- why there is no such tree: the first fault, or what was filled up to it exceeds a limit, or memory ran out
 abbrev pub IsTranscribeError : Delimiter → Transcribed → TranscribeError → Type 0
 IsTranscribeError delimiter it (refusal.LengthsDiffer at) = (it.fault ≡ Some (lengths_differ at)) × (size it.trees ≤ most_tokens)
 IsTranscribeError delimiter it (refusal.NoRound at) = (it.fault ≡ Some (no_round at)) × (size it.trees ≤ most_tokens)
-IsTranscribeError delimiter it (refusal.Tree fault) = IsToldOf it fault × IsTreeFault (under delimiter it.trees) fault
+IsTranscribeError delimiter it (refusal.Tree fault) = IsLimitOf it fault × IsTreeFault (under delimiter it.trees) fault

@@ -6,9 +6,9 @@ use Rattle.mbe_rules.specs.Templates.{Template, nothing, use_of, token, subtree,
 use Rattle.mbe_rules.specs.Writing.{Closing, last, shut, again, Level}
 
 -- how many rounds, if the number is known
-abbrev pub told : Result ℕ TranscribeFault → ℕ
-told (Ok n) = n
-told (Err fault) = 0
+abbrev pub known : Result ℕ TranscribeFault → ℕ
+known (Ok n) = n
+known (Err fault) = 0
 
 -- how many parts are passed in rounds
 abbrev pub work_in_rounds : (work : Binding → ℕ) → ℕ → Binding → ℕ
@@ -22,7 +22,7 @@ work (use_of at variable others) binding = suc (work others binding)
 work (token it others) binding = suc (work others binding)
 work (subtree delimiter inner others) binding = suc (suc (work inner binding)) + work others binding
 work (repetition at inner separator kind others) binding =
-    suc (work_in_rounds (work inner) (told (rounds_of at kind (counts_of binding (used_in inner)))) binding) + work others binding
+    suc (work_in_rounds (work inner) (known (rounds_of at kind (counts_of binding (used_in inner)))) binding) + work others binding
 
 abbrev pub work_behind : Closing → ℕ
 work_behind last = 0

@@ -1,5 +1,5 @@
 //! Templates of macros.
-ghost use Rattle.std.specs.Prelude.{◌≡◌, true, map, IfOk, IfErr};
+ghost use Rattle.std.specs.Prelude.{◌≡◌, map, IfOk, IfErr};
 ghost use Rattle.tt.specs.Iters.{rest_of};
 ghost use Rattle.tt.specs.Stored.{IsWithinLimits};
 ghost use Rattle.mbe_matcher.specs.Grouping.{binding_by};
@@ -7,8 +7,7 @@ ghost use Rattle.mbe_matcher.specs.Marks.{note_of};
 ghost use Rattle.mbe_matcher.specs.Stepping.{where_of};
 ghost use Rattle.mbe_rules.specs.Transcribing.{transcribed};
 ghost use Rattle.mbe_rules.specs.Spelling.{template_of};
-ghost use Rattle.mbe_rules.specs.Templates.{Template as IsOf};
-ghost use Rattle.mbe_rules.specs.Wholes.{are_whole};
+ghost use Rattle.mbe_rules.specs.Wholes.{AreWhole};
 
 use crate::error::TemplateError;
 use crate::parse::parse;
@@ -24,11 +23,11 @@ use tt::{Delimiter, TopSubtree, TtIter};
 #[derive(Drop)]
 pub struct Template {
     parts: Vec<Part>,
-    ghost whole: { are_whole parts.items ≡ true },
+    ghost whole: { AreWhole parts.items },
 }
 
 impl Template {
-    ghost use Rattle.mbe_rules.specs.Results.{IsTemplate, IsTemplateError, IsTranscribed, IsTranscribeError};
+    ghost use Rattle.mbe_rules.specs.Results.{meant, IsTemplate, IsTemplateError, IsTranscribed, IsTranscribeError};
 
     /// Returns the template that the trees spell; the variables are those of a pattern.
     ///
@@ -66,9 +65,9 @@ impl Template {
         binding: Binding<'_>,
         delimiter: Delimiter,
     ) -> Result<TopSubtree, TranscribeError>
-        ensures ok { IfOk result (λ tree. (template : IsOf) → IsTemplate (map where_of binders.now) template self.now → IsTranscribed delimiter (transcribed template (binding_by (map where_of binders.now) (map note_of binding.entry.marks.items))) tree) }
+        ensures ok { IfOk result (IsTranscribed delimiter (transcribed (meant self.now) (binding_by (map where_of binders.now) (map note_of binding.entry.marks.items)))) }
         ensures limits { IfOk result (λ tree. IsWithinLimits tree) }
-        ensures err { IfErr result (λ error. (template : IsOf) → IsTemplate (map where_of binders.now) template self.now → IsTranscribeError delimiter (transcribed template (binding_by (map where_of binders.now) (map note_of binding.entry.marks.items))) error) }
+        ensures err { IfErr result (IsTranscribeError delimiter (transcribed (meant self.now) (binding_by (map where_of binders.now) (map note_of binding.entry.marks.items)))) }
     {
         transcribed(alloc, &self.parts, binders, binding, delimiter)
     }

@@ -1,5 +1,5 @@
 //! Fills a template, part by part.
-ghost use Rattle.std.specs.Prelude.{◌≡◌, true, List, map, slice_get, reverse, IfOk, IfErr, OnOk};
+ghost use Rattle.std.specs.Prelude.{◌≡◌, List, map, slice_get, reverse, IfOk, IfErr, OnOk};
 ghost use Rattle.tt.specs.Forest.{end, leaf as leaf_of, size};
 ghost use Rattle.tt.specs.Building.{alone};
 ghost use Rattle.tt.specs.Siblings.{leaves};
@@ -16,8 +16,8 @@ ghost use Rattle.mbe_rules.specs.Parts.{bit_of, begin, close};
 ghost use Rattle.mbe_rules.specs.Enclosing.{enclosed_between, enclosed, as_piece};
 ghost use Rattle.mbe_rules.specs.Results.{IsTranscribed, IsTranscribeError};
 ghost use Rattle.mbe_rules.specs.Rounds.{AreTaken, binding_in, dones};
-ghost use Rattle.mbe_rules.specs.Standing.{bound_here, Grows, IsWant, Enters, Leaves, StepsTo, StopsAt};
-ghost use Rattle.mbe_rules.specs.Wholes.{are_whole, whole_of};
+ghost use Rattle.mbe_rules.specs.Filling.{bound_here, Grows, IsWant, Enters, Leaves, StepsTo, StopsAt};
+ghost use Rattle.mbe_rules.specs.Wholes.{AreWhole, whole_of};
 
 use crate::counting::{rounds_by, scan};
 use crate::enclose::is_enclosed;
@@ -235,7 +235,7 @@ pub(crate) fn transcribed(
     binding: Binding<'_>,
     delimiter: Delimiter,
 ) -> Result<TopSubtree, TranscribeError>
-    requires { are_whole parts.now ≡ true }
+    requires { AreWhole parts.now }
     ensures ok { IfOk result (IsTranscribed delimiter (transcribed (whole_of parts.now) (binding_by (map where_of binders.now) (map note_of binding.entry.marks.items)))) }
     ensures limits { IfOk result (λ tree. IsWithinLimits tree) }
     ensures err { IfErr result (IsTranscribeError delimiter (transcribed (whole_of parts.now) (binding_by (map where_of binders.now) (map note_of binding.entry.marks.items)))) }

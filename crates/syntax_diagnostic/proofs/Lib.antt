@@ -2,3 +2,4 @@
 pub mod CharFacts
 pub mod MarkFacts
 pub mod PlaceFacts
+pub mod WindowFacts

@@ -7,3 +7,4 @@ pub mod Paint
 pub mod Place
 pub mod Source
 pub mod Spot
+pub mod Window

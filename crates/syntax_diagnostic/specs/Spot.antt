@@ -1,8 +1,8 @@
 -- The text of a place: its name, the line of the text and a mark under the column.
 use Rattle.std.specs.Prelude.{ℕ, ◌-◌, List, ◌++◌, length, replicate, codes, decimal}
-use Rattle.syntax_diagnostic.specs.Mark.{indent}
 use Rattle.syntax_diagnostic.specs.Paint.{painted}
 use Rattle.syntax_diagnostic.specs.Place.{place_text}
+use Rattle.syntax_diagnostic.specs.Window.{shown, shown_indent}
 use Rattle.syntax_diagnostic.specs.declared.paint.Colour.{Colour}
 use Rattle.syntax_diagnostic.specs.declared.paint.Colour.TheVariants.{Blue}
 use Rattle.syntax_diagnostic.specs.declared.paint.Style.{Style}
@@ -32,13 +32,13 @@ margin style width = replicate width 32 ++ bar style
 abbrev pub number_text : Style → (width number : ℕ) → List ℕ
 number_text style width number = painted style Blue (decimal number) ++ replicate (width - number_width number) 32
 
--- the line of the text, after its number
+-- the line of the text, or the part of it that is shown, after its number
 abbrev pub source_line : Style → (width : ℕ) → Spot → List ℕ
-source_line style width spot = number_text style width spot.place.line ++ bar style ++ codes " " ++ line spot.line.now
+source_line style width spot = number_text style width spot.place.line ++ bar style ++ codes " " ++ line (shown spot.line.now spot.place.column)
 
 -- a mark under the column
 abbrev pub marked_line : Style → Colour → (width : ℕ) → Spot → List ℕ
-marked_line style colour width spot = margin style width ++ codes " " ++ indent spot.line.now spot.place.column ++ painted style colour (codes "^") ++ codes "\n"
+marked_line style colour width spot = margin style width ++ codes " " ++ shown_indent spot.line.now spot.place.column ++ painted style colour (codes "^") ++ codes "\n"
 
 -- the lines above that of the text
 abbrev pub head_lines : Style → (width : ℕ) → Spot → List ℕ

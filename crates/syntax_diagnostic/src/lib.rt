@@ -15,6 +15,7 @@ mod places;
 mod source;
 mod source_file;
 mod spot;
+mod window;
 
 pub use diagnostic::{Diagnostic, PlacedNote, diagnostic_text};
 pub use level::Level;

@@ -2,9 +2,9 @@
 ghost use Rattle.std.specs.Prelude.{◌≡◌, ◌++◌, IfOk, OnOk, codes, replicate, string_bytes};
 ghost use Rattle.syntax_diagnostic.specs.Spot.{arrow_line, bar, head_lines, line, margin, marked_line, number_text, number_width, source_line, spot_text};
 
-use crate::mark::add_indent;
 use crate::paint::{Colour, Style, add_painted};
 use crate::place::Place;
+use crate::window::{add_shown, add_shown_indent};
 use std::alloc::{AllocError, Global};
 
 /// A place in a text.
@@ -107,7 +107,8 @@ fn add_source(
     add_number(text, alloc, style, width, spot.place.line)?;
     add_bar(text, style)?;
     text.push_str(" ")?;
-    add_line(text, spot.line)
+    add_shown(text, spot.line, spot.place.column)?;
+    text.push_str("\n")
 }
 
 // Adds the mark under the line.
@@ -122,7 +123,7 @@ fn add_mark(
 {
     add_margin(text, style, width)?;
     text.push_str(" ")?;
-    add_indent(text, spot.line, spot.place.column)?;
+    add_shown_indent(text, spot.line, spot.place.column)?;
     add_painted(text, style, colour, "^")?;
     text.push_str("\n")
 }

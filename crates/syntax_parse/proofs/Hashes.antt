@@ -74,8 +74,8 @@ block_few style false text role =
     few (hashes_wanted (block_text style text)) (second_none (return_fault text) (hashes_fault (block_text style text)) (none_wrong (Bad bad.UnterminatedComment) (block_fault style text) role))
 
 -- the suffix that counts is no longer than what follows the value
-told_within : (behind : List ℕ) → length (suffix_told behind) ≤ length behind
-told_within behind = go (bytes_eq behind (codes "_"))
+suffix_within : (behind : List ℕ) → length (suffix_told behind) ≤ length behind
+suffix_within behind = go (bytes_eq behind (codes "_"))
   where
     go : (b : Bool) → length (if b then [] else behind) ≤ length behind
     go true = omega arith
@@ -88,7 +88,7 @@ no_suffix text kind value (c ∷ cs) other = rw other (omega arith)
 
 -- the suffix of a number is all that follows its value
 number_short : (place : ℕ) (text : List ℕ) → nat_lt 255 (length (drop place text)) ≡ false → length (suffix_told (drop place text)) ≤ 255
-number_short place text h = let le = ltb-false 255 (length (drop place text)) h in let within = told_within (drop place text) in omega (arith, le, within)
+number_short place text h = let le = ltb-false 255 (length (drop place text)) h in let within = suffix_within (drop place text) in omega (arith, le, within)
 
 other_short : (kind : LiteralKind) (place : ℕ) (text : List ℕ) → is_number (kind_told (scan_of kind)) ≡ false → length (parts_told text (Some (scan_of kind, place))).suffix ≤ 255
 other_short kind place text other =

@@ -13,7 +13,7 @@ use Rattle.syntax_parse.specs.LiteralText.{IsLiteralText, ReturnsEndLines, closi
 use Rattle.syntax_parse.specs.declared.escapes.Reached.TheVariants.{Plain}
 use Rattle.syntax_parse.specs.declared.fault.BadToken.{BadToken}
 use Rattle.syntax_parse.specs.declared.fault.BadToken.TheVariants as bad
-use Rattle.syntax_parse.proofs.ListedText.{one_same, units_listed, units_told}
+use Rattle.syntax_parse.proofs.ListedText.{one_same, units_listed, units_known}
 use Rattle.syntax_parse.proofs.TextUnits.{table_text}
 
 -- each carriage return comes before a line feed if none is bare
@@ -26,8 +26,8 @@ returned [] (c ∷ cs) none =
     (cases_eq c 10)
 returned (b ∷ before) behind none = returned before behind (or_parts ((b == 13) && not (begins_with_feed (before ++ (13 ∷ behind)))) (bare_return (before ++ (13 ∷ behind))) none).1
 
-ends_told : (text : List ℕ) → bare_return text ≡ false → ReturnsEndLines text
-ends_told text none before behind is = returned before behind (sym (ap bare_return is) ∙ none)
+ends_known : (text : List ℕ) → bare_return text ≡ false → ReturnsEndLines text
+ends_known text none before behind is = returned before behind (sym (ap bare_return is) ∙ none)
 
 ends_listed : (text : List ℕ) → ReturnsEndLines text → bare_return text ≡ false
 ends_listed [] ends = refl
@@ -52,11 +52,11 @@ end_ascii : (body : List ℕ) (quote : ℕ) → nat_le 128 quote ≡ false → b
 end_ascii [] quote low = ap (λ t. t || false) low
 end_ascii (b ∷ body) quote low = ap (λ t. nat_le 128 b || t) (end_ascii body quote low)
 
-ascii_told : (text : List ℕ) → beyond_ascii text ≡ false → IsAscii text
-ascii_told [] none = IsAscii-nil
-ascii_told (b ∷ text) none =
+ascii_known : (text : List ℕ) → beyond_ascii text ≡ false → IsAscii text
+ascii_known [] none = IsAscii-nil
+ascii_known (b ∷ text) none =
     let parts = or_parts (nat_le 128 b) (beyond_ascii text) none in
-    IsAscii-cons b text (leb-false 128 b parts.0) (ascii_told text parts.1)
+    IsAscii-cons b text (leb-false 128 b parts.0) (ascii_known text parts.1)
 
 ascii_listed : (text : List ℕ) → IsAscii text → beyond_ascii text ≡ false
 ascii_listed [] each = refl
@@ -164,13 +164,13 @@ literal_text kind body quoted utf8 =
             count = it.count;
             units = units_listed kind it.count _ it.units;
             one = ⊎_elim (λ many. inl (sym (one_same kind) ∙ many)) (λ one. inr one) it.one;
-            ascii = ⊎_elim (λ no_bytes. inl no_bytes) (λ narrow. inr (ascii_told body narrow)) fine.ascii;
-            returns = ends_told body fine.no_return;
+            ascii = ⊎_elim (λ no_bytes. inl no_bytes) (λ narrow. inr (ascii_known body narrow)) fine.ascii;
+            returns = ends_known body fine.no_return;
           }),
       (λ it.
           none_of kind body quoted (record {
             ascii = ⊎_elim (λ no_bytes. inl no_bytes) (λ ascii. inr (ascii_listed body ascii)) it.ascii;
             no_return = ends_listed body it.returns;
-            units = both.1 (record { count = it.count; units = units_told kind it.count _ it.units; one = ⊎_elim (λ many. inl (one_same kind ∙ many)) (λ one. inr one) it.one });
+            units = both.1 (record { count = it.count; units = units_known kind it.count _ it.units; one = ⊎_elim (λ many. inl (one_same kind ∙ many)) (λ one. inr one) it.one });
           })),
     )

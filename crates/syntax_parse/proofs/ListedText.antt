@@ -34,9 +34,9 @@ upper : AreDigits 0 (codes "0123456789ABCDEF")
 upper = (refl, (refl, (refl, (refl, (refl, (refl, (refl, (refl, (refl, (refl, (refl, (refl, (refl, (refl, (refl, (refl, tt))))))))))))))))
 
 -- a digit of the lists is one of the table
-digit_told : (c value : ℕ) → IsDigit c value → hex_digit c ≡ Some value
-digit_told c value (small is) = let from_none : 0 + value ≡ value = omega arith in digit_at 0 (codes "0123456789abcdef") value c lower is ∙ ap (λ (n : ℕ). Some n) from_none
-digit_told c value (large is) = let from_none : 0 + value ≡ value = omega arith in digit_at 0 (codes "0123456789ABCDEF") value c upper is ∙ ap (λ (n : ℕ). Some n) from_none
+digit_known : (c value : ℕ) → IsDigit c value → hex_digit c ≡ Some value
+digit_known c value (small is) = let from_none : 0 + value ≡ value = omega arith in digit_at 0 (codes "0123456789abcdef") value c lower is ∙ ap (λ (n : ℕ). Some n) from_none
+digit_known c value (large is) = let from_none : 0 + value ≡ value = omega arith in digit_at 0 (codes "0123456789ABCDEF") value c upper is ∙ ap (λ (n : ℕ). Some n) from_none
 
 digit_below : (c value : ℕ) → IsDigit c value → value < 16
 digit_below c value (small is) = slice_get_within (codes "0123456789abcdef") value c is
@@ -96,8 +96,8 @@ digit_listed c value is =
     (cases_Bool decimal)
 
 -- the escapes of two characters
-escape_told : (c : ℕ) → Contains (codes "nrt\\'\"") c → is_escape c ≡ true
-escape_told c among = All-contains (λ x. is_escape x ≡ true) (codes "nrt\\'\"") c (All-from_recursion (λ x. is_escape x ≡ true) (codes "nrt\\'\"") (refl, (refl, (refl, (refl, (refl, (refl, tt))))))) among
+escape_known : (c : ℕ) → Contains (codes "nrt\\'\"") c → is_escape c ≡ true
+escape_known c among = All-contains (λ x. is_escape x ≡ true) (codes "nrt\\'\"") c (All-from_recursion (λ x. is_escape x ≡ true) (codes "nrt\\'\"") (refl, (refl, (refl, (refl, (refl, (refl, tt))))))) among
 
 escape_listed : (c : ℕ) → is_escape c ≡ true → Contains (codes "nrt\\'\"") c
 escape_listed c is =
@@ -117,8 +117,8 @@ escape_listed c is =
     (or_cases (c == 110) ((c == 114) || ((c == 116) || ((c == 92) || ((c == 39) || (c == 34))))) is)
 
 -- what needs an escape in a literal of one character
-mark_told : (c : ℕ) → (Contains (codes "'\n\r\t") c → ⊥) → wants_escape c ≡ false
-mark_told c other = ⊎_elim (λ wants. absurd (other (listed wants))) (λ plain. plain) (cases_Bool (wants_escape c))
+mark_known : (c : ℕ) → (Contains (codes "'\n\r\t") c → ⊥) → wants_escape c ≡ false
+mark_known c other = ⊎_elim (λ wants. absurd (other (listed wants))) (λ plain. plain) (cases_Bool (wants_escape c))
   where
     listed : wants_escape c ≡ true → Contains (codes "'\n\r\t") c
     listed is =
@@ -150,26 +150,26 @@ bytes_no (literals.Byte terminated) takes = absurd (false≢true takes)
 bytes_no (literals.ByteStr terminated) takes = absurd (false≢true takes)
 bytes_no _ takes = refl
 
-held_told : (kind : LiteralKind) (number : ℕ) → MayHold kind number → table.MayHold kind number
-held_told (literals.CStr terminated) number held = inr held
-held_told _ number held = inl refl
+held_known : (kind : LiteralKind) (number : ℕ) → MayHold kind number → table.MayHold kind number
+held_known (literals.CStr terminated) number held = inr held
+held_known _ number held = inl refl
 
 held_listed : (kind : LiteralKind) (number : ℕ) → table.MayHold kind number → MayHold kind number
 held_listed (literals.CStr terminated) number (inl takes) = absurd (false≢true takes)
 held_listed (literals.CStr terminated) number (inr some) = some
 held_listed _ number held = tt
 
-high_told : (kind : LiteralKind) (high low : ℕ) → MayTell kind (high * 16 + low) → (takes_high kind ≡ true) ⊎ (high < 8)
-high_told (literals.Char terminated) high low may = inr (omega (arith, may))
-high_told (literals.Str terminated) high low may = inr (omega (arith, may))
-high_told (literals.CStr terminated) high low may = inl refl
-high_told _ high low may = inl refl
+high_known : (kind : LiteralKind) (high low : ℕ) → MayTell kind (high * 16 + low) → (takes_high kind ≡ true) ⊎ (high < 8)
+high_known (literals.Char terminated) high low may = inr (omega (arith, may))
+high_known (literals.Str terminated) high low may = inr (omega (arith, may))
+high_known (literals.CStr terminated) high low may = inl refl
+high_known _ high low may = inl refl
 
-null_told : (kind : LiteralKind) (number : ℕ) → MayTell kind number → table.MayHold kind number
-null_told (literals.CStr terminated) number may = inr may
-null_told (literals.Char terminated) number may = inl refl
-null_told (literals.Str terminated) number may = inl refl
-null_told _ number may = inl refl
+null_known : (kind : LiteralKind) (number : ℕ) → MayTell kind number → table.MayHold kind number
+null_known (literals.CStr terminated) number may = inr may
+null_known (literals.Char terminated) number may = inl refl
+null_known (literals.Str terminated) number may = inl refl
+null_known _ number may = inl refl
 
 byte_listed : (kind : LiteralKind) (high low : ℕ) → low < 16 → (takes_high kind ≡ true) ⊎ (high < 8) → table.MayHold kind (high * 16 + low) → MayTell kind (high * 16 + low)
 byte_listed (literals.Char terminated) high low few (inl takes) held = absurd (false≢true takes)
@@ -198,14 +198,14 @@ kept c text other = ap (λ t. cond t (table.digits_in text) (c ∷ table.digits_
 next_number : (before c value : ℕ) (rest : List ℕ) → hex_digit c ≡ Some value → table.number_behind before (c ∷ rest) ≡ table.number_behind (before * 16 + value) rest
 next_number before c value rest is = ap (λ o. table.number_behind (before * 16 + unwrap_or o 0) rest) is
 
-told : (before : ℕ) (text : List ℕ) (digits number : ℕ) → Tell before text digits number → Told before text digits number
-told before _ _ _ none = record { each = tt; few = refl; same = refl }
-told before _ digits number (low_line {text = text} tell) =
-    let rest = told before text digits number tell in
+answer : (before : ℕ) (text : List ℕ) (digits number : ℕ) → Tell before text digits number → Told before text digits number
+answer before _ _ _ none = record { each = tt; few = refl; same = refl }
+answer before _ digits number (low_line {text = text} tell) =
+    let rest = answer before text digits number tell in
     record { each = (inl refl, rest.each); few = rest.few; same = rest.same }
-told before _ _ number (digit {c = c} {value = value} {digits = digits} {text = text} is tell) =
-    let rest = told (before * 16 + value) text digits number tell in
-    let found = digit_told c value is in
+answer before _ _ number (digit {c = c} {value = value} {digits = digits} {text = text} is tell) =
+    let rest = answer (before * 16 + value) text digits number tell in
+    let found = digit_known c value is in
     let k = kept c text (no_line c value found) in
     record {
       each = (inr (value, found), rest.each);
@@ -239,10 +239,10 @@ first_behind first value rest is =
     let from_none : 0 * 16 + value ≡ value = omega arith in
     ap (table.number_behind 0) (kept first rest (no_line first value is)) ∙ next_number 0 first value (table.digits_in rest) is ∙ ap (λ n. table.number_behind n (table.digits_in rest)) from_none
 
-unicode_told : (kind : LiteralKind) (first : ℕ) (rest : List ℕ) → IsUnicode kind first rest → table.IsUnicode kind (first ∷ rest)
-unicode_told kind first rest it =
-    let found = digit_told first it.value it.begins in
-    let behind = told it.value rest it.digits it.number it.tell in
+unicode_known : (kind : LiteralKind) (first : ℕ) (rest : List ℕ) → IsUnicode kind first rest → table.IsUnicode kind (first ∷ rest)
+unicode_known kind first rest it =
+    let found = digit_known first it.value it.begins in
+    let behind = answer it.value rest it.digits it.number it.tell in
     let same : table.number_in (first ∷ rest) ≡ it.number = first_behind first it.value rest found ∙ behind.same in
     record {
       first = first;
@@ -253,7 +253,7 @@ unicode_told kind first rest it =
       digits = behind.each;
       few = omega (arith, it.few, behind.few, ap length (kept first rest (no_line first it.value found)));
       scalar = ap is_scalar same ∙ sym (scalar_same it.number) ∙ it.scalar;
-      held = subst (table.MayHold kind) (sym same) (held_told kind it.number it.held);
+      held = subst (table.MayHold kind) (sym same) (held_known kind it.number it.held);
     }
 
 unicode_listed : (kind : LiteralKind) (text : List ℕ) → is_of_bytes kind ≡ false → table.IsUnicode kind text → IsUnit kind (92 ∷ 117 ∷ 123 ∷ (text ++ 125 ∷ []))
@@ -272,19 +272,19 @@ unicode_listed kind text no_bytes it =
     } in
     subst (λ t. IsUnit kind (92 ∷ 117 ∷ 123 ∷ (t ++ 125 ∷ []))) (sym it.begins) (unicode no_bytes listed)
 
-unit_told : (kind : LiteralKind) (unit : List ℕ) → IsUnit kind unit → table.IsUnit kind unit
-unit_told kind _ (character {c = c} it) =
+unit_known : (kind : LiteralKind) (unit : List ℕ) → IsUnit kind unit → table.IsUnit kind unit
+unit_known kind _ (character {c = c} it) =
     table.character (record {
       no_backslash = it.no_backslash;
-      no_mark = ⊎_elim (λ many. inl (one_same kind ∙ many)) (λ other. inr (mark_told c other)) it.no_mark;
-      held = held_told kind c it.held;
+      no_mark = ⊎_elim (λ many. inl (one_same kind ∙ many)) (λ other. inr (mark_known c other)) it.no_mark;
+      held = held_known kind c it.held;
     })
-unit_told kind _ (simple {c = c} among) = table.simple (escape_told c among)
-unit_told kind _ (null may) = table.null (held_told kind 0 may)
-unit_told kind _ (byte {a = a} {b = b} {high = high} {low = low} first second may) =
-    table.byte (digit_told a high first) (digit_told b low second) (high_told kind high low may) (null_told kind (high * 16 + low) may)
-unit_told kind _ (unicode {first = first} {rest = rest} no_bytes it) = table.unicode (unicode_same kind ∙ ap not no_bytes) (unicode_told kind first rest it)
-unit_told kind _ (line_end many ends) = table.line_end (one_same kind ∙ many) ends
+unit_known kind _ (simple {c = c} among) = table.simple (escape_known c among)
+unit_known kind _ (null may) = table.null (held_known kind 0 may)
+unit_known kind _ (byte {a = a} {b = b} {high = high} {low = low} first second may) =
+    table.byte (digit_known a high first) (digit_known b low second) (high_known kind high low may) (null_known kind (high * 16 + low) may)
+unit_known kind _ (unicode {first = first} {rest = rest} no_bytes it) = table.unicode (unicode_same kind ∙ ap not no_bytes) (unicode_known kind first rest it)
+unit_known kind _ (line_end many ends) = table.line_end (one_same kind ∙ many) ends
 
 unit_listed : (kind : LiteralKind) (unit : List ℕ) → table.IsUnit kind unit → IsUnit kind unit
 unit_listed kind _ (table.character {c = c} it) =
@@ -301,9 +301,9 @@ unit_listed kind _ (table.byte {a = a} {b = b} {high = high} {low = low} first s
 unit_listed kind _ (table.unicode {text = text} takes it) = unicode_listed kind text (bytes_no kind takes) it
 unit_listed kind _ (table.line_end many ends) = line_end (sym (one_same kind) ∙ many) ends
 
-pub units_told : (kind : LiteralKind) (count : ℕ) (text : List ℕ) → AreUnits kind count text → table.AreUnits kind count text
-units_told kind _ _ nothing = table.nothing
-units_told kind _ _ (more {unit = unit} {rest = rest} {count = count} is others) = table.more (unit_told kind unit is) (units_told kind count rest others)
+pub units_known : (kind : LiteralKind) (count : ℕ) (text : List ℕ) → AreUnits kind count text → table.AreUnits kind count text
+units_known kind _ _ nothing = table.nothing
+units_known kind _ _ (more {unit = unit} {rest = rest} {count = count} is others) = table.more (unit_known kind unit is) (units_known kind count rest others)
 
 pub units_listed : (kind : LiteralKind) (count : ℕ) (text : List ℕ) → table.AreUnits kind count text → AreUnits kind count text
 units_listed kind _ _ table.nothing = nothing

@@ -38,11 +38,11 @@ ident_is a b sorts spans =
 -- a piece determines its leaf
 leaf_is : (a b : Leaf) → piece_of a ≡ piece_of b → a ≡ b
 leaf_is (leaf_of.Literal a) (leaf_of.Literal b) e =
-    let told = at_span_is _ _ _ _ e in
-    let sorts : value (kind_of a) (symbol_of a) (suffix_len_of a) ≡ value (kind_of b) (symbol_of b) (suffix_len_of b) = told.0 in
-    ap leaf_of.Literal (same_literal a b (record { symbol = cc; span = told.1; kind = cc; suffix_len = cc }))
-leaf_is (leaf_of.Punct a) (leaf_of.Punct b) e = let told = at_span_is _ _ _ _ e in ap leaf_of.Punct (punct_is a b told.0 told.1)
-leaf_is (leaf_of.Ident a) (leaf_of.Ident b) e = let told = at_span_is _ _ _ _ e in ap leaf_of.Ident (ident_is a b told.0 told.1)
+    let answer = at_span_is _ _ _ _ e in
+    let sorts : value (kind_of a) (symbol_of a) (suffix_len_of a) ≡ value (kind_of b) (symbol_of b) (suffix_len_of b) = answer.0 in
+    ap leaf_of.Literal (same_literal a b (record { symbol = cc; span = answer.1; kind = cc; suffix_len = cc }))
+leaf_is (leaf_of.Punct a) (leaf_of.Punct b) e = let answer = at_span_is _ _ _ _ e in ap leaf_of.Punct (punct_is a b answer.0 answer.1)
+leaf_is (leaf_of.Ident a) (leaf_of.Ident b) e = let answer = at_span_is _ _ _ _ e in ap leaf_of.Ident (ident_is a b answer.0 answer.1)
 leaf_is (leaf_of.Literal a) (leaf_of.Punct b) e = let s = ap (λ p. p.sort) e in absurd (cc)
 leaf_is (leaf_of.Literal a) (leaf_of.Ident b) e = let s = ap (λ p. p.sort) e in absurd (cc)
 leaf_is (leaf_of.Punct a) (leaf_of.Literal b) e = let s = ap (λ p. p.sort) e in absurd (cc)

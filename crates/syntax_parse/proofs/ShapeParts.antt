@@ -114,9 +114,9 @@ raw_parts n ds closed =
     let p : raw_body n ds ≡ (counted r.0 n, r.1) = ap (λ b. cond b (counted r.0 n, r.1) (None, skip ds)) e in
     ⊎_elim
     (λ k.
-    let told : counted r.0 n ≡ Some n = ap (λ b. cond b (Some n) None) k in
+    let answer : counted r.0 n ≡ Some n = ap (λ b. cond b (Some n) None) k in
     let b = raw_closed n (skip ds) r.1 (ap (λ x. (x, r.1)) (and_parts r.0 (nat_lt n 256) k).0) in (
-      ap (λ q. q.0) p ∙ told,
+      ap (λ q. q.0) p ∙ answer,
       b.0,
       begins ds 33 (eqb-true (first ds) 34 e) ∙ ap (λ t. 34 ∷ t) b.2 ∙ ap (λ t. 34 ∷ (b.0 ++ 34 ∷ (replicate n 35 ++ t))) (sym (ap (λ q. q.1) p)),
     ))
@@ -134,7 +134,7 @@ raw_shape text before cs ahead kind is len closed =
     let hashes : List ℕ = replicate n 35 in
     let p = raw_parts n (drop n cs) closed in
     let rest = (raw_text cs).1 in
-    let told : unwrap_or (raw_text cs).0 0 ≡ n = ap (λ o. unwrap_or o 0) p.0 in record {
+    let answer : unwrap_or (raw_text cs).0 0 ≡ n = ap (λ o. unwrap_or o 0) p.0 in record {
       before = before ++ (hashes ++ 34 ∷ []);
       body = p.1;
       after = 34 ∷ hashes;
@@ -145,8 +145,8 @@ raw_shape text before cs ahead kind is len closed =
           ∙ sym (append_assoc before (hashes ++ 34 ∷ []) (p.1 ++ 34 ∷ (hashes ++ rest)));
       open_len =
           byte_length-both before (hashes ++ 34 ∷ [])
-          ∙ omega (arith, len, byte_length-both hashes (34 ∷ []), byte_length-hashes n, one_byte 34 (omega arith), told);
-      close_len = byte_length-both (34 ∷ []) hashes ∙ omega (arith, byte_length-hashes n, one_byte 34 (omega arith), told);
+          ∙ omega (arith, len, byte_length-both hashes (34 ∷ []), byte_length-hashes n, one_byte 34 (omega arith), answer);
+      close_len = byte_length-both (34 ∷ []) hashes ∙ omega (arith, byte_length-hashes n, one_byte 34 (omega arith), answer);
       suffix = refl;
       ends = literal_end text (kind (raw_text cs).0) (is_some (raw_text cs).0) rest;
     }

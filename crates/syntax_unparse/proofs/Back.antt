@@ -90,14 +90,14 @@ next_touching behind q o w (opening pair ∷ rest) f = gap_next (opens_apart beh
 next_touching behind q o w (closing pair ∷ rest) f = closing_next pair (chunks_of Apart rest)
 next_touching behind q o w (word at (leaf_of.Ident ident) ∷ rest) f =
     let it = leaf_of.Ident ident in
-    let told = reads_as it refl f.1 in
-    let known = name_known ident (ident_text ident) (first_kind (ident_text ident)) told.0.fine told.1 in
+    let facts = reads_as it refl f.1 in
+    let known = name_known ident (ident_text ident) (first_kind (ident_text ident)) facts.0.fine facts.1 in
     ap (λ b. spacing_before (next_kind (tokens_of (if b then lifetime_chunk it ∷ chunks_of Apart rest else gap_if (wants_space behind it) (leaf_chunk it rest ∷ chunks_of Apart rest))))) q
     ∙ gap_next (wants_space behind it) (leaf_chunk it rest ∷ chunks_of Apart rest) known.alone
 next_touching behind q o w (word at (leaf_of.Literal literal) ∷ rest) f =
     let it = leaf_of.Literal literal in
-    let told = reads_as it refl f.1 in
-    let known = literal_known literal (leaf_text it) (first_kind (leaf_text it)) told.0.fine told.1 in
+    let facts = reads_as it refl f.1 in
+    let known = literal_known literal (leaf_text it) (first_kind (leaf_text it)) facts.0.fine facts.1 in
     ap (λ b. spacing_before (next_kind (tokens_of (if b then lifetime_chunk it ∷ chunks_of Apart rest else gap_if (wants_space behind it) (leaf_chunk it rest ∷ chunks_of Apart rest))))) q
     ∙ gap_next (wants_space behind it) (leaf_chunk it rest ∷ chunks_of Apart rest) known.alone
 next_touching behind q o w (word at (leaf_of.Punct punct) ∷ rest) f = first_step ∙ go (punct.char == 39) refl
@@ -157,18 +157,18 @@ settled_next char spacing rest other f = go (is_alone spacing) refl (char == 47)
 punct_chunk : (punct : Punct) (rest : List Mark) → (punct.char == 39) ≡ false → ReadsAlone (leaf_of.Punct punct) → Fits (behind_leaf (leaf_of.Punct punct)) rest
     → IsChunk (leaf_chunk (leaf_of.Punct punct) rest) (chunks_of (behind_leaf (leaf_of.Punct punct)) rest)
 punct_chunk punct rest other reads f =
-    let told = reads_as (leaf_of.Punct punct) other reads in
+    let facts = reads_as (leaf_of.Punct punct) other reads in
     let bytes = encode_utf8 punct.char in
-    let known = punct_known (first_kind bytes) punct.char told.1 in
+    let known = punct_known (first_kind bytes) punct.char facts.1 in
     let chunks = chunks_of (behind_punct punct.char punct.spacing) rest in
     let letters : chars bytes ≡ punct.char ∷ [] = ap chars known.bytes ∙ known.chars in
     record {
-      utf8 = told.0.utf8;
-      some = some_chars bytes told.0;
+      utf8 = facts.0.utf8;
+      some = some_chars bytes facts.0;
       reads =
           ap (λ t. reading (t ++ text chunks)) letters ∙ sign_read punct.char (text chunks) known.sign (punct_apart punct.char punct.spacing rest other f)
           ∙ ap (λ k. (k, text chunks)) known.symbol;
-      role = told.0.fine;
+      role = facts.0.fine;
       means = λ part at. known.means part (next_kind (tokens_of chunks)) at bytes ∙ ap (λ s. sign punct.char s ∷ []) (settled_next punct.char punct.spacing rest other f);
     }
 
@@ -176,12 +176,12 @@ punct_chunk punct rest other reads f =
 word_are : (it : Leaf) (rest : List Mark) → ReadsAlone it → Fits (behind_leaf it) rest → AreChunks (chunks_of (behind_leaf it) rest)
     → AreChunks (word_as it rest (chunks_of Quote rest) (chunks_of (behind_leaf it) rest))
 word_are (leaf_of.Ident ident) rest reads f inner =
-    let told = reads_as (leaf_of.Ident ident) refl reads in
-    (known_chunk (leaf_of.Ident ident) rest (chunks_of Apart rest) told.0 (name_known ident (ident_text ident) (first_kind (ident_text ident)) told.0.fine told.1) (stops_apart rest f), inner)
+    let facts = reads_as (leaf_of.Ident ident) refl reads in
+    (known_chunk (leaf_of.Ident ident) rest (chunks_of Apart rest) facts.0 (name_known ident (ident_text ident) (first_kind (ident_text ident)) facts.0.fine facts.1) (stops_apart rest f), inner)
 word_are (leaf_of.Literal literal) rest reads f inner =
-    let told = reads_as (leaf_of.Literal literal) refl reads in
+    let facts = reads_as (leaf_of.Literal literal) refl reads in
     let bytes = leaf_text (leaf_of.Literal literal) in
-    (known_chunk (leaf_of.Literal literal) rest (chunks_of Apart rest) told.0 (literal_known literal bytes (first_kind bytes) told.0.fine told.1) (stops_apart rest f), inner)
+    (known_chunk (leaf_of.Literal literal) rest (chunks_of Apart rest) facts.0 (literal_known literal bytes (first_kind bytes) facts.0.fine facts.1) (stops_apart rest f), inner)
 word_are (leaf_of.Punct punct) rest reads f inner = go (punct.char == 39) refl
   where
     it : Leaf

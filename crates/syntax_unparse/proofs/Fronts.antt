@@ -88,11 +88,11 @@ pub sign_chunk : (c : ℕ) (chunk : Chunk) (chunks : List Chunk) → c < 128 →
     → ((part : SpanPart) → (at : ℕ) → sorts (pieces_of part chunk.kind (next_kind (tokens_of chunks)) at chunk.text) ≡ chunk.means)
     → IsChunk chunk chunks
 sign_chunk c chunk chunks lt are kind apart known role means =
-    let told : chars chunk.text ≡ c ∷ [] = ap chars are ∙ chars-IsAscii (c ∷ []) (ascii_one c lt) in
+    let facts : chars chunk.text ≡ c ∷ [] = ap chars are ∙ chars-IsAscii (c ∷ []) (ascii_one c lt) in
     record {
       utf8 = subst IsUtf8 (sym are) (IsUtf8-from_ascii (c ∷ []) (ascii_one c lt));
-      some = λ e. not_nil c [] (sym told ∙ e);
-      reads = ap (λ t. reading (t ++ text chunks)) told ∙ sign_read c (text chunks) known apart ∙ ap (λ k. (k, text chunks)) kind;
+      some = λ e. not_nil c [] (sym facts ∙ e);
+      reads = ap (λ t. reading (t ++ text chunks)) facts ∙ sign_read c (text chunks) known apart ∙ ap (λ k. (k, text chunks)) kind;
       role = role;
       means = means;
     }
@@ -124,10 +124,10 @@ pub record IsName (kind : TokenKind) (bytes : List ℕ) (sort : Sort) : Type 0 w
 
 pub name_known : (ident : Ident) (bytes : List ℕ) (kind : TokenKind) → role_in kind bytes ≡ roles.Leaf → Means kind bytes (leaf_of.Ident ident) → IsName kind bytes (sort_of (leaf_of.Ident ident))
 name_known ident bytes kind fine means =
-    let told : ◌≡◌ {A = List Sort} (name (without_raw_prefix bytes) (rawness_of bytes) ∷ []) (name ident.sym ident.is_raw ∷ []) = ap₂ (λ a b. name a b ∷ []) means.1 means.2 in
+    let facts : ◌≡◌ {A = List Sort} (name (without_raw_prefix bytes) (rawness_of bytes) ∷ []) (name ident.sym ident.is_raw ∷ []) = ap₂ (λ a b. name a b ∷ []) means.1 means.2 in
     name_cases (λ k. role_in k bytes ≡ roles.Leaf → IsName k bytes (sort_of (leaf_of.Ident ident))) kind
-    (λ role. record { ended = refl; wordy = refl; alone = refl; means = λ part next at. told })
-    (λ role. record { ended = refl; wordy = refl; alone = refl; means = λ part next at. ap (λ r. sorts (pieces_as r part kinds.RawIdent next at bytes)) role ∙ told })
+    (λ role. record { ended = refl; wordy = refl; alone = refl; means = λ part next at. facts })
+    (λ role. record { ended = refl; wordy = refl; alone = refl; means = λ part next at. ap (λ r. sorts (pieces_as r part kinds.RawIdent next at bytes)) role ∙ facts })
     means.0 fine
 
 pub literal_known : (literal : Literal) (bytes : List ℕ) (kind : TokenKind) → role_in kind bytes ≡ roles.Leaf → MeansLiteral kind bytes literal → IsName kind bytes (sort_of (leaf_of.Literal literal))
@@ -137,12 +137,12 @@ literal_known literal bytes kind fine means =
       ended = closed_leaf it bytes (literal_fault it start bytes) role;
       wordy = refl;
       alone = refl;
-      means = λ part next at. ap (λ r. sorts (pieces_as r part (kinds.Literal it start) next at bytes)) role ∙ told it start parts;
+      means = λ part next at. ap (λ r. sorts (pieces_as r part (kinds.Literal it start) next at bytes)) role ∙ facts it start parts;
     }) means fine means
   where
-    told : (it : LiteralKind) (start : ℕ) → (parts : MeansLiteral (kinds.Literal it start) bytes literal)
+    facts : (it : LiteralKind) (start : ℕ) → (parts : MeansLiteral (kinds.Literal it start) bytes literal)
         → ◌≡◌ {A = List Sort} (literal_of (parts_told bytes (Some (scan_of it, start))) ∷ []) (sort_of (leaf_of.Literal literal) ∷ [])
-    told it start parts = ap (λ s. s ∷ []) (ap₂ (λ k s. value k s (length (parts_told bytes (Some (scan_of it, start))).suffix)) (sym parts.kind) (sym parts.symbol) ∙ ap (λ n. value (kind_of_literal literal) (symbol_of literal) n) (sym parts.suffix_len))
+    facts it start parts = ap (λ s. s ∷ []) (ap₂ (λ k s. value k s (length (parts_told bytes (Some (scan_of it, start))).suffix)) (sym parts.kind) (sym parts.symbol) ∙ ap (λ n. value (kind_of_literal literal) (symbol_of literal) n) (sym parts.suffix_len))
 
 -- a name or a literal before a stop
 pub known_chunk : (it : Leaf) (rest : List Mark) (chunks : List Chunk) → IsOneToken (leaf_text it) → IsName (first_kind (leaf_text it)) (leaf_text it) (settled_leaf it rest) → Stops (text chunks)
@@ -214,8 +214,8 @@ word_front it rest reads f = go (is_punct 39 it) refl
     go : (b : Bool) → is_punct 39 it ≡ b → is_whitespace (first (text (word_as it rest (chunks_of Quote rest) (chunks_of (behind_leaf it) rest)))) ≡ false
     go true e = rw e (ap is_whitespace (quote_front rest (subst (λ b. Fits b rest) (behind_quote it e) f)))
     go false e =
-        let told = reads_as it e reads in
-        rw e (ap is_whitespace (leaf_front it rest (chunks_of (behind_leaf it) rest) told.0) ∙ no_space (leaf_text it) told.0)
+        let facts = reads_as it e reads in
+        rw e (ap is_whitespace (leaf_front it rest (chunks_of (behind_leaf it) rest) facts.0) ∙ no_space (leaf_text it) facts.0)
 
 -- signs that do not join the next
 pub glue_none : (c n : ℕ) → (n == 47) ≡ false → (n == 42) ≡ false → (n == 34) ≡ false → (n == 35) ≡ false → is_glued c n ≡ false
@@ -239,9 +239,9 @@ glue_other c n a b = rw (a, b) refl
 -- the first character of a punct
 pub punct_front : (punct : Punct) (rest : List Mark) (chunks : List Chunk) → ReadsAs (leaf_text (leaf_of.Punct punct)) (leaf_of.Punct punct)
     → first (text (leaf_chunk (leaf_of.Punct punct) rest ∷ chunks)) ≡ punct.char
-punct_front punct rest chunks told =
-    let known = punct_known (first_kind (encode_utf8 punct.char)) punct.char told.1 in
-    leaf_front (leaf_of.Punct punct) rest chunks told.0 ∙ ap (λ t. first (chars t)) known.bytes ∙ ap first known.chars
+punct_front punct rest chunks facts =
+    let known = punct_known (first_kind (encode_utf8 punct.char)) punct.char facts.1 in
+    leaf_front (leaf_of.Punct punct) rest chunks facts.0 ∙ ap (λ t. first (chars t)) known.bytes ∙ ap first known.chars
 
 -- a text that touches a `/` makes no comment with it
 pub slash_front : (ms : List Mark) → Fits Slash ms → is_glued 47 (first (text (chunks_of Slash ms))) ≡ false
@@ -253,16 +253,16 @@ slash_front (closing Parenthesis ∷ rest) f = ap (λ t. is_glued 47 (first t)) 
 slash_front (closing Brace ∷ rest) f = ap (λ t. is_glued 47 (first t)) (ascii_first 125 (joined (chunks_of Apart rest)) (omega arith))
 slash_front (closing Square ∷ rest) f = ap (λ t. is_glued 47 (first t)) (ascii_first 93 (joined (chunks_of Apart rest)) (omega arith))
 slash_front (word at (leaf_of.Ident ident) ∷ rest) f =
-    let told = reads_as (leaf_of.Ident ident) refl f.1 in
-    let known = name_known ident (ident_text ident) (first_kind (ident_text ident)) told.0.fine told.1 in
-    ap (is_glued 47) (leaf_front (leaf_of.Ident ident) rest (chunks_of Apart rest) told.0)
-    ∙ glue_slash (first (chars (ident_text ident))) (begins_not 47 not_slash (ident_text ident) told.0 known.wordy) (begins_not 42 not_star (ident_text ident) told.0 known.wordy)
+    let facts = reads_as (leaf_of.Ident ident) refl f.1 in
+    let known = name_known ident (ident_text ident) (first_kind (ident_text ident)) facts.0.fine facts.1 in
+    ap (is_glued 47) (leaf_front (leaf_of.Ident ident) rest (chunks_of Apart rest) facts.0)
+    ∙ glue_slash (first (chars (ident_text ident))) (begins_not 47 not_slash (ident_text ident) facts.0 known.wordy) (begins_not 42 not_star (ident_text ident) facts.0 known.wordy)
 slash_front (word at (leaf_of.Literal literal) ∷ rest) f =
-    let told = reads_as (leaf_of.Literal literal) refl f.1 in
+    let facts = reads_as (leaf_of.Literal literal) refl f.1 in
     let bytes = leaf_text (leaf_of.Literal literal) in
-    let known = literal_known literal bytes (first_kind bytes) told.0.fine told.1 in
-    ap (is_glued 47) (leaf_front (leaf_of.Literal literal) rest (chunks_of Apart rest) told.0)
-    ∙ glue_slash (first (chars bytes)) (begins_not 47 not_slash bytes told.0 known.wordy) (begins_not 42 not_star bytes told.0 known.wordy)
+    let known = literal_known literal bytes (first_kind bytes) facts.0.fine facts.1 in
+    ap (is_glued 47) (leaf_front (leaf_of.Literal literal) rest (chunks_of Apart rest) facts.0)
+    ∙ glue_slash (first (chars bytes)) (begins_not 47 not_slash bytes facts.0 known.wordy) (begins_not 42 not_star bytes facts.0 known.wordy)
 slash_front (word at (leaf_of.Punct punct) ∷ rest) f = go (punct.char == 39) refl
   where
     go : (b : Bool) → (punct.char == 39) ≡ b → is_glued 47 (first (text (chunks_of Slash (word at (leaf_of.Punct punct) ∷ rest)))) ≡ false
@@ -274,10 +274,10 @@ slash_front (word at (leaf_of.Punct punct) ∷ rest) f = go (punct.char == 39) r
 
 -- no name begins with a double quote
 pub no_string_name : (ident : Ident) → ReadsAs (ident_text ident) (leaf_of.Ident ident) → (first (chars (ident_text ident)) == 34) ≡ false
-no_string_name ident told =
-    let it = read_whole (ident_text ident) told.0 in
+no_string_name ident facts =
+    let it = read_whole (ident_text ident) facts.0 in
     ap (λ t. first t == 34) it.are
-    ∙ ne_eqb it.c 34 (λ e. false≢true (sym (not_string it.cs) ∙ ap (λ c. is_name (reading (c ∷ it.cs)).0) (sym e) ∙ ap (λ p. is_name p.0) it.read ∙ told.1.0))
+    ∙ ne_eqb it.c 34 (λ e. false≢true (sym (not_string it.cs) ∙ ap (λ c. is_name (reading (c ∷ it.cs)).0) (sym e) ∙ ap (λ p. is_name p.0) it.read ∙ facts.1.0))
 
 -- a text that touches a `#` makes no prefix with it
 pub pound_front : (ms : List Mark) → Fits Pound ms → is_glued 35 (first (text (chunks_of Pound ms))) ≡ false
@@ -289,27 +289,27 @@ pound_front (closing Parenthesis ∷ rest) f = ap (λ t. is_glued 35 (first t)) 
 pound_front (closing Brace ∷ rest) f = ap (λ t. is_glued 35 (first t)) (ascii_first 125 (joined (chunks_of Apart rest)) (omega arith))
 pound_front (closing Square ∷ rest) f = ap (λ t. is_glued 35 (first t)) (ascii_first 93 (joined (chunks_of Apart rest)) (omega arith))
 pound_front (word at (leaf_of.Ident ident) ∷ rest) f =
-    let told = reads_as (leaf_of.Ident ident) refl f.1 in
+    let facts = reads_as (leaf_of.Ident ident) refl f.1 in
     let bytes = ident_text ident in
-    let known = name_known ident bytes (first_kind bytes) told.0.fine told.1 in
-    ap (is_glued 35) (leaf_front (leaf_of.Ident ident) rest (chunks_of Apart rest) told.0)
-    ∙ glue_pound (first (chars bytes)) (no_string_name ident told) (begins_not 35 not_hash bytes told.0 known.wordy)
+    let known = name_known ident bytes (first_kind bytes) facts.0.fine facts.1 in
+    ap (is_glued 35) (leaf_front (leaf_of.Ident ident) rest (chunks_of Apart rest) facts.0)
+    ∙ glue_pound (first (chars bytes)) (no_string_name ident facts) (begins_not 35 not_hash bytes facts.0 known.wordy)
 pound_front (word at (leaf_of.Literal literal) ∷ rest) f = go (is_string (leaf_of.Literal literal)) refl
   where
     go : (b : Bool) → is_string (leaf_of.Literal literal) ≡ b → is_glued 35 (first (text (chunks_of Pound (word at (leaf_of.Literal literal) ∷ rest)))) ≡ false
     go true e = rw e (ap (λ t. is_glued 35 (first t)) (ascii_first 32 (joined (leaf_chunk (leaf_of.Literal literal) rest ∷ chunks_of Apart rest)) (omega arith)))
     go false e =
-        let told = reads_as (leaf_of.Literal literal) refl f.1 in
+        let facts = reads_as (leaf_of.Literal literal) refl f.1 in
         let bytes = leaf_text (leaf_of.Literal literal) in
-        let known = literal_known literal bytes (first_kind bytes) told.0.fine told.1 in
-        rw e (ap (is_glued 35) (leaf_front (leaf_of.Literal literal) rest (chunks_of Apart rest) told.0)
-        ∙ glue_pound (first (chars bytes)) (begins_no_string bytes told.0 e) (begins_not 35 not_hash bytes told.0 known.wordy))
+        let known = literal_known literal bytes (first_kind bytes) facts.0.fine facts.1 in
+        rw e (ap (is_glued 35) (leaf_front (leaf_of.Literal literal) rest (chunks_of Apart rest) facts.0)
+        ∙ glue_pound (first (chars bytes)) (begins_no_string bytes facts.0 e) (begins_not 35 not_hash bytes facts.0 known.wordy))
 pound_front (word at (leaf_of.Punct punct) ∷ rest) f = go (punct.char == 39) refl
   where
     go : (b : Bool) → (punct.char == 39) ≡ b → is_glued 35 (first (text (chunks_of Pound (word at (leaf_of.Punct punct) ∷ rest)))) ≡ false
     go true e = ap (λ b. is_glued 35 (first (text (if b then chunks_of Quote rest else leaf_chunk (leaf_of.Punct punct) rest ∷ chunks_of (behind_leaf (leaf_of.Punct punct)) rest)))) e ∙ (ap (is_glued 35) (quote_front rest (subst (λ b. Fits b rest) (behind_quote (leaf_of.Punct punct) e) f.2)))
     go false e =
-        let told = reads_as (leaf_of.Punct punct) e f.1 in
-        let known = punct_known (first_kind (encode_utf8 punct.char)) punct.char told.1 in
-        ap (λ b. is_glued 35 (first (text (if b then chunks_of Quote rest else leaf_chunk (leaf_of.Punct punct) rest ∷ chunks_of (behind_leaf (leaf_of.Punct punct)) rest)))) e ∙ (ap (is_glued 35) (punct_front punct rest (chunks_of (behind_leaf (leaf_of.Punct punct)) rest) told)
+        let facts = reads_as (leaf_of.Punct punct) e f.1 in
+        let known = punct_known (first_kind (encode_utf8 punct.char)) punct.char facts.1 in
+        ap (λ b. is_glued 35 (first (text (if b then chunks_of Quote rest else leaf_chunk (leaf_of.Punct punct) rest ∷ chunks_of (behind_leaf (leaf_of.Punct punct)) rest)))) e ∙ (ap (is_glued 35) (punct_front punct rest (chunks_of (behind_leaf (leaf_of.Punct punct)) rest) facts)
         ∙ glue_pound punct.char known.no_string f.0)

@@ -7,7 +7,7 @@ use Rattle.tt_base.specs.declared.leaf.Leaf.{Leaf}
 use Rattle.tt_view.specs.Iters.{rest_of, IsFirstElement}
 use Rattle.tt_view.specs.declared.iter.TtElement.TheVariants as element
 use Rattle.tt_view.specs.declared.iter.TtIter.{TtIter}
-use Rattle.syntax_unparse.specs.Marks.{shown, stands_for}
+use Rattle.syntax_unparse.specs.Marks.{shown, shown_as}
 
 -- one, if it holds
 abbrev pub one_if : Bool → ℕ
@@ -32,10 +32,10 @@ shown_leaf (node delimiter children rest) found p = absurd p
 
 -- a subtree shows the trees that it counts as
 pub shown_subtree : (trees : Forest) (subtree : Subtree) (below : TtIter) → IsFirstElement trees (Some (element.Subtree subtree below))
-    → shown trees ≡ stands_for subtree.delimiter.kind (shown (rest_of below)) + shown (after_tree trees)
+    → shown trees ≡ shown_as subtree.delimiter.kind (shown (rest_of below)) + shown (after_tree trees)
 shown_subtree end subtree below p = absurd p
 shown_subtree (leaf it rest) subtree below p = absurd p
-shown_subtree (node delimiter children rest) subtree below p = ap₂ (λ d held. stands_for d.kind (shown held) + shown rest) (sym p.0) (sym p.2)
+shown_subtree (node delimiter children rest) subtree below p = ap₂ (λ d held. shown_as d.kind (shown held) + shown rest) (sym p.0) (sym p.2)
 
 -- an end shows nothing
 pub shown_end : (trees : Forest) → IsFirstElement trees None → shown trees ≡ 0

@@ -14,18 +14,18 @@ pub data Mark : Type 0 where
   closing : Bracket → Mark
 
 -- how many trees a subtree counts as: an invisible one is replaced by its children
-abbrev pub stands_for : DelimiterKind → (held : ℕ) → ℕ
-stands_for delimits.Parenthesis held = 1
-stands_for delimits.Brace held = 1
-stands_for delimits.Bracket held = 1
-stands_for delimits.Invisible held = held
-stands_for delimits.InvisibleOpaque held = 1
+abbrev pub shown_as : DelimiterKind → (held : ℕ) → ℕ
+shown_as delimits.Parenthesis held = 1
+shown_as delimits.Brace held = 1
+shown_as delimits.Bracket held = 1
+shown_as delimits.Invisible held = held
+shown_as delimits.InvisibleOpaque held = 1
 
 -- how many trees are left after each invisible subtree is replaced by its children
 abbrev pub shown : Forest → ℕ
 shown end = 0
 shown (leaf it rest) = suc (shown rest)
-shown (node delimiter children rest) = stands_for delimiter.kind (shown children) + shown rest
+shown (node delimiter children rest) = shown_as delimiter.kind (shown children) + shown rest
 
 -- the brackets of a subtree, by how many trees it holds: an opaque one has parentheses around two or more
 abbrev pub brackets_of : DelimiterKind → (held : ℕ) → Option Bracket

@@ -4,8 +4,9 @@ use crate::ways::are_ways;
 use std::test::Fail;
 
 // A pattern, an input, and in how many ways the input is an instance. Each of these fragments takes as much as the grammar
-// allows, and no less, so it leaves no choice.
-const PIECES: [(&str, &str, usize); 46] = [
+// allows, and no less, so it leaves no choice. If brackets contain something else than they must, it takes nothing; the compiler ends with
+// an error there.
+const PIECES: [(&str, &str, usize); 63] = [
     ("$e:expr", "a + b * c", 1),
     ("$e:expr", "a b", 0),
     ("$e:expr", "", 0),
@@ -52,6 +53,23 @@ const PIECES: [(&str, &str, usize); 46] = [
     ("$($e:expr)? $t:ty", "a", 1),
     ("$($e:expr)? $($t:ty)?", "a", 2),
     ("($e:expr) $x:tt", "(a - 1) b", 1),
+    ("$e:expr", "(1 + 2)", 1),
+    ("$e:expr", "(1 +)", 0),
+    ("$e:expr", "f([a, (b +)])", 0),
+    ("$e:expr", "m!(1 +)", 1),
+    ("$t:ty", "[u8; 1 +]", 0),
+    ("$t:ty", "fn((A, B)) -> [C]", 1),
+    ("$p:pat", "(a b)", 0),
+    ("$p:pat", "A { b: [c, ..], .. }", 1),
+    ("$s:stmt", "let a = { b c }", 0),
+    ("$s:stmt", "let a = { b; c }", 1),
+    ("$i:item", "fn f() { let = 1; }", 0),
+    ("$i:item", "mod a { fn b() { c! { 1 + } } }", 1),
+    ("#[$m:meta]", "#[a(1 +)]", 1),
+    ("$b:block", "{ 1 2, }", 0),
+    ("$b:block", "{ let a = 1; a }", 1),
+    ("$b:block", "{ #![a] }", 0),
+    ("$b:block", "{ { 1 + } }", 0),
 ];
 
 #[test]

@@ -149,7 +149,7 @@ const WAYS: [(&str, &str, usize); 101] = [
     ("$x:literal", "- \"s\"", 0),
     ("$x:literal", "- true", 0),
     ("$x:literal", "-", 0),
-    ("$x:block", "{ 1 2, }", 1),
+    ("$x:block", "{ 1; 2 }", 1),
     ("$v:vis", "", 1),
     ("$v:vis", "pub", 1),
     ("$v:vis", "pub(crate)", 1),

@@ -150,7 +150,7 @@ pub fn expectations(trees: TokenTreesView<'_>) -> bool {
         && glued(trees.iter()) == Some(1)
 }
 
-// How many puncts stand as one behind the first sibling.
+// Returns how many puncts of one operator come after the first sibling.
 fn glued(siblings: TtIter<'_>) -> Option<usize> {
     let mut siblings = siblings;
     siblings.next();

@@ -196,7 +196,7 @@ fn single_elements(rt: HostRuntime) -> Result<(), Fail> {
     holds(Ok(are_told_apart(&mut tree.iter())))
 }
 
-// How many steps it takes to expect puncts that stand as one.
+// Returns how many steps it takes to expect the puncts of one operator.
 fn steps_of_glued(siblings: &mut TtIter<'_>) -> u64 {
     let start = siblings.steps();
     let _found = siblings.expect_glued_punct();
@@ -212,7 +212,7 @@ fn joint(alloc: Global, chars: &str) -> Result<Vec<TokenTree>, AllocError> {
     Ok(tokens)
 }
 
-// Whether the puncts in front of these tokens that stand as one are passed in so many steps.
+// Returns whether the puncts of the first operator are passed in that many steps.
 fn takes_steps(alloc: Global, below: &[TokenTree], steps: u64) -> Result<bool, TtFault> {
     let tree = under(alloc, below)?;
     Ok(steps_of_glued(&mut tree.iter()) == steps)

@@ -9,30 +9,30 @@ use Rattle.tt_base.specs.Forest.{Forest, end, leaf, node, size, header, flat}
 use Rattle.tt_base.specs.Siblings.{is_end}
 use Rattle.tt_interned.specs.Held.{HeldToken, whole, token_alone}
 
--- the last token becomes alone
+-- the list with its last token alone
 last_alone : List TokenTree → List TokenTree
 last_alone [] = []
 last_alone (t ∷ []) = token_alone t ∷ []
 last_alone (t ∷ u ∷ tokens) = t ∷ last_alone (u ∷ tokens)
 
--- the token that is the last
+-- the last token
 last_of : TokenTree → List TokenTree → TokenTree
 last_of t [] = t
 last_of t (u ∷ tokens) = last_of u tokens
 
--- It stands at the last place.
+-- It is at the last place.
 last_in : (t : TokenTree) (tokens : List TokenTree) → slice_get (map whole (t ∷ tokens)) (length tokens) ≡ Some (whole (last_of t tokens))
 unfolding last_of
 last_in t [] = refl
 last_in t (u ∷ tokens) = last_in u tokens
 
--- With it alone, the tokens end alone.
+-- If it becomes alone, the list is the one with its last token alone.
 last_changed : (t : TokenTree) (tokens : List TokenTree) → set (map whole (t ∷ tokens)) (length tokens) (whole (token_alone (last_of t tokens))) ≡ map whole (last_alone (t ∷ tokens))
 unfolding last_of last_alone
 last_changed t [] = refl
 last_changed t (u ∷ tokens) = ap (λ l. whole t ∷ l) (last_changed u tokens)
 
--- What stands at a place behind others.
+-- The token at a place after others.
 get_behind : (held more : List HeldToken) (i : ℕ) → slice_get (held ++ more) (length held + i) ≡ slice_get more i
 get_behind [] more i =
     let same : length {A = HeldToken} [] + i ≡ i = omega arith in
@@ -41,20 +41,20 @@ get_behind (h ∷ held) more i =
     let next : length (h ∷ held) + i ≡ suc (length held + i) = omega arith in
     ap (slice_get (h ∷ held ++ more)) next ∙ get_behind held more i
 
--- What is set there.
+-- The list with another token at such a place.
 set_behind : (held more : List HeldToken) (i : ℕ) (it : HeldToken) → set (held ++ more) (length held + i) it ≡ held ++ set more i it
 set_behind held more i it =
     let place : length held + i - length held ≡ i = omega arith in
     set-append_right held more (length held) (length held + i) it refl (omega arith) ∙ ap (λ n. held ++ set more n it) place
 
--- What stands before stays.
+-- The tokens before stay.
 last_behind : (before : List TokenTree) (t : TokenTree) (tokens : List TokenTree) → last_alone (before ++ t ∷ tokens) ≡ before ++ last_alone (t ∷ tokens)
 unfolding last_alone
 last_behind [] t tokens = refl
 last_behind (b ∷ []) t tokens = refl
 last_behind (b ∷ c ∷ before) t tokens = ap (λ l. b ∷ l) (last_behind (c ∷ before) t tokens)
 
--- Trees keep their number of tokens.
+-- The trees have as many tokens as before.
 pub size-alone : (trees : Forest) → size (alone trees) ≡ size trees
 size-alone end = refl
 size-alone (leaf it end) = refl
@@ -64,7 +64,7 @@ size-alone (node d children end) = ap (λ n. suc (n + 0)) (size-alone children)
 size-alone (node d children (leaf next rest)) = ap (λ n. suc (size children + n)) (size-alone (leaf next rest))
 size-alone (node d children (node e inner rest)) = ap (λ n. suc (size children + n)) (size-alone (node e inner rest))
 
--- A header stays, and what follows it ends alone.
+-- A header stays, and the tokens after it end alone.
 header_first : (d : Delimiter) (n : ℕ) (children : Forest) (more : List TokenTree) → more ≡ last_alone (flat children) → header d n ∷ (more ++ []) ≡ last_alone (header d n ∷ (flat children ++ []))
 unfolding last_alone
 header_first d n end more is = ap (λ l. header d n ∷ (l ++ [])) is
@@ -89,7 +89,7 @@ flat-alone (node d children (node e inner rest)) =
     ap (λ l. header d (size children) ∷ (flat children ++ l)) (flat-alone (node e inner rest))
     ∙ sym (last_behind (header d (size children) ∷ flat children) (header e (size inner)) (flat inner ++ flat rest))
 
--- What is held, when its last token becomes alone behind tokens that were added.
+-- The tokens held, after the last of the appended tokens becomes alone.
 list_alone : (held all now : List HeldToken) (t : TokenTree) (tokens : List TokenTree) → all ≡ held ++ map whole (t ∷ tokens)
     → ((it : TokenTree) → slice_get all (length all - 1) ≡ Some (whole it) → now ≡ set all (length all - 1) (whole (token_alone it))) → now ≡ held ++ map whole (last_alone (t ∷ tokens))
 list_alone held all now t tokens added changed =
@@ -100,7 +100,7 @@ list_alone held all now t tokens added changed =
     ∙ set_behind held (map whole (t ∷ tokens)) (length tokens) (whole (token_alone it))
     ∙ ap (λ l. held ++ l) (last_changed t tokens)
 
--- So with trees.
+-- The same for appended trees.
 pub added_alone : (held all now : List HeldToken) (trees : Forest) → is_end trees ≡ false → all ≡ held ++ map whole (flat trees)
     → ((it : TokenTree) → slice_get all (length all - 1) ≡ Some (whole it) → now ≡ set all (length all - 1) (whole (token_alone it))) → now ≡ held ++ map whole (flat (alone trees))
 added_alone held all now end some added changed = absurd (cc some)

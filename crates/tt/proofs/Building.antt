@@ -1,4 +1,4 @@
--- What is held where no subtree is open is the tree below the top.
+-- If no subtree is open, the tokens held are the trees below the top.
 use Rattle.std.proofs.Common.{◌≡◌, ℕ, ◌≤◌, nat_eq, List, [], ◌∷◌, ◌++◌, length, map, drop, true, false, Option, Some, None, refl, ap, ap₂, sym, ◌∙◌, arith, append-nil, length-append}
 use Rattle.std.proofs.lemmas.Bool.{eq-eqb, eqb-true}
 use Rattle.std.proofs.lemmas.List.{length-map}
@@ -22,7 +22,7 @@ use Rattle.tt.specs.BuilderFields.{written, places, is_one_node, IsStateOf}
 use Rattle.tt.specs.HeldList.{all_tokens, AreOpenIn}
 use Rattle.tt.specs.InternedKinds.{is_named_node}
 
--- What is written where no subtree is open.
+-- The list, if no subtree is open.
 all_written : (top : Delimiter) (stack : Stack) → (IsAbove stack → ⊥) → written top stack ≡ header top 0 ∷ flat (bottom stack)
 all_written top (lowest trees) none = refl
 all_written top (above outer kind open_span trees) none = absurd (none tt)
@@ -33,7 +33,7 @@ first_delimiter d [] = d
 first_delimiter d (token.Leaf it ∷ tokens) = d
 first_delimiter d (token.Subtree it ∷ tokens) = it.delimiter
 
--- The first header tells its delimiter.
+-- Lists with the same first header have the same delimiter.
 same_delimiter : (c d : Delimiter) (m n : ℕ) (xs ys : List TokenTree) → header c m ∷ xs ≡ header d n ∷ ys → c ≡ d
 unfolding first_delimiter
 same_delimiter c d m n xs ys e = ap (first_delimiter c) e
@@ -43,30 +43,30 @@ module _ (top : Delimiter) (held : List HeldToken) (headers : List ℕ) (mark : 
   lowest_list : all_tokens top held ≡ header s.top 0 ∷ flat (bottom s.stack)
   lowest_list = is.list ∙ all_written s.top s.stack none
 
-  -- The trees are not too many to be counted.
+  -- The trees are few enough for a header to count.
   pub few_below : size (bottom s.stack) ≤ 4294967295
   few_below = omega (arith, is.few, ap length lowest_list, length-flat (bottom s.stack))
 
-  -- What is held are the tokens of the trees at the lowest level.
+  -- The tokens held are those of the trees at the lowest level.
   pub held_list : map as_token held ≡ flat (bottom s.stack)
   held_list = ap (drop 1) lowest_list
 
-  -- So they are those of whole trees.
+  -- They are the tokens of whole trees.
   pub held_whole : (list : List TokenTree) → list ≡ map as_token held → IsWhole list
   held_whole list told = (bottom s.stack, told ∙ held_list)
 
-  -- Under the top's header, with its count, they are the flat list of the tree.
+  -- After the top's header, with its count, they are the flat list of the tree.
   pub built_list : (list : List TokenTree) → list ≡ map as_token held → header top (length list) ∷ list ≡ flat_root (built s)
   built_list list told =
       let top_is : top ≡ s.top = same_delimiter top s.top 0 0 (map as_token held) (flat (bottom s.stack)) lowest_list in
       ap (λ l. header top (length l) ∷ l) (told ∙ held_list) ∙ ap₂ (λ d n. header d n ∷ flat (bottom s.stack)) top_is (length-flat (bottom s.stack))
 
--- Where no subtree is open, there is no place of one.
+-- If no subtree is open, there are no places of open headers.
 no_places : (stack : Stack) → (IsAbove stack → ⊥) → places stack ≡ []
 no_places (lowest trees) none = refl
 no_places (above outer kind open_span trees) none = absurd (none tt)
 
--- A list whose first token is no header of all others is that of no node alone.
+-- A list whose first token is no header of all others is not that of one node.
 pub no_node : (trees : Forest) → is_one_node (flat trees) ≡ false → one_root trees ≡ None
 no_node end e = refl
 no_node (leaf it rest) e = refl
@@ -83,7 +83,7 @@ pub record IsNode (trees : Forest) : Type 0 where
   pub list : flat trees ≡ flat_root root
   pub smaller : size root.children ≤ size trees
 
--- And one whose first token is, is.
+-- A list whose first token is a header of all others is that of one node.
 pub one_node : (trees : Forest) → is_one_node (flat trees) ≡ true → IsNode trees
 one_node end e = absurd (cc e)
 one_node (leaf it rest) e = absurd (cc e)
@@ -99,7 +99,7 @@ one_node (node d children (leaf it rest)) e =
 one_node (node d children (node other inner rest)) e =
     absurd (omega (arith, eqb-true (size children) (length (flat children ++ flat (node other inner rest))) e, length-append (flat children) (flat (node other inner rest)), length-flat children))
 
--- Such trees are one node.
+-- The list of such trees is that of one node.
 pub node_list : (trees : Forest) (list : List TokenTree) → list ≡ flat trees → IsNode trees → IsOneNode list
 node_list trees list told one =
     record {
@@ -109,7 +109,7 @@ node_list trees list told one =
       counted = sym (length-flat one.root.children);
     }
 
--- Where no header is open, tokens that name values tell whether they are one node.
+-- If no header is open, interned tokens show whether they are those of one node.
 node_named : (tables : Tables) (tokens : List InternedToken) (held : List HeldToken) → AllName tables tokens held → open_places 1 held ≡ [] → is_named_node tokens ≡ is_one_node (map as_token held)
 node_named tables [] [] named none = refl
 node_named tables [] (h ∷ held) named none = absurd named
@@ -129,6 +129,6 @@ module _ (top : Delimiter) (held : List HeldToken) (headers : List ℕ) (mark : 
   none_open : open_places 1 held ≡ []
   none_open = opens ∙ is.open_places ∙ no_places s.stack none
 
-  -- They tell whether the trees are one node.
+  -- They show whether the trees are one node.
   pub one_named : (tokens : List InternedToken) → AreNamed tokens held → is_named_node tokens ≡ is_one_node (flat (bottom s.stack))
   one_named tokens are = node_named are.0 tokens held are.1 none_open ∙ ap is_one_node (held_list top held headers mark points taken s is none)

@@ -22,11 +22,11 @@ pub length-places : (stack : Stack) → length (places stack) ≡ depth stack
 length-places (lowest trees) = refl
 length-places (above outer kind open_span trees) = omega (arith, length-append (places outer) (suc (tokens_held outer) ∷ []), length-places outer)
 
--- As many levels were noted as are kept.
+-- A point has as many levels as the depth that is kept for it.
 pub noted_depth : (top : Delimiter) (tokens : List TokenTree) (headers : List ℕ) (k : Standing) (p : Point) → IsNoted top tokens headers k p → k.depth ≡ depth p.stack
 noted_depth top tokens headers k p is = sym (length-take-le k.depth headers is.counts) ∙ ap length is.opened ∙ length-places p.stack
 
--- A node behind trees has their count as its number, and their tokens before it.
+-- A node after trees has their count as its number, and their tokens before it.
 node_behind : (trees : Forest) (d : Delimiter) (children : Forest)
     → (tokens_before (tree_count trees) (join trees (node d children end)) ≡ size trees) × IsNodeAt (tree_count trees) (join trees (node d children end))
 node_behind end d children = (refl, tt)
@@ -43,7 +43,7 @@ close_mark (above outer kind open_span trees) d children place here =
     let behind = node_behind trees d children in
     (omega (arith, here, behind.0), behind.1)
 
--- the last of all
+-- what holds for all places holds for the last one
 last_of_all : (P : ℕ → Type 0) (xs : List ℕ) (x : ℕ) → AllByRecursion P (xs ++ x ∷ []) → AllByRecursion P xs × P x
 last_of_all P [] x all = (tt, all.0)
 last_of_all P (y ∷ xs) x all = let rest = last_of_all P xs x all.1 in ((all.0, rest.0), rest.1)
@@ -55,7 +55,7 @@ opened_later top tokens left place k p is within =
     last_of_all (λ h. k.tokens ≤ h) (drop k.depth left) place
     (subst (AllByRecursion (λ h. k.tokens ≤ h)) (drop-append-le k.depth left (place ∷ []) within) is.behind)
 
--- Such a point stands as before.
+-- Such a point stays valid.
 close_point : (top : Delimiter) (tokens : List TokenTree) (left : List ℕ) (place : ℕ) (x : TokenTree) (k : Standing) (p : Point)
     → IsNoted top tokens (left ++ place ∷ []) k p → k.depth ≤ length left → IsNoted top (set tokens place x) left k p
 close_point top tokens left place x k p is within =
@@ -69,7 +69,7 @@ close_point top tokens left place x k p is within =
       behind = later.0;
     }
 
--- the points that are kept, and those that stand
+-- the kept lengths and the valid points
 close_points : (top : Delimiter) (tokens : List TokenTree) (left : List ℕ) (place : ℕ) (x : TokenTree) (outer : Stack) (kept : List Standing) (points : List Point)
     → length left ≡ depth outer → AreNoted top tokens (left ++ place ∷ []) kept points
     → AreNoted top (set tokens place x) left (filter (λ k. nat_le k.depth (length left)) kept) (points_within outer points)
@@ -93,7 +93,7 @@ close_points top tokens left place x outer (k ∷ kept) (p ∷ points) same are 
         rw (same_test ∙ e) (close_point top tokens left place x k p are.0 (leb-true k.depth (length left) e), more)
     by_test false e same_test more = rw (same_test ∙ e) more
 
--- those that are kept do not reach past the closed header
+-- the points that are left have no more tokens than come before the closed header
 close_clear : (top : Delimiter) (tokens : List TokenTree) (left : List ℕ) (place : ℕ) (kept : List Standing) (points : List Point)
     → AreNoted top tokens (left ++ place ∷ []) kept points → AllByRecursion (λ k. k.tokens ≤ place) (filter (λ k. nat_le k.depth (length left)) kept)
 close_clear top tokens left place [] [] are = tt
@@ -151,7 +151,7 @@ closed_state tokens now headers left mark points fewer taken s close_span place 
           count = is.count;
         }
 
--- The place of the innermost open header is one of the list.
+-- The place of the innermost open header is in the list.
 pub place_within : (tokens : List TokenTree) (headers left : List ℕ) (mark : Option ℕ) (points : List Standing) (taken : ℕ) (s : BuilderState) (place : ℕ)
     → IsStateOf tokens headers mark points taken s → headers ≡ left ++ place ∷ [] → place < length tokens
 place_within tokens headers left mark points taken s place is popped =

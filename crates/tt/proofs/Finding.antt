@@ -1,4 +1,4 @@
--- A point is looked for by its number; numbers rise.
+-- The search for a point by its number. The numbers rise.
 use Rattle.std.proofs.Common.{◌≡◌, ℕ, zero, suc, ◌<◌, ◌≤◌, List, [], ◌∷◌, length, get_or, Bool, true, false, cond, nat_eq, Some, None, ltb, ltb-true, ltb-false, refl, ap, sym, ◌∙◌, arith}
 use Rattle.std.proofs.lemmas.Bool.{eqb-true}
 use Rattle.std.specs.List.{AllByRecursion}
@@ -8,7 +8,7 @@ use Rattle.tt.specs.BuilderFields.{kept_under, IsEarlier, AreInOrder}
 use Rattle.tt.proofs.Filters.{at_place}
 use Rattle.tt.proofs.Growing.{all_weaker}
 
--- All numbers are higher.
+-- All numbers are larger, so there is no such point.
 none_over : (number : ℕ) (xs : List Standing) → AllByRecursion (λ y. number < y.number) xs → kept_under number xs ≡ None
 none_over number [] all = refl
 none_over number (x ∷ xs) all =
@@ -26,7 +26,7 @@ numbers_rise (x ∷ xs) order zero (suc j) d le within = omega (arith, (at_place
 numbers_rise (x ∷ xs) order (suc i) zero d le within = absurd (omega (arith, le))
 numbers_rise (x ∷ xs) order (suc i) (suc j) d le within = numbers_rise xs order.1 i j d (omega (arith, le)) (omega (arith, within))
 
--- The first whose number is not lower is the point, or there is none.
+-- The first point whose number is not smaller is the one, or there is none.
 found_first : (number : ℕ) (xs : List Standing) (i : ℕ) (d : Standing) → AreInOrder xs → ((k : ℕ) → k < i → (get_or xs k d).number < number) → i < length xs
     → number ≤ (get_or xs i d).number → kept_under number xs ≡ cond (nat_eq (get_or xs i d).number number) (Some (get_or xs i d)) None
 found_first number [] i d order lower within first = absurd (omega (arith, within))
@@ -41,7 +41,7 @@ found_first number (x ∷ xs) (suc i) d order lower within first =
     other true e = absurd (omega (arith, eqb-true x.number number e, lower 0 (omega arith)))
     other false e = e
 
--- All are lower, and there is none.
+-- All numbers are smaller, and there is none.
 none_first : (number : ℕ) (xs : List Standing) (d : Standing) → ((k : ℕ) → k < length xs → (get_or xs k d).number < number) → kept_under number xs ≡ None
 none_first number [] d lower = refl
 none_first number (x ∷ xs) d lower =
@@ -51,12 +51,12 @@ none_first number (x ∷ xs) d lower =
     other true e = absurd (omega (arith, eqb-true x.number number e, lower 0 (omega arith)))
     other false e = e
 
--- All before a place are lower, and none from there on is.
+-- all numbers before a place are smaller, and none from there on is
 pub record IsFirstNotLower (number : ℕ) (xs : List Standing) (place : ℕ) : Type 0 where
   pub before : (k : ℕ) (d : Standing) → k < place → (get_or xs k d).number < number
   pub behind : (k : ℕ) (d : Standing) → place ≤ k → k < length xs → number ≤ (get_or xs k d).number
 
--- So it is where a search by halves ends.
+-- A binary search ends at such a place.
 pub at_partition_point : (number : ℕ) (xs : List Standing) (place : ℕ) → IsPartitionPoint (λ y. ltb y.number number ≡ true) (λ y. ltb y.number number ≡ false) xs place
     → IsFirstNotLower number xs place
 at_partition_point number xs place point = record {
@@ -64,13 +64,13 @@ at_partition_point number xs place point = record {
   behind = λ k d from within. ltb-false _ _ (point.1 k d from within);
 }
 
--- The one at that place is the point, if its number is the one.
+-- The point at that place is the one, if it has the number.
 pub kept_there : (number : ℕ) (xs : List Standing) (place : ℕ) (x : Standing) → AreInOrder xs → IsFirstNotLower number xs place → place < length xs → x ≡ get_or xs place x
     → kept_under number xs ≡ cond (nat_eq x.number number) (Some x) None
 kept_there number xs place x order first within is =
     found_first number xs place x order (λ k below. first.before k x below) within (first.behind place x (omega arith) within)
     ∙ ap (λ y. cond (nat_eq y.number number) (Some y) None) (sym is)
 
--- Where all stand before that place there is no such point.
+-- If all points are before that place, there is no such point.
 pub none_there : (number : ℕ) (xs : List Standing) (place : ℕ) → IsFirstNotLower number xs place → length xs ≤ place → kept_under number xs ≡ None
 none_there number xs place first past = none_first number xs (record { number = 0; tokens = 0; depth = 0 }) (λ k within. first.before k _ (omega (arith, past, within)))

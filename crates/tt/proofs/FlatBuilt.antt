@@ -1,4 +1,4 @@
--- What is written where no subtree is open is the tree, but for the top's count.
+-- If no subtree is open, the list is that of the tree, except for the top's count.
 use Rattle.std.proofs.Common.{◌≡◌, ℕ, ◌-◌, ◌<◌, ◌≤◌, List, [], ◌∷◌, length, set, get_or, refl, ap, ◌∙◌, arith}
 use Rattle.tt_base.specs.Building.{Stack, above, bottom, lowest, IsAbove}
 use Rattle.tt_base.specs.Forest.{flat, flat_root, header, size}
@@ -9,30 +9,30 @@ use Rattle.tt.specs.FlatFields.{AreFieldsOf, counted, counted_token, written}
 use Rattle.tt.specs.FlatHeld.{Held, IsOpen, built}
 use Rattle.tt.specs.OneFlatHeld.{length-written}
 
--- there is the top at least
+-- the list has at least the top
 pub some_token : (tokens : List TokenTree) (headers : List ℕ) (held : Held) → AreFieldsOf tokens headers held → 0 < length tokens
 some_token tokens headers held is = omega (arith, ap length is.list, length-written held.top held.stack)
 
--- the first header gets its count at the first place
+-- the first header gets its count
 pub counted_first : (tokens : List TokenTree) (n : ℕ) (d : TokenTree) → 0 < length tokens → set tokens 0 (counted_token n (get_or tokens 0 d)) ≡ counted n tokens
 counted_first [] n d some = absurd (omega (arith, some))
 counted_first (t ∷ tokens) n d some = refl
 
--- what is written where no subtree is open
+-- the list, if no subtree is open
 all_written : (top : Delimiter) (stack : Stack) → (IsAbove stack → ⊥) → written top stack ≡ header top 0 ∷ flat (bottom stack)
 all_written top (lowest trees) none = refl
 all_written top (above outer kind open_span trees) none = absurd (none tt)
 
 module _ (tokens : List TokenTree) (headers : List ℕ) (held : Held) (is : AreFieldsOf tokens headers held) (none : IsOpen held → ⊥) where
-  -- that is the list
+  -- the list of the fields
   lowest_list : tokens ≡ header held.top 0 ∷ flat (bottom held.stack)
   lowest_list = is.list ∙ all_written held.top held.stack none
 
-  -- the trees are not too many to be counted
+  -- the trees are few enough for a header to count
   pub few_below : size (bottom held.stack) ≤ 4294967295
   few_below = omega (arith, is.few, ap length lowest_list, length-flat (bottom held.stack))
 
-  -- with its count it is the flat list of the tree
+  -- with its count, it is the flat list of the tree
   pub built_list : counted (length tokens - 1) tokens ≡ flat_root (built held)
   built_list =
       let sized : length tokens - 1 ≡ size (bottom held.stack) = omega (arith, ap length lowest_list, length-flat (bottom held.stack)) in

@@ -12,7 +12,7 @@ use Rattle.tt.specs.FlatFields.{AreFieldsOf, closed_token, open_header, places, 
 use Rattle.tt.specs.FlatHeld.{Held, IsOpen, closed}
 use Rattle.tt.specs.OneFlatHeld.{last_alike, length-written}
 
--- no place is one of no header
+-- a list with a place at its end is not empty
 none_last : (left : List ℕ) (place : ℕ) → left ++ place ∷ [] ≡ [] → ⊥
 none_last left place e = omega (arith, ap length e, length-append left (place ∷ []))
 
@@ -42,7 +42,7 @@ closed_fields tokens now headers left held close_span place n d is popped counte
           open_places = same_left ∙ sym (places-append outer (node (delimiter kind open_span close_span) trees end));
         }
 
--- the place of the innermost open header is one of the list
+-- the place of the innermost open header is in the list
 pub place_within : (tokens : List TokenTree) (headers left : List ℕ) (held : Held) (place : ℕ) → AreFieldsOf tokens headers held → headers ≡ left ++ place ∷ [] → place < length tokens
 place_within tokens headers left held place is popped = by_stack held.stack (sym popped ∙ is.open_places) (ap length is.list ∙ length-written held.top held.stack)
   where
@@ -51,7 +51,7 @@ place_within tokens headers left held place is popped = by_stack held.stack (sym
     by_stack (above outer kind open_span trees) some counted =
         let (same_left, same_place) = last_alike left (places outer) place (suc (tokens_held outer)) some in omega (arith, same_place, counted)
 
--- where a subtree is open there is a header
+-- if a subtree is open, there is a header
 pub some_header : (tokens : List TokenTree) (headers : List ℕ) (held : Held) → AreFieldsOf tokens headers held → IsOpen held → headers ≡ [] → ⊥
 some_header tokens headers held is open_one none = by_stack held.stack open_one (sym none ∙ is.open_places)
   where

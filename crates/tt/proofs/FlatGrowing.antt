@@ -1,4 +1,4 @@
--- What is held when a list grows at its end.
+-- What a flat builder holds after its list grows at the end.
 use Rattle.std.proofs.Common.{◌≡◌, ℕ, suc, ◌+◌, ◌<◌, ◌≤◌, List, [], ◌∷◌, ◌++◌, length, refl, ap, ap₂, sym, ◌∙◌, subst, arith, append_assoc}
 use Rattle.tt_base.specs.Building.{Stack, above, append, lowest, tokens_held}
 use Rattle.tt_base.specs.Forest.{Forest, end, flat, header, leaf}
@@ -12,7 +12,7 @@ use Rattle.tt.specs.FlatFields.{AreFieldsOf, open_header, places, written}
 use Rattle.tt.specs.FlatHeld.{Held, none_held, opened, pushed}
 use Rattle.tt.specs.OneFlatHeld.{length-written}
 
--- what is written of levels to which trees are added
+-- the list of levels after trees are appended
 pub written-append : (top : Delimiter) (stack : Stack) (more : Forest) → written top (append more stack) ≡ written top stack ++ flat more
 written-append top (lowest trees) more = ap (λ l. header top 0 ∷ l) (flat-join trees more)
 written-append top (above outer kind open_span trees) more =
@@ -44,12 +44,12 @@ opened_fields tokens now headers places_now held kind open_span place is grown f
       open_places = added ∙ ap₂ (λ l n. l ++ n ∷ []) is.open_places (here ∙ count);
     }
 
--- the same fields, in vectors that have other room
+-- the same fields, in vectors with other room
 pub same_fields : (tokens now : List TokenTree) (headers places_now : List ℕ) (held : Held) → AreFieldsOf tokens headers held → now ≡ tokens → places_now ≡ headers → AreFieldsOf now places_now held
 same_fields tokens now headers places_now held is list places_same =
     subst (λ h. AreFieldsOf now h held) (sym places_same) (subst (λ l. AreFieldsOf l headers held) (sym list) is)
 
--- nothing is held but the top
+-- only the top is held
 pub new_fields : (top : Delimiter) (tokens : List TokenTree) (headers : List ℕ) → tokens ≡ header top 0 ∷ [] → headers ≡ [] → AreFieldsOf tokens headers (none_held top)
 new_fields top tokens headers list none = record { list = list; few = omega (arith, ap length list); open_places = none }
 

@@ -1,4 +1,4 @@
--- What is held when a list grows at its end: the points that stand, and the mark.
+-- The restore points and the mark after the list grows at its end.
 use Rattle.std.proofs.Common.{◌≡◌, ℕ, zero, suc, ◌+◌, ◌<◌, ◌≤◌, List, [], ◌∷◌, ◌++◌, length, take, drop, Option, Some, None, refl, ap, ap₂, sym, ◌∙◌, subst, arith, length-append, append_assoc}
 use Rattle.std.proofs.lemmas.List.{take-append-le, drop-append-le, take_all}
 use Rattle.std.specs.List.{AllByRecursion}
@@ -13,7 +13,7 @@ use Rattle.tt_base.specs.Building.{Stack, lowest, above, append, tokens_held, Po
 use Rattle.tt.specs.BuilderFields.{written, places, open_header, tokens_before, IsNodeAt, IsMark, AreNoted, IsStateOf}
 use Rattle.tt.specs.OneState.{length-written}
 
--- One item more, of which it holds too.
+-- One more item for which it holds too.
 pub all_and_one : {A : Type 0} (P : A → Type 0) (xs : List A) (x : A) → AllByRecursion P xs → P x → AllByRecursion P (xs ++ x ∷ [])
 all_and_one P [] x all one = (one, tt)
 all_and_one P (y ∷ xs) x all one = (all.0, all_and_one P xs x all.1 one)
@@ -23,7 +23,7 @@ pub all_weaker : {A : Type 0} (P Q : A → Type 0) (xs : List A) → ((x : A) �
 all_weaker P Q [] weaker all = tt
 all_weaker P Q (x ∷ xs) weaker all = (weaker x all.0, all_weaker P Q xs weaker all.1)
 
--- The points stand in a longer list as before.
+-- The points stay valid in a longer list.
 pub more_tokens : (top : Delimiter) (tokens more : List TokenTree) (headers : List ℕ) (kept : List Standing) (points : List Point)
     → AreNoted top tokens headers kept points → AreNoted top (tokens ++ more) headers kept points
 more_tokens top tokens more headers [] [] are = tt
@@ -41,7 +41,7 @@ more_tokens top tokens more headers (k ∷ kept) (p ∷ points) are = (
   more_tokens top tokens more headers kept points are.1,
 )
 
--- A header more, behind all tokens.
+-- One more header, after all tokens.
 pub more_headers : (top : Delimiter) (tokens : List TokenTree) (headers : List ℕ) (kept : List Standing) (points : List Point)
     → AreNoted top tokens headers kept points → AreNoted top tokens (headers ++ length tokens ∷ []) kept points
 more_headers top tokens headers [] [] are = tt
@@ -61,7 +61,7 @@ more_headers top tokens headers (k ∷ kept) (p ∷ points) are = (
   more_headers top tokens headers kept points are.1,
 )
 
--- What is written of levels to which trees are added.
+-- The list of levels after trees are appended.
 pub written-append : (top : Delimiter) (stack : Stack) (more : Forest) → written top (append more stack) ≡ written top stack ++ flat more
 written-append top (lowest trees) more = ap (λ l. header top 0 ∷ l) (flat-join trees more)
 written-append top (above outer kind open_span trees) more =
@@ -83,7 +83,7 @@ node_stays (suc k) (node d children rest) more is =
     let stays = node_stays k rest more is in
     (ap (λ n. suc (size children + n)) stays.0, stays.1)
 
--- So the mark stays.
+-- The mark stays.
 pub mark_stays : (stack : Stack) (more : Forest) (place k : Option ℕ) → IsMark stack place k → IsMark (append more stack) place k
 mark_stays stack more None None is = tt
 mark_stays stack more None (Some k) is = absurd is
@@ -137,13 +137,13 @@ opened_state tokens now headers places_now mark points taken s kind open_span pl
       count = is.count;
     }
 
--- The same fields, in vectors that have other room.
+-- The same fields, in vectors with other room.
 pub same_state : (tokens now : List TokenTree) (headers places_now : List ℕ) (mark : Option ℕ) (points : List Standing) (taken : ℕ) (s : BuilderState)
     → IsStateOf tokens headers mark points taken s → now ≡ tokens → places_now ≡ headers → IsStateOf now places_now mark points taken s
 same_state tokens now headers places_now mark points taken s is list opened =
     subst (λ h. IsStateOf now h mark points taken s) (sym opened) (subst (λ l. IsStateOf l headers mark points taken s) (sym list) is)
 
--- Nothing is held but the top.
+-- Only the top is held.
 pub new_state : (top : Delimiter) (tokens : List TokenTree) (headers : List ℕ) (points : List Standing)
     → tokens ≡ header top 0 ∷ [] → headers ≡ [] → points ≡ [] → IsStateOf tokens headers None points 0 (empty_builder top)
 new_state top tokens headers points list none no_points =
@@ -160,7 +160,7 @@ new_state top tokens headers points list none no_points =
       count = refl;
     })
 
--- A full list holds as many tokens as can be counted.
+-- A full list holds as many tokens as a header can count.
 pub full : (tokens : List TokenTree) (headers : List ℕ) (mark : Option ℕ) (points : List Standing) (taken : ℕ) (s : BuilderState)
     → IsStateOf tokens headers mark points taken s → 4294967295 < length tokens → 4294967295 < tokens_held s.stack + 1
 full tokens headers mark points taken s is many = omega (arith, ap length is.list, length-written s.top s.stack, many)
@@ -171,12 +171,12 @@ pub same_fields : (tokens now : List TokenTree) (headers places_now : List ℕ) 
 same_fields tokens now headers places_now mark points points_now taken s is list opened kept =
     subst (λ p. IsStateOf now places_now mark p taken s) (sym kept) (same_state tokens now headers places_now mark points taken s is list opened)
 
--- A list that was cut back to its old length is the old one.
+-- A list that is cut to its old length is the old list.
 pub cut_back : {A : Type 0} (old now cut more : List A) (n : ℕ) → now ≡ old ++ more → n ≡ length old → cut ≡ take n now → cut ≡ old
 cut_back old now cut more n grown count is =
     is ∙ ap (take n) grown ∙ take-append-le n old more (omega (arith, count)) ∙ take_all n old (omega (arith, count))
 
--- What the list has room for, the builder has.
+-- If the list has room, the builder has.
 pub room : (tokens : List TokenTree) (headers : List ℕ) (mark : Option ℕ) (points : List Standing) (taken : ℕ) (s : BuilderState) (more : ℕ)
     → IsStateOf tokens headers mark points taken s → length tokens + more ≤ 4294967296 → HasRoom more s
 room tokens headers mark points taken s more is few = omega (arith, ap length is.list, length-written s.top s.stack, few)

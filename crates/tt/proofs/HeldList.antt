@@ -1,4 +1,4 @@
--- The tokens that a builder holds are told by the flat list and the places of the open headers.
+-- The flat list and the places of the open headers determine the tokens that a builder holds.
 use Rattle.std.proofs.Common.{◌≡◌, ℕ, suc, ◌+◌, ◌≤◌, Option, List, [], ◌∷◌, ◌++◌, map, length, drop, refl, ap, ap₂, sym, ◌∙◌, arith, length-append}
 use Rattle.std.proofs.lemmas.List.{map-append, length-map}
 use Rattle.std.specs.List.{AllByRecursion}
@@ -22,17 +22,17 @@ use Rattle.tt_base.specs.Unflat.{length-flat}
 
 -- ---- the list of the levels
 
--- what the levels hold, as one list
+-- the tokens of all levels, as one list
 abbrev pub held_list : Stack → List HeldToken
 held_list (lowest trees) = map whole (flat trees)
 held_list (above outer kind open_span trees) = held_list outer ++ opened kind open_span ∷ map whole (flat trees)
 
--- Whole tokens are themselves.
+-- A list of whole tokens is the list itself.
 pub whole_tokens : (tokens : List TokenTree) → map as_token (map whole tokens) ≡ tokens
 whole_tokens [] = refl
 whole_tokens (it ∷ tokens) = ap (λ l. it ∷ l) (whole_tokens tokens)
 
--- It is what is written below the top.
+-- It is the list below the top.
 written_held : (top : Delimiter) (stack : Stack) → all_tokens top (held_list stack) ≡ written top stack
 written_held top (lowest trees) = ap (λ l. header top 0 ∷ l) (whole_tokens (flat trees))
 written_held top (above outer kind open_span trees) =
@@ -51,7 +51,7 @@ length-held (above outer kind open_span trees) =
       length-flat trees,
     )
 
--- An open header behind a list, and whole tokens behind it.
+-- An open header after a list, and whole tokens after it.
 open_behind : (first : ℕ) (held : List HeldToken) (kind : DelimiterKind) (open_span : Span) (tokens : List TokenTree)
     → open_places first (held ++ opened kind open_span ∷ map whole tokens) ≡ open_places first held ++ (first + length held) ∷ []
 open_behind first [] kind open_span tokens = ap₂ ◌∷◌ (omega arith) (open_places-wholes (suc first) [] tokens)
@@ -66,14 +66,14 @@ open_held (above outer kind open_span trees) =
     open_behind 1 (held_list outer) kind open_span (flat trees)
     ∙ ap₂ (λ l n. l ++ n ∷ []) (open_held outer) (omega (arith, length-held outer))
 
--- ---- one list is told
+-- ---- only one list
 
 -- the delimiter of a header, or d
 delimiter_of : Delimiter → TokenTree → Delimiter
 delimiter_of d (token.Leaf it) = d
 delimiter_of d (token.Subtree s) = s.delimiter
 
--- Open headers tell their kinds and open spans.
+-- Equal open headers have the same kind and the same open span.
 opened_alike : (k l : DelimiterKind) (s t : Span) → as_token (opened k s) ≡ as_token (opened l t) → opened k s ≡ opened l t
 unfolding delimiter_of
 opened_alike k l s t e =
@@ -81,7 +81,7 @@ opened_alike k l s t e =
     let spans : s ≡ t = ap (λ x. (delimiter_of (record { open_span = s; close = s; kind = k }) x).open_span) e in
     λ i. opened (kinds i) (spans i)
 
--- A place that is not open is not the first of those that are.
+-- The first open header from the next place on is not at this place.
 not_first : (first : ℕ) (held : List HeldToken) (places : List ℕ) → open_places (suc first) held ≡ first ∷ places → ⊥
 not_first first held places e = never (open_places (suc first) held) (all_from (suc first) held) e
   where
@@ -91,7 +91,7 @@ not_first first held places e = never (open_places (suc first) held) (all_from (
         let is : p ≡ first = cc e in
         omega (arith, is, all.0)
 
--- Lists with the same tokens and the same open headers are one.
+-- Lists with the same tokens and the same open headers are equal.
 pub held_alike : (first : ℕ) (a b : List HeldToken) → map as_token a ≡ map as_token b → open_places first a ≡ open_places first b → a ≡ b
 held_alike first [] [] e p = refl
 held_alike first [] (y ∷ b) e p = absurd (cc e)
@@ -105,16 +105,16 @@ held_alike first (opened k s ∷ a) (opened l t ∷ b) e p =
     let first_same : as_token (opened k s) ≡ as_token (opened l t) = cc e in
     ap₂ ◌∷◌ (opened_alike k l s t first_same) (held_alike (suc first) a b (cc e) (cc p))
 
--- ---- what is used
+-- ---- uses
 
--- The parts of the levels are those of their list.
+-- The parts of the list are those of the levels.
 list_parts : (stack : Stack) → parts_in (held_list stack) ≡ held_parts stack
 list_parts (lowest trees) = parts_in-whole (flat trees)
 list_parts (above outer kind open_span trees) =
     uses_joined counted_parts (held_list outer) (opened kind open_span ∷ map whole (flat trees))
     ∙ ap₂ (λ a b. a ++ part_of open_span ∷ b) (list_parts outer) (parts_in-whole (flat trees))
 
--- So are their symbols.
+-- The symbols of the list are those of the levels.
 list_symbols : (stack : Stack) → symbols_in (held_list stack) ≡ held_symbols stack
 list_symbols (lowest trees) = symbols_in-whole (flat trees)
 list_symbols (above outer kind open_span trees) =
@@ -123,16 +123,16 @@ list_symbols (above outer kind open_span trees) =
 
 module _ (top : Delimiter) (held : List HeldToken) (headers : List ℕ) (mark : Option ℕ) (points : List Standing) (taken : ℕ) (s : BuilderState)
     (is : IsStateOf (all_tokens top held) headers mark points taken s) (opens : AreOpenIn held headers) where
-  -- What is held is the list of the levels.
+  -- The tokens held are the list of the levels.
   pub held_is_list : held ≡ held_list s.stack
   held_is_list =
       let all : all_tokens top held ≡ all_tokens s.top (held_list s.stack) = is.list ∙ sym (written_held s.top s.stack) in
       held_alike 1 held (held_list s.stack) (ap (drop 1) all) (opens ∙ is.open_places ∙ sym (open_held s.stack))
 
-  -- The parts counted are those held.
+  -- The parts that count are those of the levels.
   pub parts_are_held : parts_in held ≡ held_parts s.stack
   parts_are_held = ap parts_in held_is_list ∙ list_parts s.stack
 
-  -- The symbols counted are those held.
+  -- The symbols that count are those of the levels.
   pub symbols_are_held : symbols_in held ≡ held_symbols s.stack
   symbols_are_held = ap symbols_in held_is_list ∙ list_symbols s.stack

@@ -1,4 +1,4 @@
--- Kinds and counts of tokens that name values are those of the tokens held.
+-- The kinds and counts of interned tokens are those of the tokens held.
 use Rattle.std.proofs.Common.{◌≡◌, ℕ, zero, suc, ◌+◌, ◌-◌, ◌<◌, ◌≤◌, true, false, List, [], ◌∷◌, Some, None, length, map, get_or, slice_get, refl, ap, ap₂, sym, subst, ◌∙◌, arith}
 use Rattle.std.proofs.lemmas.Option.{slice_get-get_or}
 use Rattle.std.specs.List.{AllByRecursion, remove}
@@ -30,13 +30,13 @@ named_kind_there [] place d within = absurd (omega (arith, within))
 named_kind_there (it ∷ tokens) zero d within = refl
 named_kind_there (it ∷ tokens) (suc place) d within = named_kind_there tokens place d (omega (arith, within))
 
--- Behind the list there is none.
+-- A place after the list has no kind.
 pub no_named_kind : (tokens : List InternedToken) (place : ℕ) → length tokens ≤ place → named_kind_at tokens place ≡ Invisible
 no_named_kind [] place past = refl
 no_named_kind (it ∷ tokens) zero past = absurd (omega (arith, past))
 no_named_kind (it ∷ tokens) (suc place) past = no_named_kind tokens place (omega (arith, past))
 
--- As many tokens are named as are held.
+-- There are as many interned tokens as tokens held.
 pub tokens_long : (tokens : List InternedToken) (held : List HeldToken) → AreNamed tokens held → length tokens ≡ length held
 tokens_long tokens held are = length-named are.0 tokens held are.1
 
@@ -58,7 +58,7 @@ kind_named tables (t ∷ tokens) [] place named = absurd named
 kind_named tables (t ∷ tokens) (h ∷ held) zero named = one_kind tables t h named.0
 kind_named tables (t ∷ tokens) (h ∷ held) (suc place) named = kind_named tables tokens held place named.1
 
--- Kinds at places behind the top.
+-- The kinds at places after the top.
 kinds_map : (top : Delimiter) (tables : Tables) (tokens : List InternedToken) (held : List HeldToken) (places : List ℕ) → AllName tables tokens held → AllByRecursion (λ place. 1 ≤ place) places
     → map (λ place. named_kind_at tokens (place - 1)) places ≡ map (kind_at (all_tokens top held)) places
 kinds_map top tables tokens held [] named all = refl
@@ -73,7 +73,7 @@ kinds_named top tokens held headers are opens = ap reverse (kinds_map top are.0 
 
 -- ---- the mark
 
--- A token that means a whole one is invisible as that is.
+-- An interned token is invisible exactly if the whole token that it means is.
 one_invisible : (tables : Tables) (t : InternedToken) (it : TokenTree) → Names tables t (whole it) → is_named_invisible t ≡ invisible_token it
 one_invisible tables (interned.Leaf entry) (token.Leaf it) named = refl
 one_invisible tables (interned.Leaf entry) (token.Subtree it) named = absurd named
@@ -81,7 +81,7 @@ one_invisible tables (interned.Open kind numbers) it named = absurd named
 one_invisible tables (interned.Header entry) (token.Leaf it) named = absurd named
 one_invisible tables (interned.Header entry) (token.Subtree it) named = ap is_invisible named.0.kind
 
--- the marked token: it is whole, and the one that is named is invisible as it is
+-- the marked token is whole, and the interned one is invisible exactly if it is
 pub record MarkedToken (held : List HeldToken) (place : ℕ) (t : InternedToken) : Type 0 where
   pub i : ℕ
   pub here : place ≡ 1 + i
@@ -116,7 +116,7 @@ marked_token_at top tokens held headers place d opens there are = by_place place
 
 module _ (top : Delimiter) (held : List HeldToken) (headers : List ℕ) (points : List Standing) (taken : ℕ) (s : BuilderState) (place : ℕ) (t : InternedToken)
     (is : Keeps top held headers (Some place) points taken s) (m : MarkedToken held place t) where
-  -- The marked header is invisible, and is taken out.
+  -- The marked header is invisible, and is removed.
   pub removed_marked : (now : List HeldToken) → is_named_invisible t ≡ true → ((it : Subtree) → slice_get held (place - 1) ≡ Some (whole (token.Subtree it)) → now ≡ remove held (place - 1))
       → Keeps top now headers None points taken (removed s)
   removed_marked now invisible out = by_token m.it m.at (sym m.same ∙ invisible)
@@ -126,6 +126,6 @@ module _ (top : Delimiter) (held : List HeldToken) (headers : List ℕ) (points 
       by_token (token.Subtree it) at seen =
           removed_keeps top held now headers points taken s place m.i (token.Subtree it) is m.here at (out it (ap (slice_get held) m.below ∙ at) ∙ ap (remove held) m.below) seen
 
-  -- It is not, and only the mark goes.
+  -- The marked header is not invisible, and only the mark is cleared.
   pub gone_marked : is_named_invisible t ≡ false → Keeps top held headers None points taken (removed s)
   gone_marked visible = mark_gone_keeps top held headers points taken s place m.i m.it is m.here m.at (sym m.same ∙ visible)

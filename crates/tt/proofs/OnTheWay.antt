@@ -1,4 +1,4 @@
--- One token further on the way, and the end of it.
+-- A rewriting goes one token further, and its end.
 use Rattle.std.proofs.Common.{◌≡◌, ◌+◌, ◌<◌, sum_by, List, [], ◌∷◌, map, refl, ap, ap₂, sym, ◌∙◌, subst, arith}
 use Rattle.tt_base.specs.declared.token_tree.TokenTree.{TokenTree}
 use Rattle.tt_base.specs.Asked.{AsksAll}
@@ -10,7 +10,7 @@ use Rattle.tt.specs.Rewrites.{action_of, Rewrites}
 use Rattle.tt.specs.Work.{Work, lowest, taken, done, finish, to_show, to_come, StandsFor, unread, ComesToSame, IsNextOf}
 use Rattle.tt.proofs.Working.{acted_result, acted_tokens, less_to_come}
 
--- the callback was asked on the way to some work, and what it will be asked and answer completes the rewriting
+-- the callback was called for all tokens before some work; its later calls and answers complete the rewriting
 pub record IsOnTheWay {F : Type 0} (call : F → TokenTree → TransformTtAction → F → Type 0) (first : F) (trees : Forest) (now : F) (fields : Rewriting) : Type 0 where
   pub work : Work
   pub stands : StandsFor fields work
@@ -22,7 +22,7 @@ unread_is fields work is = ap₂ (λ f l. size f + sum_by size l) is.ahead is.re
 
 module _ {F : Type 0} (call : F → TokenTree → TransformTtAction → F → Type 0) (first : F) (trees : Forest) where
   module _ (now : F) (fields : Rewriting) (way : IsOnTheWay call first trees now fields) where
-    -- One token further.
+    -- The rewriting goes one token further.
     pub goes_further : (then : F) (it : TokenTree) (below : Forest) (answer : TransformTtAction) (took new : Rewriting) (n : IsNextOf way.work took it below)
         → call now it answer then → StandsFor new (done (action_of answer) it below (taken n.next)) → IsOnTheWay call first trees then new
     goes_further then it below answer took new n called is =
@@ -42,7 +42,7 @@ module _ {F : Type 0} (call : F → TokenTree → TransformTtAction → F → Ty
               subst (Rewrites call first trees) result (way.later (answer ∷ answers) last all);
         }
 
-    -- Less is left to read.
+    -- Fewer tokens are left to read.
     pub less_left : (it : TokenTree) (below : Forest) (answer : TransformTtAction) (took new : Rewriting) (n : IsNextOf way.work took it below)
         → StandsFor new (done (action_of answer) it below (taken n.next)) → unread new < unread fields
     less_left it below answer took new n is =
@@ -50,7 +50,7 @@ module _ {F : Type 0} (call : F → TokenTree → TransformTtAction → F → Ty
         subst (λ f. to_come (done (action_of answer) it f (taken n.next)) < to_come n.next) (sym n.holds) (less_to_come (action_of answer) n.next it n.first) in
         omega (arith, less, unread_is fields way.work way.stands, unread_is new (done (action_of answer) it below (taken n.next)) is, n.same.left)
 
-    -- At the end the trees that came out are the trees rewritten.
+    -- At the end the written trees are the rewritten trees.
     pub arrives : (came : Forest) → ComesToSame way.work (lowest came end) → Rewrites call first trees came
     arrives came same =
         subst (Rewrites call first trees) (same.result [] ∙ join-end came)

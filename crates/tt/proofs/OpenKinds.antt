@@ -1,4 +1,4 @@
--- The kinds of the open subtrees stand at the places of their headers.
+-- The places of the open headers have the kinds of the open subtrees.
 use Rattle.std.proofs.Common.{◌≡◌, ℕ, zero, suc, ◌<◌, ◌≤◌, List, [], ◌∷◌, ◌++◌, length, get_or, map, Option, refl, ap, ap₂, sym, ◌∙◌, arith, append_assoc, append-nil}
 use Rattle.std.specs.Prelude.{reverse}
 use Rattle.std.proofs.lemmas.List.{map-append, reverse-append}
@@ -17,25 +17,25 @@ kind_there [] place d within = absurd (omega (arith, within))
 kind_there (it ∷ tokens) zero d within = refl
 kind_there (it ∷ tokens) (suc place) d within = kind_there tokens place d (omega (arith, within))
 
--- Behind the list there is none.
+-- A place after the list has no kind.
 pub no_kind : (tokens : List TokenTree) (place : ℕ) → length tokens ≤ place → kind_at tokens place ≡ Invisible
 no_kind [] place past = refl
 no_kind (it ∷ tokens) zero past = absurd (omega (arith, past))
 no_kind (it ∷ tokens) (suc place) past = no_kind tokens place (omega (arith, past))
 
--- The last of the places comes first.
+-- The kind at the last place comes first.
 pub kinds_last : (tokens : List TokenTree) (outer : List ℕ) (place : ℕ) → kinds_at tokens (outer ++ place ∷ []) ≡ kind_at tokens place ∷ kinds_at tokens outer
 kinds_last tokens outer place =
     ap reverse (map-append (kind_at tokens) outer (place ∷ [])) ∙ reverse-append (map (kind_at tokens) outer) (kind_at tokens place ∷ [])
 
--- The kind of an open header behind what is written.
+-- The kind of an open header after a list.
 kind_behind : (before : List TokenTree) (h : TokenTree) (after : List TokenTree) (place : ℕ) → place ≡ length before → kind_at (before ++ h ∷ after) place ≡ kind_of h
 kind_behind [] h after zero here = refl
 kind_behind [] h after (suc place) here = absurd (omega (arith, here))
 kind_behind (b ∷ before) h after zero here = absurd (omega (arith, here))
 kind_behind (b ∷ before) h after (suc place) here = kind_behind before h after place (omega (arith, here))
 
--- The headers of what is written, and whatever follows it, have the kinds of the open subtrees.
+-- The headers of the list have the kinds of the open subtrees, whatever follows.
 kinds_written : (top : Delimiter) (stack : Stack) (more : List TokenTree) → kinds_at (written top stack ++ more) (places stack) ≡ open_kinds stack
 kinds_written top (lowest trees) more = refl
 kinds_written top (above outer kind open_span trees) more =
@@ -46,7 +46,7 @@ kinds_written top (above outer kind open_span trees) more =
     ∙ ap₂ ◌∷◌ (kind_behind (written top outer) (open_header kind open_span) (flat trees ++ more) (suc (tokens_held outer)) (sym (length-written top outer)))
     (kinds_written top outer (open_header kind open_span ∷ (flat trees ++ more)))
 
--- So the fields tell them.
+-- The fields show these kinds.
 pub kinds_open : (tokens : List TokenTree) (headers : List ℕ) (mark : Option ℕ) (points : List Standing) (taken : ℕ) (s : BuilderState)
     → IsStateOf tokens headers mark points taken s → kinds_at tokens headers ≡ open_kinds s.stack
 kinds_open tokens headers mark points taken s is =

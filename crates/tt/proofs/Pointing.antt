@@ -1,4 +1,4 @@
--- A point is taken.
+-- A restore point is taken.
 use Rattle.std.proofs.Common.{◌≡◌, ℕ, ◌+◌, ◌<◌, ◌≤◌, List, [], ◌∷◌, ◌++◌, length, Option, None, ap, sym, ◌∙◌, subst, arith}
 use Rattle.std.proofs.lemmas.List.{take_all, drop_all}
 use Rattle.std.specs.List.{AllByRecursion}
@@ -9,7 +9,7 @@ use Rattle.tt_base.specs.Building.{Point, BuilderState, point_taken}
 use Rattle.tt.specs.BuilderFields.{IsNoted, AreNoted, IsEarlier, AreInOrder, IsStateOf}
 use Rattle.tt.proofs.Growing.{all_and_one, all_weaker}
 
--- One more point is noted.
+-- One more point is kept.
 one_more : (top : Delimiter) (tokens : List TokenTree) (headers : List ℕ) (kept : List Standing) (points : List Point) (k : Standing) (p : Point)
     → AreNoted top tokens headers kept points → IsNoted top tokens headers k p → AreNoted top tokens headers (kept ++ k ∷ []) (points ++ p ∷ [])
 one_more top tokens headers [] [] k p are is = (is, tt)
@@ -17,12 +17,12 @@ one_more top tokens headers [] (r ∷ points) k p are is = absurd are
 one_more top tokens headers (q ∷ kept) [] k p are is = absurd are
 one_more top tokens headers (q ∷ kept) (r ∷ points) k p are is = (are.0, one_more top tokens headers kept points k p are.1 is)
 
--- One more point is in order, if it was taken after all others.
+-- The points are in order with one more that was taken after all others.
 in_order : (kept : List Standing) (k : Standing) → AreInOrder kept → AllByRecursion (λ q. IsEarlier q k) kept → AreInOrder (kept ++ k ∷ [])
 in_order [] k order earlier = (tt, tt)
 in_order (q ∷ kept) k order earlier = (all_and_one (IsEarlier q) kept k order.0 earlier.0, in_order kept k order.1 earlier.1)
 
--- Every point holds no more than there is.
+-- No point has more tokens than the builder holds.
 all_reach : (top : Delimiter) (tokens : List TokenTree) (headers : List ℕ) (taken : ℕ) (kept : List Standing) (points : List Point) (k : Standing)
     → AreNoted top tokens headers kept points → AllByRecursion (λ q. q.number < taken) kept → k.number ≡ taken → k.tokens ≡ length tokens → k.depth ≡ length headers
     → AllByRecursion (λ q. IsEarlier q k) kept
@@ -38,7 +38,7 @@ all_reach top tokens headers taken (q ∷ kept) (r ∷ points) k are numbers n t
   all_reach top tokens headers taken kept points k are.1 numbers.1 n t d,
 )
 
--- A point is taken.
+-- The point is taken.
 pub taken_state : (tokens : List TokenTree) (headers : List ℕ) (mark : Option ℕ) (points more : List Standing) (taken : ℕ) (s : BuilderState) (k : Standing)
     → IsStateOf tokens headers mark points taken s → more ≡ points ++ k ∷ [] → k.number ≡ taken → k.tokens ≡ length tokens → k.depth ≡ length headers
     → IsStateOf tokens headers None more (taken + 1) (point_taken s)

@@ -1,4 +1,4 @@
--- An invisible header is taken out of the list.
+-- An invisible header is removed from the list.
 use Rattle.std.proofs.Common.{◌≡◌, ℕ, zero, suc, ◌+◌, ◌<◌, ◌≤◌, List, [], ◌∷◌, ◌++◌, length, take, drop, get_or, true, false, cond, Option, Some, None, refl, ap, ap₂, sym, ◌∙◌, subst, arith, length-append, append_assoc}
 use Rattle.std.proofs.lemmas.List.{get_or-append-add}
 use Rattle.std.proofs.lemmas.List.Edits.{length-remove}
@@ -14,21 +14,21 @@ use Rattle.tt_base.specs.Building.{Stack, lowest, above, innermost, unwrap, unwr
 use Rattle.tt.specs.BuilderFields.{written, places, open_header, tokens_before, innermost_start, IsNodeAt, IsMark, AreNoted, IsStateOf, invisible_token}
 use Rattle.tt.specs.OneState.{length-written}
 
--- A list without an item that stands behind others.
+-- A list without an item that comes after others.
 remove_behind : {A : Type 0} (xs ys : List A) (n : ℕ) → remove (xs ++ ys) (length xs + n) ≡ xs ++ remove ys n
 remove_behind xs ys n =
     let next : suc (length xs + n) ≡ length xs + suc n = omega arith in
     ap₂ ◌++◌ (take-append-add xs ys n) (ap (λ i. drop i (xs ++ ys)) next ∙ drop-append-add xs ys (suc n))
     ∙ append_assoc xs (take n ys) (drop (suc n) ys)
 
--- A front that ends before the item.
+-- The first items, if they end before the removed one.
 take_before : {A : Type 0} (xs : List A) (n i : ℕ) → n ≤ i → i < length xs → take n (remove xs i) ≡ take n xs
 take_before xs zero i le within = refl
 take_before [] (suc n) i le within = absurd (omega (arith, within))
 take_before (x ∷ xs) (suc n) zero le within = absurd (omega (arith, le))
 take_before (x ∷ xs) (suc n) (suc i) le within = ap (λ l. x ∷ l) (take_before xs n i (omega (arith, le)) (omega (arith, within)))
 
--- The token before which the first k trees stand, behind a node.
+-- The token after the first k trees, in the rest after a node.
 token_behind : (children rest : Forest) (h : TokenTree) (m : ℕ) (d : TokenTree) → get_or (h ∷ (flat children ++ flat rest)) (suc (size children + m)) d ≡ get_or (flat rest) m d
 token_behind children rest h m d =
     ap (λ n. get_or (flat children ++ flat rest) (n + m) d) (sym (length-flat children)) ∙ get_or-append-add (flat children) (flat rest) m d
@@ -41,7 +41,7 @@ mark_within zero (node e children rest) is = omega arith
 mark_within (suc k) (leaf it rest) is = omega (arith, mark_within k rest is)
 mark_within (suc k) (node e children rest) is = omega (arith, mark_within k rest is)
 
--- An invisible header is taken out: the children take the place of the node.
+-- Without an invisible header, its children take the place of its node.
 pub header_out : (k : ℕ) (trees : Forest) (d : TokenTree) → IsNodeAt k trees → invisible_token (get_or (flat trees) (tokens_before k trees) d) ≡ true
     → remove (flat trees) (tokens_before k trees) ≡ flat (unwrap k trees)
 header_out k end d is e = absurd is
@@ -56,7 +56,7 @@ header_out (suc k) (node x children rest) d is e =
     (ap (λ n. remove (flat children ++ flat rest) (n + tokens_before k rest)) (sym (length-flat children))
     ∙ remove_behind (flat children) (flat rest) (tokens_before k rest) ∙ ap (λ l. flat children ++ l) (header_out k rest d is there))
 
--- Another header stays, and so do the trees.
+-- If the header is not invisible, the trees stay.
 pub header_stays : (k : ℕ) (trees : Forest) (d : TokenTree) → IsNodeAt k trees → invisible_token (get_or (flat trees) (tokens_before k trees) d) ≡ false → unwrap k trees ≡ trees
 header_stays k end d is e = absurd is
 header_stays zero (leaf it rest) d is e = absurd is
@@ -67,25 +67,25 @@ header_stays (suc k) (node x children rest) d is e =
     ap invisible_token (sym (token_behind children rest (header x (size children)) (tokens_before k rest) d)) ∙ e in
     ap (node x children) (header_stays k rest d is there)
 
--- what is written before the trees of the innermost level
+-- the list before the trees of the innermost level
 front_of : Delimiter → Stack → List TokenTree
 front_of top (lowest trees) = header top 0 ∷ []
 front_of top (above outer kind open_span trees) = written top outer ++ open_header kind open_span ∷ []
 
--- It is what is written before them.
+-- The list is this, and then those trees.
 front_written : (top : Delimiter) (stack : Stack) → written top stack ≡ front_of top stack ++ flat (innermost stack)
 unfolding front_of
 front_written top (lowest trees) = refl
 front_written top (above outer kind open_span trees) = sym (append_assoc (written top outer) (open_header kind open_span ∷ []) (flat trees))
 
--- The trees begin behind it.
+-- The trees begin after it.
 front_length : (top : Delimiter) (stack : Stack) → length (front_of top stack) ≡ innermost_start stack
 unfolding front_of
 front_length top (lowest trees) = refl
 front_length top (above outer kind open_span trees) =
     omega (arith, length-append (written top outer) (open_header kind open_span ∷ []), length-written top outer)
 
--- What is written of levels of which the innermost is unwrapped.
+-- The list of levels whose innermost one is unwrapped.
 unwrap_written : (top : Delimiter) (stack : Stack) (k : ℕ) → written top (unwrap_innermost k stack) ≡ front_of top stack ++ flat (unwrap k (innermost stack))
 unfolding front_of
 unwrap_written top (lowest trees) k = refl
@@ -101,14 +101,14 @@ pub unwrap_none : (stack : Stack) (k : ℕ) → unwrap k (innermost stack) ≡ i
 unwrap_none (lowest trees) k e = ap lowest e
 unwrap_none (above outer kind open_span trees) k e = ap (above outer kind open_span) e
 
--- the marked tree's number, and where it stands
+-- the number of the marked tree, and its place
 pub record Marked (tokens : List TokenTree) (place : ℕ) (s : BuilderState) : Type 0 where
   pub number : ℕ
   pub mark : s.mark ≡ Some number
   pub here : place ≡ innermost_start s.stack + tokens_before number (innermost s.stack)
   pub is_node : IsNodeAt number (innermost s.stack)
 
--- A place that is marked is that of a node.
+-- A marked place is that of a node.
 pub marked : (tokens : List TokenTree) (headers : List ℕ) (points : List Standing) (taken : ℕ) (s : BuilderState) (place : ℕ)
     → IsStateOf tokens headers (Some place) points taken s → Marked tokens place s
 marked tokens headers points taken s place is = by_mark s.mark refl is.marked
@@ -117,7 +117,7 @@ marked tokens headers points taken s place is = by_mark s.mark refl is.marked
     by_mark None e no_mark = absurd no_mark
     by_mark (Some k) e is_mark = record { number = k; mark = e; here = is_mark.0; is_node = is_mark.1 }
 
--- It is one of the list.
+-- It is in the list.
 pub marked_within : (tokens : List TokenTree) (headers : List ℕ) (points : List Standing) (taken : ℕ) (s : BuilderState) (place : ℕ)
     → IsStateOf tokens headers (Some place) points taken s → place < length tokens
 marked_within tokens headers points taken s place is =
@@ -133,7 +133,7 @@ marked_within tokens headers points taken s place is =
       length-flat (innermost s.stack),
     )
 
--- the token at the mark
+-- the token at the marked place
 pub marked_token : (tokens : List TokenTree) (headers : List ℕ) (points : List Standing) (taken : ℕ) (s : BuilderState) (place : ℕ) (d : TokenTree) (is : IsStateOf tokens headers (Some place) points taken s)
     → get_or tokens place d ≡ get_or (flat (innermost s.stack)) (tokens_before (marked tokens headers points taken s place is).number (innermost s.stack)) d
 marked_token tokens headers points taken s place d is =
@@ -141,7 +141,7 @@ marked_token tokens headers points taken s place d is =
     ap₂ (λ l i. get_or l i d) (is.list ∙ front_written s.top s.stack) (m.here ∙ ap (λ n. n + tokens_before m.number (innermost s.stack)) (sym (front_length s.top s.stack)))
     ∙ get_or-append-add (front_of s.top s.stack) (flat (innermost s.stack)) (tokens_before m.number (innermost s.stack)) d
 
--- The points stand in a list without a token behind them.
+-- The points stay valid without a token after them.
 fewer_tokens : (top : Delimiter) (tokens : List TokenTree) (headers : List ℕ) (place : ℕ) (kept : List Standing) (points : List Point) → place < length tokens
     → AllByRecursion (λ k. k.tokens ≤ place) kept → AreNoted top tokens headers kept points → AreNoted top (remove tokens place) headers kept points
 fewer_tokens top tokens headers place [] [] within clear are = tt
@@ -159,7 +159,7 @@ fewer_tokens top tokens headers place (k ∷ kept) (p ∷ points) within clear a
   fewer_tokens top tokens headers place kept points within clear.1 are.1,
 )
 
--- The marked subtree is invisible, and its header is taken out.
+-- The marked subtree is invisible, and its header is removed.
 pub removed_state : (tokens now : List TokenTree) (headers : List ℕ) (points : List Standing) (taken : ℕ) (s : BuilderState) (place : ℕ) (d : TokenTree)
     → IsStateOf tokens headers (Some place) points taken s → now ≡ remove tokens place → invisible_token (get_or tokens place d) ≡ true
     → IsStateOf now headers None points taken (removed s)
@@ -186,7 +186,7 @@ removed_state tokens now headers points taken s place d is out invisible =
       count = is.count;
     })
 
--- The marked subtree is not invisible, and only the mark goes.
+-- The marked subtree is not invisible, and only the mark is cleared.
 pub mark_gone : (tokens : List TokenTree) (headers : List ℕ) (points : List Standing) (taken : ℕ) (s : BuilderState) (place : ℕ) (d : TokenTree)
     → IsStateOf tokens headers (Some place) points taken s → invisible_token (get_or tokens place d) ≡ false
     → IsStateOf tokens headers None points taken (removed s)

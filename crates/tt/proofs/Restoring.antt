@@ -1,4 +1,4 @@
--- Points are looked up, and the list is cut back to them.
+-- A restore point is found, and the list is cut back to it.
 use Rattle.std.proofs.Common.{◌≡◌, ℕ, zero, suc, ◌+◌, ◌<◌, ◌≤◌, List, [], ◌∷◌, length, take, drop, get_or, Bool, true, false, cond, Option, Some, None, refl, ap, sym, ◌∙◌, subst, arith, nat_le, nat_eq, ◌⊎◌, inl, inr, is_some}
 use Rattle.std.proofs.lemmas.Bool.{leb-true}
 use Rattle.std.proofs.lemmas.Bool.Decides.{leb_tells}
@@ -15,7 +15,7 @@ use Rattle.tt.specs.OneState.{length-written}
 use Rattle.tt.proofs.Filters.{all_filter, order_filter, same_test, at_place}
 use Rattle.tt.proofs.Growing.{all_and_one, all_weaker}
 
--- All headers of open subtrees stand among the tokens held.
+-- All headers of open subtrees are among the tokens held.
 pub places_below : (stack : Stack) → AllByRecursion (λ place. place ≤ tokens_held stack) (places stack)
 places_below (lowest trees) = tt
 places_below (above outer kind open_span trees) =
@@ -23,14 +23,14 @@ places_below (above outer kind open_span trees) =
     (all_weaker (λ place. place ≤ tokens_held outer) (λ place. place ≤ tokens_held outer + suc (size trees)) (places outer) (λ place below. omega (arith, below)) (places_below outer))
     (omega arith)
 
--- A front of a front.
+-- The first items of the first items.
 take_front : {A : Type 0} (m n : ℕ) (xs : List A) → m ≤ n → take m (take n xs) ≡ take m xs
 take_front zero n xs le = refl
 take_front (suc m) zero xs le = absurd (omega (arith, le))
 take_front (suc m) (suc n) [] le = refl
 take_front (suc m) (suc n) (x ∷ xs) le = ap (λ l. x ∷ l) (take_front m n xs (omega (arith, le)))
 
--- What all items behind have, those of a front have.
+-- What holds for all later items holds for those that are left.
 all_front : {A : Type 0} (P : A → Type 0) (m n : ℕ) (xs : List A) → AllByRecursion P (drop m xs) → AllByRecursion P (drop m (take n xs))
 all_front P zero zero xs all = tt
 all_front P zero (suc n) [] all = tt
@@ -40,11 +40,11 @@ all_front P (suc m) (suc n) [] all = tt
 all_front P (suc m) (suc n) (x ∷ xs) all = all_front P m n xs all
 
 module _ (top : Delimiter) (tokens : List TokenTree) (headers : List ℕ) where
-  -- A point counts the tokens that its levels hold, and the top.
+  -- A point counts the tokens of its levels, and the top.
   noted_tokens : (k : Standing) (p : Point) → IsNoted top tokens headers k p → k.tokens ≡ suc (tokens_held p.stack)
   noted_tokens k p is = sym (length-take-le k.tokens tokens is.reaches) ∙ ap length is.held ∙ length-written top p.stack
 
-  -- A point that holds no more tokens has no more levels.
+  -- A point with no more tokens has no more levels.
   no_deeper : (k q : Standing) (p r : Point) → IsNoted top tokens headers k p → IsNoted top tokens headers q r → q.tokens ≤ k.tokens → q.depth ≤ k.depth
   no_deeper k q p r at here fewer = by_order (leb_tells q.depth k.depth)
     where
@@ -61,7 +61,7 @@ module _ (top : Delimiter) (tokens : List TokenTree) (headers : List ℕ) where
           at_place (λ place. place ≤ tokens_held r.stack) (take q.depth headers) k.depth 0 (omega (arith, n, x.1)) among in
           absurd (omega (arith, behind.0, low, get_or-take q.depth headers k.depth 0 x.1, noted_tokens q r here, fewer))
 
-  -- Such a point stands in the cut lists as before.
+  -- Such a point stays valid in the cut lists.
   cut_point : (k q : Standing) (p r : Point) → IsNoted top tokens headers k p → IsNoted top tokens headers q r → q.tokens ≤ k.tokens
       → IsNoted top (take k.tokens tokens) (take k.depth headers) q r
   cut_point k q p r at here fewer =
@@ -75,7 +75,7 @@ module _ (top : Delimiter) (tokens : List TokenTree) (headers : List ℕ) where
         behind = all_front (λ place. q.tokens ≤ place) q.depth k.depth headers here.behind;
       }
 
-  -- the points that are kept, and those that stand
+  -- the kept lengths and the valid points
   cut_points : (k : Standing) (p : Point) (kept : List Standing) (points : List Point) → IsNoted top tokens headers k p → AreNoted top tokens headers kept points
       → AreNoted top (take k.tokens tokens) (take k.depth headers) (filter (λ q. nat_le q.tokens k.tokens) kept) (points_before p.stack points)
   cut_points k p [] [] at are = tt
@@ -96,7 +96,7 @@ module _ (top : Delimiter) (tokens : List TokenTree) (headers : List ℕ) where
       by_test true e more = rw (tests ∙ e) (cut_point k q p r at are.0 (leb-true q.tokens k.tokens e), more)
       by_test false e more = rw (tests ∙ e) more
 
-  -- What is found among the points that are kept is what was noted.
+  -- The lengths that are found belong to the point of that number.
   pub found_point : (number : ℕ) (kept : List Standing) (points : List Point) (k : Standing) → AreNoted top tokens headers kept points → kept_under number kept ≡ Some k
       → (stack : Stack) × (noted number points ≡ Some stack) × IsNoted top tokens headers k (record { number = k.number; stack = stack })
   found_point number [] [] k are found = cc found
@@ -119,7 +119,7 @@ module _ (top : Delimiter) (tokens : List TokenTree) (headers : List ℕ) where
           let (stack, there, is) = more found in
           (stack, ap (λ n. cond (nat_eq n number) (Some p.stack) (noted number points)) (sym are.0.numbered) ∙ ap (λ b. cond b (Some p.stack) (noted number points)) e ∙ there, is)
 
-  -- What is not found was not noted.
+  -- If no lengths are found, there is no such point.
   no_point : (number : ℕ) (kept : List Standing) (points : List Point) → AreNoted top tokens headers kept points → kept_under number kept ≡ None → noted number points ≡ None
   no_point number [] [] are none = refl
   no_point number [] (p ∷ points) are none = absurd are
@@ -131,7 +131,7 @@ module _ (top : Delimiter) (tokens : List TokenTree) (headers : List ℕ) where
       by_test true e none more = cc none
       by_test false e none more = ap (λ n. cond (nat_eq n number) (Some p.stack) (noted number points)) (sym are.0.numbered) ∙ ap (λ b. cond b (Some p.stack) (noted number points)) e ∙ more none
 
--- A point that stands is gone back to.
+-- The builder goes back to a valid point.
 pub restored_state : (tokens now : List TokenTree) (headers left : List ℕ) (mark : Option ℕ) (points fewer : List Standing) (taken : ℕ) (s : BuilderState) (number : ℕ) (k : Standing)
     → IsStateOf tokens headers mark points taken s → kept_under number points ≡ Some k → now ≡ take k.tokens tokens → left ≡ take k.depth headers
     → fewer ≡ filter (λ q. nat_le q.tokens k.tokens) points → IsStateOf now left None fewer taken (restored number s)
@@ -154,7 +154,7 @@ restored_state tokens now headers left mark points fewer taken s number k is fou
       count = is.count;
     })
 
--- Whether a point stands is whether one is kept.
+-- A point is valid exactly if its lengths are kept.
 pub stands : (tokens : List TokenTree) (headers : List ℕ) (mark : Option ℕ) (points : List Standing) (taken : ℕ) (s : BuilderState) (number : ℕ)
     → IsStateOf tokens headers mark points taken s → is_some (noted number s.points) ≡ is_some (kept_under number points)
 stands tokens headers mark points taken s number is = by_option (kept_under number points) refl
@@ -163,7 +163,7 @@ stands tokens headers mark points taken s number is = by_option (kept_under numb
     by_option None e = ap is_some (no_point s.top tokens headers number points s.points is.noted e) ∙ sym (ap is_some e)
     by_option (Some k) e = ap is_some (found_point s.top tokens headers number points s.points k is.noted e).1 ∙ sym (ap is_some e)
 
--- Where none is kept nothing changes.
+-- If no lengths are kept, nothing changes.
 pub not_restored : (tokens : List TokenTree) (headers : List ℕ) (mark : Option ℕ) (points : List Standing) (taken : ℕ) (s : BuilderState) (number : ℕ)
     → IsStateOf tokens headers mark points taken s → kept_under number points ≡ None → restored number s ≡ s
 not_restored tokens headers mark points taken s number is none = ap (λ o. back_to o s) (no_point s.top tokens headers number points s.points is.noted none)

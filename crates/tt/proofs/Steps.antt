@@ -1,4 +1,4 @@
--- What each call of a builder makes of its list, its open headers and its state.
+-- How each call of a builder changes its list, its open headers and its state.
 use Rattle.std.proofs.Common.{◌≡◌, ℕ, zero, suc, ◌+◌, ◌-◌, ◌<◌, ◌≤◌, Bool, true, false, cond, is_err, true≢false, List, [], ◌∷◌, ◌++◌, Option, Some, None, Result, Ok, Err, OnOk, OnErr, length, map, filter, take, drop, get_or, set, slice_get, nat_le, refl, ap, ap₂, sym, subst, ◌∙◌, arith, length-append}
 use Rattle.std.proofs.lemmas.List.{map-append, length-map, length-take-le}
 use Rattle.std.specs.List.{AllByRecursion, remove}
@@ -24,17 +24,17 @@ use Rattle.tt.proofs.HeldList.{whole_tokens}
 use Rattle.tt.proofs.Removing.{marked, marked_within, removed_state, mark_gone}
 use Rattle.tt.proofs.Restoring.{found_point, places_below, restored_state}
 
--- the fields stand for the state, and the open headers stand at their places
+-- the fields represent the state, and the open headers are at their places
 pub record Keeps (top : Delimiter) (held : List HeldToken) (headers : List ℕ) (mark : Option ℕ) (points : List Standing) (taken : ℕ) (s : BuilderState) : Type 0 where
   pub state : IsStateOf (all_tokens top held) headers mark points taken s
   pub opens : AreOpenIn held headers
 
--- The fields stand for the state that is seen.
+-- The fields represent the state that the model shows.
 pub keeps : (top : Delimiter) (held : List HeldToken) (headers : List ℕ) (mark : Option ℕ) (points : List Standing) (taken : ℕ) (has : HasState (all_tokens top held) headers mark points taken) → AreOpenIn held headers
     → (s : BuilderState) → has.0 ≡ s → Keeps top held headers mark points taken s
 keeps top held headers mark points taken has opens s e = record { state = seen (all_tokens top held) headers mark points taken has s e; opens = opens }
 
--- There is one token more than are held.
+-- The list has one token more than the tokens held.
 pub length-all : (top : Delimiter) (held : List HeldToken) → length (all_tokens top held) ≡ length held + 1
 length-all top held = omega (arith, length-map held as_token)
 
@@ -47,7 +47,7 @@ same_keeps top held now headers headers_now mark points points_now taken s is e�
       opens = ap (open_places 1) e₁ ∙ is.opens ∙ sym e₂;
     }
 
--- Nothing is held but the top.
+-- Only the top is held.
 pub new_keeps : (top : Delimiter) (held : List HeldToken) (headers : List ℕ) (points : List Standing) → held ≡ [] → headers ≡ [] → points ≡ [] → Keeps top held headers None points 0 (empty_builder top)
 new_keeps top held headers points e₁ e₂ e₃ =
     record { state = new_state top (all_tokens top held) headers points (ap (all_tokens top) e₁) e₂ e₃; opens = ap (open_places 1) e₁ ∙ sym e₂ }
@@ -86,18 +86,18 @@ pub maybe_keeps : (added : Bool) (top : Delimiter) (held now : List HeldToken) (
 maybe_keeps true top held now headers mark points taken s more is grown few = extended_keeps top held now headers mark points taken s more is grown few
 maybe_keeps false top held now headers mark points taken s more is grown few = same_keeps top held now headers headers mark points points taken s is grown refl refl
 
--- What a call makes where it succeeds, where it did.
+-- A fact after a success holds if the result is no error.
 pub ok_of : {T E : Type 0} {P : Type 0} (result : Result T E) → is_err result ≡ false → OnOk result P → P
 ok_of (Ok x) fine p = p
 ok_of (Err e) fine p = absurd (true≢false fine)
 
--- The tokens, of which one has changed.
+-- The tokens, after one has changed.
 tokens-set : (held : List HeldToken) (i : ℕ) (h : HeldToken) → map as_token (set held i h) ≡ set (map as_token held) i (as_token h)
 tokens-set [] i h = refl
 tokens-set (x ∷ held) zero h = refl
 tokens-set (x ∷ held) (suc i) h = ap (λ l. as_token x ∷ l) (tokens-set held i h)
 
--- A token at a place is as it is held.
+-- The token at a place is the one that is held there.
 token_at : (held : List HeldToken) (i : ℕ) (h : HeldToken) (d : TokenTree) → slice_get held i ≡ Some h → get_or (map as_token held) i d ≡ as_token h
 token_at [] i h d at = absurd (cc at)
 token_at (x ∷ held) zero h d at =
@@ -105,7 +105,7 @@ token_at (x ∷ held) zero h d at =
     ap as_token is
 token_at (x ∷ held) (suc i) h d at = token_at held i h d at
 
--- All places of open headers stand behind the top.
+-- All open headers are after the top.
 pub behind_top : (top : Delimiter) (held : List HeldToken) (headers left : List ℕ) (place : ℕ) → AreOpenIn held headers → headers ≡ left ++ place ∷ [] → 1 ≤ place
 behind_top top held headers left place opens popped = last_from left (open_places 1 held) (all_from 1 held) (opens ∙ popped)
   where
@@ -150,7 +150,7 @@ closed_keeps top held now headers left mark points fewer taken s close_span plac
 
 -- ---- the mark
 
--- All open headers stand before the marked one.
+-- All open headers are before the marked one.
 open_before : (stack : Stack) (n : ℕ) → innermost_start stack ≤ n → AllByRecursion (λ place. place < n) (places stack)
 open_before (lowest trees) n start = tt
 open_before (above outer kind open_span trees) n start =
@@ -181,7 +181,7 @@ mark_there top held headers points taken s place is =
     start_low (lowest trees) = omega arith
     start_low (above outer kind open_span trees) = omega arith
 
--- What stands there is whole.
+-- The token at that place is whole.
 pub mark_whole : (held : List HeldToken) (headers : List ℕ) (place i : ℕ) (h : HeldToken) → AreOpenIn held headers → AllByRecursion (λ p. p < place) headers → place ≡ 1 + i → slice_get held i ≡ Some h
     → slice_get held i ≡ Some (whole (as_token h))
 mark_whole held headers place i h opens before here at = whole_at 1 held i place h at here (subst (AllByRecursion (λ p. p < place)) (sym opens) before)
@@ -192,7 +192,7 @@ tokens-remove [] (suc i) = refl
 tokens-remove (x ∷ held) zero = refl
 tokens-remove (x ∷ held) (suc i) = ap (λ l. as_token x ∷ l) (tokens-remove held i)
 
--- The marked header is taken out.
+-- The marked header is removed.
 pub removed_keeps : (top : Delimiter) (held now : List HeldToken) (headers : List ℕ) (points : List Standing) (taken : ℕ) (s : BuilderState) (place i : ℕ) (it : TokenTree)
     → Keeps top held headers (Some place) points taken s → place ≡ 1 + i → slice_get held i ≡ Some (whole it) → now ≡ remove held i → invisible_token it ≡ true
     → Keeps top now headers None points taken (removed s)
@@ -208,7 +208,7 @@ removed_keeps top held now headers points taken s place i it is here at out invi
       opens = ap (open_places 1) out ∙ open_places-remove 1 held i place it at here (subst (AllByRecursion (λ p. p < place)) (sym is.opens) there.before) ∙ is.opens;
     }
 
--- Only the mark goes.
+-- Only the mark is cleared.
 pub mark_gone_keeps : (top : Delimiter) (held : List HeldToken) (headers : List ℕ) (points : List Standing) (taken : ℕ) (s : BuilderState) (place i : ℕ) (it : TokenTree)
     → Keeps top held headers (Some place) points taken s → place ≡ 1 + i → slice_get held i ≡ Some (whole it) → invisible_token it ≡ false
     → Keeps top held headers None points taken (removed s)
@@ -236,7 +236,7 @@ point_counts top held headers mark points taken s number k is found =
     let (stack, there, at) = found_point s.top (all_tokens top held) headers number points s.points k is.state.noted found in
     omega (arith, ap length at.held, length-take-le k.tokens (all_tokens top held) at.reaches, length-written s.top stack)
 
--- A point that stands is gone back to.
+-- The builder goes back to a valid point.
 pub restored_keeps : (top : Delimiter) (held now : List HeldToken) (headers left : List ℕ) (mark : Option ℕ) (points fewer : List Standing) (taken : ℕ) (s : BuilderState) (number : ℕ) (k : Standing)
     → Keeps top held headers mark points taken s → kept_under number points ≡ Some k → now ≡ take (k.tokens - 1) held → left ≡ take k.depth headers
     → fewer ≡ filter (λ q. nat_le q.tokens k.tokens) points → Keeps top now left None fewer taken (restored number s)

@@ -10,7 +10,7 @@ use Rattle.tt_view.specs.declared.iter.TtElement.TheVariants as element
 use Rattle.tt.specs.declared.transform.Frame.{Frame}
 use Rattle.tt.specs.Work.{Work, lowest, above, rest_of, rests_of, behind, Stands, ComesToSame, token_of, below_of}
 
--- The first element has the first token, and what it holds.
+-- The first element has the first token, and the trees below it.
 pub element_first : (trees : Forest) (it : TtElement) → IsFirstElement trees (Some it) → (first_token trees ≡ Some (token_of it)) × (below_of it ≡ children_of trees)
 element_first end (element.Leaf found) is = absurd is
 element_first end (element.Subtree subtree below) is = absurd is
@@ -19,13 +19,13 @@ element_first (leaf it rest) (element.Subtree subtree below) is = absurd is
 element_first (node d children rest) (element.Leaf found) is = absurd is
 element_first (node d children rest) (element.Subtree subtree below) is = (λ i. Some (header (sym is.0 i) (sym is.1 i)), is.2)
 
--- Where there is no element no tree is left.
+-- If there is no element, no tree is left.
 pub none_left : (trees : Forest) → IsFirstElement trees None → trees ≡ end
 none_left end is = refl
 none_left (leaf it rest) is = absurd is
 none_left (node d children rest) is = absurd is
 
--- Where nothing is left and no node is open, all is read.
+-- If no trees are left and no node is open, everything is read.
 pub all_read : (fits : Bool) (list : List TokenTree) (frames now : List Frame) (rest : Forest) (work next : Work) → frames ≡ [] → now ≡ [] → rest ≡ end
     → Stands fits list frames rest next → ComesToSame work next → (came : Forest) × Stands fits list now rest (lowest came end) × ComesToSame work (lowest came end)
 all_read fits list frames now rest work (lowest came left) none none_now ended is same =

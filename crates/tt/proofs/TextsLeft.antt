@@ -1,4 +1,4 @@
--- The texts that the levels of a printer have still to give, the innermost level first.
+-- The texts that the levels of a printer still have to write, the innermost level first.
 use Rattle.std.proofs.Common.{◌≡◌, ◌+◌, Bool, true, false, ℕ, suc, List, [], ◌∷◌, ◌++◌, Some, None, length, refl, ap, ap₂, sym, ◌∙◌, append_assoc}
 use Rattle.tt_base.specs.DebugText.{break_if, indent, leaf_line, header_line, lines_text}
 use Rattle.tt_base.specs.Forest.{Forest, end, leaf, node, size}
@@ -13,27 +13,27 @@ use Rattle.tt_view.specs.declared.iter.TtElement.TheVariants as element
 use Rattle.tt_view.specs.declared.iter.TtIter.{TtIter}
 use Rattle.tt.specs.declared.printer.Level.{Level}
 
--- the text of trees, and behind it what closes their level and the text of the outer levels
+-- the text of the trees that are left, then what closes their level, then the text of the outer levels
 abbrev pub text_left : (lets : Spacing → Bool) → (due : Bool) → List Level → List ℕ
 text_left lets due [] = []
 text_left lets due (level ∷ outer) = siblings_text lets due (rest_of level.rest) ++ (closing_text level.kind ++ text_left lets true outer)
 
--- the lines of trees, and behind them those of the outer levels
+-- the lines of the trees that are left, and then those of the outer levels
 abbrev pub lines_left : (due : Bool) → List TtIter → List ℕ
 lines_left due [] = []
 lines_left due (level ∷ outer) = lines_text due (length outer) (rest_of level) ++ lines_left true outer
 
--- how many tokens are left
+-- the number of tokens that are left
 abbrev pub tokens_left : List Level → ℕ
 tokens_left [] = 0
 tokens_left (level ∷ outer) = size (rest_of level.rest) + tokens_left outer
 
--- the same of iterators alone
+-- the same for iterators
 abbrev pub tokens_in : List TtIter → ℕ
 tokens_in [] = 0
 tokens_in (level ∷ outer) = size (rest_of level) + tokens_in outer
 
--- At the end of a level, what closes it comes next.
+-- At the end of a level, the text that closes it comes next.
 pub text_ended : (lets : Spacing → Bool) (due : Bool) (level : Level) (outer : List Level) → IsFirstElement (rest_of level.rest) None
     → text_left lets due (level ∷ outer) ≡ closing_text level.kind ++ text_left lets true outer
 text_ended lets due level outer none = by (rest_of level.rest) none
@@ -66,7 +66,7 @@ regrouped : (front held back rest outer : List ℕ) → (((front ++ held) ++ bac
 regrouped front held back rest outer =
     append_assoc ((front ++ held) ++ back) rest outer ∙ append_assoc (front ++ held) back (rest ++ outer) ∙ append_assoc front held (back ++ (rest ++ outer))
 
--- A subtree comes first: what opens it, then what it holds.
+-- A subtree comes first: what opens it, and then the trees below it.
 pub text_subtree : (lets : Spacing → Bool) (due : Bool) (level next below : Level) (outer : List Level) (subtree : Subtree) (children : TtIter)
     → IsFirstElement (rest_of level.rest) (Some (element.Subtree subtree children)) → rest_of next.rest ≡ after_tree (rest_of level.rest) → next.kind ≡ level.kind
     → below.rest ≡ children → below.kind ≡ subtree.delimiter.kind
@@ -111,7 +111,7 @@ lines_leaf due level next outer found first rest =
         ∙ ap (λ l. ((break_if due ++ indent (length outer)) ++ leaf_line l) ++ (lines_text true (length outer) rest ++ lines_left true outer)) (sym p)
     by (node delimiter children rest) p = absurd p
 
--- The line of a header comes first, and then those of what it holds.
+-- The line of a header comes first, and then those of the tokens below it.
 pub lines_subtree : (due : Bool) (level next below : TtIter) (outer : List TtIter) (subtree : Subtree)
     → IsFirstElement (rest_of level) (Some (element.Subtree subtree below)) → rest_of next ≡ after_tree (rest_of level)
     → lines_left due (level ∷ outer) ≡ ((break_if due ++ indent (length outer)) ++ header_line subtree.delimiter) ++ lines_left true (below ∷ next ∷ outer)
@@ -129,7 +129,7 @@ lines_subtree due level next below outer subtree first rest =
         ∙ append_assoc ((break_if due ++ indent (length outer)) ++ header_line delimiter) (lines_text true (suc (length outer)) inner) (lines_text true (length outer) others ++ lines_left true outer))
         ∙ ap₂ (λ at trees. ((break_if due ++ indent (length outer)) ++ header_line at) ++ (lines_text true (suc (length outer)) trees ++ (lines_text true (length outer) others ++ lines_left true outer))) (sym p.0) (sym p.2)
 
--- One piece more was written, and the others are to come.
+-- One more piece is written, and the others are left.
 pub goes_on : (old new piece all left later : List ℕ) → new ≡ old ++ piece → left ≡ piece ++ later → old ++ left ≡ all → new ++ later ≡ all
 goes_on old new piece all left later wrote first more =
     ap (λ x. x ++ later) wrote ∙ append_assoc old piece later ∙ ap (λ x. old ++ x) (sym first) ∙ more
@@ -140,7 +140,7 @@ size_leaf end found p = absurd p
 size_leaf (leaf it rest) found p = refl
 size_leaf (node delimiter children rest) found p = absurd p
 
--- A subtree is its header, what it holds and what follows.
+-- A subtree is its header, the tokens below it, and those after it.
 pub size_subtree : (trees : Forest) (subtree : Subtree) (below : TtIter) → IsFirstElement trees (Some (element.Subtree subtree below))
     → size trees ≡ suc (size (rest_of below) + size (after_tree trees))
 size_subtree end subtree below p = absurd p

@@ -1,4 +1,4 @@
--- How a rewriting on its way stands in the lists of the code.
+-- How the lists of the code represent the state of a rewriting.
 use Rattle.std.proofs.Common.{◌≡◌, ℕ, ◌-◌, ◌<◌, Bool, true, false, List, [], ◌∷◌, ◌++◌, length, map, set, get_or, Some, refl, ap, ap₂, sym, ◌∙◌, subst, arith, length-append, append-nil}
 use Rattle.std.proofs.Math.Seq.{set-append_seam, get_or-append_seam}
 use Rattle.std.proofs.lemmas.List.{map-append}
@@ -11,7 +11,7 @@ use Rattle.tt.specs.declared.transform.Frame.{Frame}
 use Rattle.tt.specs.Work.{Work, lowest, above, given, rest_of, taken, written, places_of, rests_of, IsTaken, IsListOf, place_of, behind, Stands, ComesToSame, counted}
 use Rattle.tt.proofs.Working.{closed_same, comes_too_large, large_above, large_given, large_same, large_taken, one_given, one_taken, places_given, rests_given, rests_with, taken_of_one, written_given, written_rest}
 
--- Trees come out.
+-- Trees are written.
 pub stands_given : (fits : Bool) (list now : List TokenTree) (frames : List Frame) (rest : Forest) (work : Work) (trees : Forest) → IsTaken work
     → (fits ≡ true → now ≡ list ++ flat trees) → Stands fits list frames rest work → Stands fits now frames rest (given trees work)
 stands_given true list now frames rest work trees one adds is =
@@ -29,7 +29,7 @@ stands_given false list now frames rest work trees one adds is =
       one = one_given work trees one;
     }
 
--- A header comes out, and its node is gone into.
+-- A header is written, and its node becomes a level.
 pub stands_above : (fits : Bool) (list now : List TokenTree) (frames frames_now : List Frame) (frame : Frame) (rest below : Forest) (work : Work) (d : Delimiter) (n : ℕ) → IsTaken work
     → (fits ≡ true → now ≡ list ++ header d n ∷ []) → frames_now ≡ frames ++ frame ∷ [] → place_of frame ≡ length list → behind frame ≡ rest
     → Stands fits list frames rest work → Stands fits now frames_now below (above work d n end below)
@@ -74,7 +74,7 @@ stands_taken false list frames rest left work it first passed is =
 
 -- ---- closing
 
--- Lists that end alike are alike.
+-- Equal lists with one more item at the end have equal items.
 snoc_alike : {X : Type 0} (xs ys : List X) (x y : X) → xs ++ x ∷ [] ≡ ys ++ y ∷ [] → (xs ≡ ys) × (x ≡ y)
 snoc_alike [] [] x y e = (refl, cc)
 snoc_alike [] (b ∷ ys) x y e = absurd (omega (arith, ap length e, length-append ys (y ∷ [])))
@@ -85,7 +85,7 @@ snoc_alike (a ∷ xs) (b ∷ ys) x y e =
     let (same, last) = snoc_alike xs ys x y rest in
     (ap₂ ◌∷◌ first same, last)
 
--- the innermost node is read to its end, and has this frame
+-- the innermost node has no trees to read, and has this frame
 pub record IsClosing (fits : Bool) (out : List TokenTree) (frames : List Frame) (frame : Frame) (work : Work) : Type 0 where
   pub outer : Work
   pub delimiter : Delimiter
@@ -114,7 +114,7 @@ closing fits out frames frame (above outer d n came rest) is =
       list = subst (λ r. IsListOf fits out (map place_of (frames ++ frame ∷ [])) (above outer d n came r)) (sym is.ahead) is.list;
     }
 
--- where its header stands
+-- the place of its header
 record IsHeaderAt (out : List TokenTree) (frames : List Frame) (frame : Frame) (outer : Work) (d : Delimiter) (n : ℕ) (came : Forest) : Type 0 where
   list : out ≡ written outer ++ header d n ∷ flat came
   places : map place_of frames ≡ places_of outer
@@ -134,15 +134,15 @@ header_at out frames frame outer d n came (list, places) =
       within = omega (arith, place, ap length list, length-append (written outer) (header d n ∷ flat came));
     }
 
--- The header is one of the tokens that came out.
+-- The header is one of the written tokens.
 pub header_within : (out : List TokenTree) (frames : List Frame) (frame : Frame) (work : Work) → IsClosing true out frames frame work → place_of frame < length out
 header_within out frames frame work it = (header_at out frames frame it.outer it.delimiter it.count it.came it.list).within
 
--- the fields stand for work that comes to the same
+-- the fields represent work with the same result
 abbrev pub Closed : (fits : Bool) (out : List TokenTree) (frames : List Frame) (frame : Frame) (work : Work) → Type 0
 Closed fits out frames frame work = (next : Work) × Stands fits out frames (behind frame) next × ComesToSame work next
 
--- With its new count the header is that of a tree that came out.
+-- With its new count, the header is that of a written tree.
 pub closed_fits : (out now : List TokenTree) (frames : List Frame) (frame : Frame) (work : Work) (n : ℕ) → n ≡ length out - place_of frame - 1
     → ((d : TokenTree) → now ≡ set out (place_of frame) (counted n (get_or out (place_of frame) d))) → IsClosing true out frames frame work → Closed true now frames frame work
 closed_fits out now frames frame work n sized patched it =
@@ -170,7 +170,7 @@ closed_fits out now frames frame work n sized patched it =
       subst (λ w. ComesToSame w next) (sym it.is) (closed_same outer x it.count came),
     )
 
--- Where it holds too many, what comes out is too large.
+-- If it has too many tokens below it, the result is too large.
 pub closed_large : (out now : List TokenTree) (frames : List Frame) (frame : Frame) (work : Work) → 4294967295 < length out - place_of frame - 1
     → IsClosing true out frames frame work → Closed false now frames frame work
 closed_large out now frames frame work many it =
@@ -188,7 +188,7 @@ closed_large out now frames frame work many it =
       subst (λ w. ComesToSame w next) (sym it.is) same,
     )
 
--- Where it is too large already, it stays so.
+-- If the result is too large already, it stays too large.
 pub closed_off : (out now : List TokenTree) (frames : List Frame) (frame : Frame) (work : Work) → IsClosing false out frames frame work → Closed false now frames frame work
 closed_off out now frames frame work it =
     let next = given (node it.delimiter it.came end) it.outer in

@@ -1,4 +1,4 @@
--- How an action moves a rewriting on.
+-- How an action changes the state of a rewriting.
 use Rattle.std.proofs.Common.{◌≡◌, ℕ, suc, ◌+◌, ◌<◌, ◌≤◌, inl, inr, List, [], ◌∷◌, ◌++◌, length, sum_by, Some, refl, ap, ap₂, sym, ◌∙◌, subst, arith, length-append, append_assoc}
 use Rattle.std.proofs.lemmas.List.Sums.{sum_by_push}
 use Rattle.tt_base.specs.declared.delimiter.Delimiter.{Delimiter}
@@ -13,9 +13,9 @@ use Rattle.tt_base.specs.Siblings.{children_of}
 use Rattle.tt_base.proofs.Joins.{size-join, join-assoc}
 use Rattle.tt.specs.Work.{Work, lowest, above, given, rest_of, with_rest, taken, kept, done, finish_with, finish, to_show, written, places_of, rests_of, to_come, IsTaken, IsOfOne, IsTooLarge, ComesTooLarge, ComesToSame}
 
--- ---- what comes out
+-- ---- written trees
 
--- What came out comes before what comes out.
+-- Trees that are written now come before later ones.
 pub given_first : (work : Work) (trees more : Forest) (actions : List Action) → finish_with (given trees work) more actions ≡ finish_with work (join trees more) actions
 given_first (lowest out rest) trees more actions =
     join-assoc out trees (join more (rewrite rest actions).0) ∙ ap (join out) (sym (join-assoc trees more (rewrite rest actions).0))
@@ -23,7 +23,7 @@ given_first (above outer d n out rest) trees more actions =
     ap (λ inside. finish_with outer (node d inside end) (rewrite rest actions).1)
     (join-assoc out trees (join more (rewrite rest actions).0) ∙ ap (join out) (sym (join-assoc trees more (rewrite rest actions).0)))
 
--- What an action does with the next token gives the same result.
+-- An action for the next token leads to the same result.
 pub acted_result : (action : Action) (work : Work) (it : TokenTree) (actions : List Action) → first_token (rest_of work) ≡ Some it
     → finish work (action ∷ actions) ≡ finish (done action it (children_of (rest_of work)) (taken work)) actions
 acted_result action (lowest out end) it actions e = cc e
@@ -48,7 +48,7 @@ acted_result (replace trees) (above outer d n out (leaf l rest)) it actions e =
 acted_result (replace trees) (above outer d n out (node x children rest)) it actions e =
     ap (λ inside. finish_with outer (node d inside end) (rewrite rest actions).1) (sym (join-assoc out trees (rewrite rest actions).0))
 
--- The token was shown, and then the others are.
+-- The callback sees the token, and then the others.
 pub acted_tokens : (action : Action) (work : Work) (it : TokenTree) (actions : List Action) → first_token (rest_of work) ≡ Some it
     → to_show work (action ∷ actions) ≡ it ∷ to_show (done action it (children_of (rest_of work)) (taken work)) actions
 acted_tokens action (lowest out end) it actions e = cc e
@@ -75,7 +75,7 @@ acted_tokens (replace trees) (above outer d n out (node x children rest)) it act
     let same : header x (size children) ≡ it = cc e in
     ap (λ t. t ∷ (shown rest actions ++ to_show outer (rewrite rest actions).1)) same
 
--- ---- what is left to read
+-- ---- trees to read
 
 sum-snoc : (trees : List Forest) (last : Forest) → sum_by size (trees ++ last ∷ []) ≡ sum_by size trees + size last
 sum-snoc trees last = sum_by_push size trees last
@@ -94,7 +94,7 @@ come_given work more = ap₂ (λ r l. size r + sum_by size l) (rests_given work 
 come_taken : (work : Work) → to_come (taken work) ≡ size (after_tree (rest_of work)) + sum_by size (rests_of work)
 come_taken work = ap₂ (λ r l. size r + sum_by size l) (rests_with work (after_tree (rest_of work))).1 (rests_with work (after_tree (rest_of work))).0
 
--- Less is left behind an action.
+-- After an action, fewer tokens are left to read.
 pub less_to_come : (action : Action) (work : Work) (it : TokenTree) → first_token (rest_of work) ≡ Some it
     → to_come (done action it (children_of (rest_of work)) (taken work)) < to_come work
 less_to_come action work it e = by_rest (rest_of work) refl action e
@@ -115,9 +115,9 @@ less_to_come action work it e = by_rest (rest_of work) refl action e
     by_rest (node x children rest) is (replace trees) first =
         omega (arith, come_given (taken work) trees, come_taken work, ap (λ f. size (after_tree f)) is, ap size is)
 
--- ---- nodes that are closed
+-- ---- closed nodes
 
--- A node that is read to its end becomes one of the trees that came out.
+-- A node without trees to read becomes one of the written trees.
 pub closed_same : (outer : Work) (d : Delimiter) (n : ℕ) (out : Forest) → ComesToSame (above outer d n out end) (given (node d out end) outer)
 closed_same outer d n out =
     record {
@@ -131,7 +131,7 @@ closed_same outer d n out =
     given_shows (lowest came rest) actions = refl
     given_shows (above more x m came rest) actions = refl
 
--- The same, one after the other.
+-- Work with the same result as work with the same result.
 pub same_then : (a b c : Work) → ComesToSame a b → ComesToSame b c → ComesToSame a c
 same_then a b c x y =
     record {
@@ -140,7 +140,7 @@ same_then a b c x y =
       left = x.left ∙ y.left;
     }
 
--- What came out and what comes out now are in the result.
+-- The written trees, and those that are written now, are in the result.
 stays_held : (work : Work) (more : Forest) (actions : List Action) → length (written work) + size more ≤ size (finish_with work more actions)
 stays_held (lowest out rest) more actions =
     omega (arith, length-flat out, size-join out (join more (rewrite rest actions).0), size-join more (rewrite rest actions).0)
@@ -160,7 +160,7 @@ record IsOneNode (trees : Forest) : Type 0 where
   root : Root
   is : trees ≡ only root
 
--- One node comes out where one is gone into.
+-- One node is written for one that is entered.
 one_comes : (outer : Work) (d : Delimiter) (n : ℕ) (out rest more : Forest) (actions : List Action) → IsTaken outer → IsOneNode (finish_with (above outer d n out rest) more actions)
 one_comes (lowest came left) d n out rest more actions (none, ended) =
     let inside = rewrite rest actions in
@@ -173,7 +173,7 @@ one_comes (above outer x m came left) d n out rest more actions one =
     let inside = rewrite rest actions in
     one_comes outer x m came left (node d (join out (join more inside.0)) end) inside.1 one
 
--- So where a node that is read to its end holds too many tokens, what comes out is too large.
+-- If a node without trees to read has too many tokens below it, the result is too large.
 pub comes_too_large : (outer : Work) (d : Delimiter) (n : ℕ) (came : Forest) → IsTaken outer → 4294967295 < size came → ComesTooLarge (above outer d n came end)
 comes_too_large outer d n came one many actions =
     let it = one_comes outer d n came end end actions one in (
@@ -202,7 +202,7 @@ comes_too_large outer d n came one many actions =
           length-flat came,
         )
 
--- What comes out too large does so for work that comes to the same.
+-- If the result is too large, so is the same result of other work.
 pub large_same : (a b : Work) → ComesToSame a b → ComesTooLarge a → ComesTooLarge b
 large_same a b same large actions = subst IsTooLarge (same.result actions) (large actions)
 
@@ -229,9 +229,9 @@ pub one_given : (work : Work) (trees : Forest) → IsTaken work → IsOfOne (giv
 one_given (lowest out rest) trees one = inl one.1
 one_given (above outer d n out rest) trees one = one
 
--- ---- works that come out too large
+-- ---- results that are too large
 
--- What comes out more, comes out.
+-- More written trees make the result larger by their tokens.
 size_with : (work : Work) (more : Forest) (actions : List Action) → size (finish_with work more actions) ≡ size (finish_with work end actions) + size more
 size_with (lowest out rest) more actions =
     omega (
@@ -251,7 +251,7 @@ size_with (above outer d n out rest) more actions =
       size-join out inside.0,
     )
 
--- It is too large with more too.
+-- A result that is too large is too large with more trees.
 grows : (work : Work) (more : Forest) (actions : List Action) → IsTaken work → IsTooLarge (finish_with work end actions) → IsTooLarge (finish_with work more actions)
 grows (lowest out rest) more actions (none, ended) (root, is, many) =
     let nothing : finish_with (lowest out rest) end actions ≡ end = ap₂ (λ f g. join f (rewrite g actions).0) none ended in

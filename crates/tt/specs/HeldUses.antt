@@ -1,4 +1,4 @@
--- The uses of span parts and symbols in what a builder holds: the top is left out, and so is the close of an open subtree.
+-- The uses of span parts and symbols in the tokens that a builder holds. The top and the close span of an open subtree do not count.
 use Rattle.std.specs.Prelude.{List, ℕ, ◌∷◌, ◌++◌, length, bytes_eq}
 use Rattle.tt_base.specs.declared.span.SpanPart.{SpanPart}
 use Rattle.tt_base.specs.Building.{Stack, lowest, above}
@@ -17,10 +17,10 @@ abbrev pub held_symbols : Stack → List (List ℕ)
 held_symbols (lowest trees) = symbol_uses (flat trees)
 held_symbols (above outer kind open_span trees) = held_symbols outer ++ symbol_uses (flat trees)
 
--- how many different span parts are used
+-- the number of different span parts
 abbrev pub distinct_parts : Stack → ℕ
 distinct_parts stack = length (different same_part (held_parts stack))
 
--- how many different symbols are used
+-- the number of different symbols
 abbrev pub distinct_symbols : Stack → ℕ
 distinct_symbols stack = length (different bytes_eq (held_symbols stack))

@@ -1,4 +1,4 @@
--- What the contracts of the library speak of, whichever crate says it.
+-- The definitions that the contracts of the library cite, from all its crates.
 pub use Rattle.tt_base.specs.Asked
 pub use Rattle.tt_base.specs.Building
 pub use Rattle.tt_base.specs.BuildingCode

@@ -1,4 +1,4 @@
--- The fields of a builder stand for one thing at most.
+-- The fields of a flat builder represent at most one thing.
 use Rattle.std.specs.Prelude.{◌≡◌, ℕ, suc, List, [], ◌∷◌, ◌++◌, length, refl}
 use Rattle.std.specs.Coded.{Coded-set, coded_list, coded_ℕ, le_prop}
 use mathlib.Core.HLevel.{Σ_prop_path}
@@ -15,13 +15,13 @@ use Rattle.tt_base.specs.declared.token_tree.TokenTree.TheVariants as token
 use Rattle.tt.specs.FlatFields.{AreFieldsOf, HasHeld, open_header, places, written}
 use Rattle.tt.specs.FlatHeld.{Held}
 
--- The list that is written has the tokens held and the top.
+-- The list has one token more than the builder holds, the top.
 pub length-written : (top : Delimiter) (stack : Stack) → length (written top stack) ≡ suc (tokens_held stack)
 length-written top (lowest trees) = ap suc (length-flat trees)
 length-written top (above outer kind open_span trees) =
     omega (arith, length-append (written top outer) (open_header kind open_span ∷ flat trees), length-written top outer, length-flat trees)
 
--- Lists that are equal are cut alike.
+-- Equal lists are equal part by part if their first parts have the same length.
 cut_alike : {A : Type 0} (xs ys s t : List A) → length xs ≡ length ys → xs ++ s ≡ ys ++ t → (xs ≡ ys) × (s ≡ t)
 cut_alike [] [] s t n e = (refl, e)
 cut_alike [] (y ∷ ys) s t n e = absurd (omega (arith, n))
@@ -31,7 +31,7 @@ cut_alike (x ∷ xs) (y ∷ ys) s t n e =
     let first : x ≡ y = cc in
     (ap₂ ◌∷◌ first same, others)
 
--- So are lists with one more item at their ends.
+-- Lists with one more item at the end are equal item by item.
 pub last_alike : (xs ys : List ℕ) (x y : ℕ) → xs ++ x ∷ [] ≡ ys ++ y ∷ [] → (xs ≡ ys) × (x ≡ y)
 last_alike xs ys x y e =
     let n : length xs ≡ length ys = omega (arith, ap length e, length-append xs (x ∷ []), length-append ys (y ∷ [])) in
@@ -48,7 +48,7 @@ first_of_list : TokenTree → List TokenTree → TokenTree
 first_of_list t [] = t
 first_of_list t (x ∷ xs) = x
 
--- Open headers tell their kinds and open spans.
+-- Equal open headers have the same kind and the same open span.
 open_alike : (k l : DelimiterKind) (s t : Span) → open_header k s ≡ open_header l t → (k ≡ l) × (s ≡ t)
 unfolding delimiter_of
 open_alike k l s t e = (
@@ -56,7 +56,7 @@ open_alike k l s t e = (
   ap (λ x. (delimiter_of (record { open_span = s; close = s; kind = k }) x).open_span) e,
 )
 
--- What is written tells the top and the levels.
+-- Equal lists with equal places have the same top and the same levels.
 pub written_alike : (top other : Delimiter) (a b : Stack) → written top a ≡ written other b → places a ≡ places b → (top ≡ other) × (a ≡ b)
 unfolding delimiter_of
 written_alike top other (lowest f) (lowest g) e p =
@@ -76,7 +76,7 @@ written_alike top other (above a k s f) (above b l t g) e p =
     let trees : f ≡ g = flat-injective f g cc in
     (tops, λ i. above (stack i) (kinds i) (spans i) (trees i))
 
--- The fields stand for one thing.
+-- The fields represent only one thing.
 pub held_alike : (tokens : List TokenTree) (headers : List ℕ) (a b : Held) → AreFieldsOf tokens headers a → AreFieldsOf tokens headers b → a ≡ b
 held_alike tokens headers a b x y =
     let (top, stack) = written_alike a.top b.top a.stack b.stack (sym x.list ∙ y.list) (sym x.open_places ∙ y.open_places) in
@@ -96,14 +96,14 @@ are_fields-prop tokens headers held =
       open_places = place_list_set headers (places held.stack) x.open_places y.open_places i;
     }
 
--- So it can stand in a ghost field.
+-- Such fields are a proposition, as a ghost field must be.
 pub HasHeld-prop : (tokens : List TokenTree) (headers : List ℕ) → IsProp (HasHeld tokens headers)
 HasHeld-prop tokens headers a b = Σ_prop_path (λ held. are_fields-prop tokens headers held) (held_alike tokens headers a.0 b.0 a.1 b.1)
 
--- What the fields stand for is what is shown to be theirs.
+-- What the fields represent is what they are shown to represent.
 pub held_is : (tokens : List TokenTree) (headers : List ℕ) (has : HasHeld tokens headers) (held : Held) → AreFieldsOf tokens headers held → has.0 ≡ held
 held_is tokens headers has held is = held_alike tokens headers has.0 held has.1 is
 
--- The fields stand for what is seen.
+-- The fields represent what the model shows.
 pub seen : (tokens : List TokenTree) (headers : List ℕ) (has : HasHeld tokens headers) (held : Held) → has.0 ≡ held → AreFieldsOf tokens headers held
 seen tokens headers has held e = subst (λ x. AreFieldsOf tokens headers x) e has.1

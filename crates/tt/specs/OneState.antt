@@ -1,4 +1,4 @@
--- The fields of a builder stand for one state at most.
+-- The fields of a builder represent at most one state.
 use Rattle.std.specs.Prelude.{◌≡◌, ℕ, zero, suc, ◌+◌, ◌<◌, ◌≤◌, List, [], ◌∷◌, ◌++◌, length, take, drop, Option, Some, None, refl}
 use Rattle.std.specs.List.{AllByRecursion-prop}
 use Rattle.std.specs.Coded.{Coded-set, coded_list, coded_ℕ, le_prop, ×_prop}
@@ -16,13 +16,13 @@ use Rattle.tt.specs.declared.builder.standing.Standing.{Standing}
 use Rattle.tt_base.specs.Building.{Stack, lowest, above, innermost, tokens_held, Point, BuilderState}
 use Rattle.tt.specs.BuilderFields.{written, places, open_header, tokens_before, innermost_start, IsNodeAt, IsMark, IsBehindPoints, IsNoted, AreNoted, IsEarlier, AreInOrder, IsStateOf, HasState}
 
--- The list that is written has the tokens held and the top.
+-- The list has one token more than the builder holds, the top.
 pub length-written : (top : Delimiter) (stack : Stack) → length (written top stack) ≡ suc (tokens_held stack)
 length-written top (lowest trees) = ap suc (length-flat trees)
 length-written top (above outer kind open_span trees) =
     omega (arith, length-append (written top outer) (open_header kind open_span ∷ flat trees), length-written top outer, length-flat trees)
 
--- Lists that are equal are cut alike.
+-- Equal lists are equal part by part if their first parts have the same length.
 cut_alike : {A : Type 0} (xs ys s t : List A) → length xs ≡ length ys → xs ++ s ≡ ys ++ t → (xs ≡ ys) × (s ≡ t)
 cut_alike [] [] s t n e = (refl, e)
 cut_alike [] (y ∷ ys) s t n e = absurd (omega (arith, n))
@@ -32,7 +32,7 @@ cut_alike (x ∷ xs) (y ∷ ys) s t n e =
     let first : x ≡ y = cc in
     (ap₂ ◌∷◌ first same, others)
 
--- So are lists with one more item at their ends.
+-- Lists with one more item at the end are equal item by item.
 pub last_alike : (xs ys : List ℕ) (x y : ℕ) → xs ++ x ∷ [] ≡ ys ++ y ∷ [] → (xs ≡ ys) × (x ≡ y)
 last_alike xs ys x y e =
     let n : length xs ≡ length ys = omega (arith, ap length e, length-append xs (x ∷ []), length-append ys (y ∷ [])) in
@@ -49,7 +49,7 @@ first_of_list : TokenTree → List TokenTree → TokenTree
 first_of_list t [] = t
 first_of_list t (x ∷ xs) = x
 
--- Open headers tell their kinds and open spans.
+-- Equal open headers have the same kind and the same open span.
 open_alike : (k l : DelimiterKind) (s t : Span) → open_header k s ≡ open_header l t → (k ≡ l) × (s ≡ t)
 unfolding delimiter_of
 open_alike k l s t e = (
@@ -57,7 +57,7 @@ open_alike k l s t e = (
   ap (λ x. (delimiter_of (record { open_span = s; close = s; kind = k }) x).open_span) e,
 )
 
--- What is written tells the top and the levels.
+-- Equal lists with equal places have the same top and the same levels.
 pub written_alike : (top other : Delimiter) (a b : Stack) → written top a ≡ written other b → places a ≡ places b → (top ≡ other) × (a ≡ b)
 unfolding delimiter_of
 written_alike top other (lowest f) (lowest g) e p =
@@ -77,7 +77,7 @@ written_alike top other (above a k s f) (above b l t g) e p =
     let trees : f ≡ g = flat-injective f g cc in
     (tops, λ i. above (stack i) (kinds i) (spans i) (trees i))
 
--- Nodes before which as many tokens stand are one.
+-- Nodes with the same number of tokens before them are the same node.
 before_alike : (trees : Forest) (j k : ℕ) → IsNodeAt j trees → IsNodeAt k trees → tokens_before j trees ≡ tokens_before k trees → j ≡ k
 before_alike end j k x y e = absurd x
 before_alike (leaf it rest) zero k x y e = absurd x
@@ -88,7 +88,7 @@ before_alike (node d children rest) zero (suc k) x y e = absurd (omega (arith, e
 before_alike (node d children rest) (suc j) zero x y e = absurd (omega (arith, e))
 before_alike (node d children rest) (suc j) (suc k) x y e = ap suc (before_alike rest j k x y (omega (arith, e)))
 
--- One mark is meant.
+-- A place represents only one mark.
 marks_alike : (stack : Stack) (place a b : Option ℕ) → IsMark stack place a → IsMark stack place b → a ≡ b
 marks_alike stack None None None x y = refl
 marks_alike stack None None (Some k) x y = absurd y
@@ -98,7 +98,7 @@ marks_alike stack (Some place) (Some j) None x y = absurd y
 marks_alike stack (Some place) (Some j) (Some k) x y =
     ap Some (before_alike (innermost stack) j k x.1 y.1 (omega (arith, x.0, y.0)))
 
--- One point is kept.
+-- Two lengths represent only one point.
 point_alike : (top : Delimiter) (tokens : List TokenTree) (headers : List ℕ) (kept : Standing) (a b : Point)
     → IsNoted top tokens headers kept a → IsNoted top tokens headers kept b → a ≡ b
 point_alike top tokens headers kept a b x y =
@@ -106,7 +106,7 @@ point_alike top tokens headers kept a b x y =
     let number : a.number ≡ b.number = sym x.numbered ∙ y.numbered in
     λ i. record { number = number i; stack = stack i }
 
--- So are all.
+-- Lists of them represent only one list of points.
 points_alike : (top : Delimiter) (tokens : List TokenTree) (headers : List ℕ) (kept : List Standing) (a b : List Point)
     → AreNoted top tokens headers kept a → AreNoted top tokens headers kept b → a ≡ b
 points_alike top tokens headers [] [] [] x y = refl
@@ -117,7 +117,7 @@ points_alike top tokens headers (k ∷ kept) (p ∷ a) [] x y = absurd y
 points_alike top tokens headers (k ∷ kept) (p ∷ a) (q ∷ b) x y =
     ap₂ ◌∷◌ (point_alike top tokens headers k p q x.0 y.0) (points_alike top tokens headers kept a b x.1 y.1)
 
--- The fields stand for one state.
+-- The fields represent only one state.
 pub states_alike : (tokens : List TokenTree) (headers : List ℕ) (mark : Option ℕ) (points : List Standing) (taken : ℕ) (a b : BuilderState)
     → IsStateOf tokens headers mark points taken a → IsStateOf tokens headers mark points taken b → a ≡ b
 states_alike tokens headers mark points taken a b x y =
@@ -195,19 +195,19 @@ is_state-prop tokens headers mark points taken s =
       count = Coded-set coded_ℕ taken s.taken x.count y.count i;
     }
 
--- So the state can stand in a ghost field.
+-- Such fields are a proposition, as a ghost field must be.
 pub HasState-prop : (tokens : List TokenTree) (headers : List ℕ) (mark : Option ℕ) (points : List Standing) (taken : ℕ)
     → IsProp (HasState tokens headers mark points taken)
 HasState-prop tokens headers mark points taken a b =
     Σ_prop_path (λ s. is_state-prop tokens headers mark points taken s)
     (states_alike tokens headers mark points taken a.0 b.0 a.1 b.1)
 
--- What the fields stand for is the state that is shown to be theirs.
+-- The state that the fields represent is the one that they are shown to represent.
 pub state_is : (tokens : List TokenTree) (headers : List ℕ) (mark : Option ℕ) (points : List Standing) (taken : ℕ)
     (has : HasState tokens headers mark points taken) (s : BuilderState) → IsStateOf tokens headers mark points taken s → has.0 ≡ s
 state_is tokens headers mark points taken has s is = states_alike tokens headers mark points taken has.0 s has.1 is
 
--- The fields stand for the state that is seen.
+-- The fields represent the state that the model shows.
 pub seen : (tokens : List TokenTree) (headers : List ℕ) (mark : Option ℕ) (points : List Standing) (taken : ℕ)
     (has : HasState tokens headers mark points taken) (s : BuilderState) → has.0 ≡ s → IsStateOf tokens headers mark points taken s
 seen tokens headers mark points taken has s e = subst (λ x. IsStateOf tokens headers mark points taken x) e has.1

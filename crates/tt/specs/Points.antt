@@ -1,4 +1,4 @@
--- What contracts see of restore points, and of the iterator over open subtrees.
+-- The number of a restore point, and the kinds that an iterator over open subtrees has left.
 use Rattle.std.specs.Prelude.{ℕ, List}
 use Rattle.tt_base.specs.declared.delimiter.DelimiterKind.{DelimiterKind}
 use Rattle.tt.specs.declared.builder.expected.ExpectedDelimiters.{ExpectedDelimiters}
@@ -9,6 +9,6 @@ use Rattle.tt.specs.InternedKinds.{named_kinds_at}
 abbrev pub number_of : SubtreeBuilderRestorePoint → ℕ
 number_of point = point.number
 
--- the kinds that are still to come
+-- the kinds that the iterator has not returned yet
 abbrev pub kinds_left : ExpectedDelimiters → List DelimiterKind
 kinds_left kinds = named_kinds_at kinds.tokens.now kinds.places.now

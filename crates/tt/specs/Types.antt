@@ -1,4 +1,4 @@
--- The types that definitions of a user speak of.
+-- The types that a user's definitions need.
 pub use Rattle.tt_base.specs.declared.delimiter.Delimiter
 pub use Rattle.tt_base.specs.declared.delimiter.DelimiterKind
 pub use Rattle.tt_base.specs.declared.delimiter.DelimSpan

@@ -1,3 +1,3 @@
-//! Walking through trees, into and out of subtrees.
+//! Walks through trees, into and out of subtrees.
 
 pub use tt_view::Cursor;

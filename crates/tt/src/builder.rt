@@ -1,4 +1,4 @@
-//! Building a token tree by opening and closing subtrees.
+//! Builds a token tree: a caller opens and closes subtrees and appends leaves.
 ghost use Rattle.std.specs.Prelude.{◌≡◌, ◌⊎◌, ◌^◌, ◌-◌, ◌<◌, List, length, suc, IfOk, IfErr, OnOk, OnErr, MatchBool, Some, is_some, bytes_eq};
 ghost use Rattle.std.specs.Iterator.{Drains, IsFinite, YieldsThen};
 ghost use Rattle.tt_base.specs.Building.{empty_builder, opened, pushed, extended, alone, closed, removed, open_kinds, point_taken, noted, restored, built, built_skipping, HasRoom, IsOpen, IsGrowthFault};
@@ -32,20 +32,20 @@ use tt_base::{Delimiter, DelimiterKind, Leaf, Refused, Span, SpanPart, Symbol, T
 use tt_interned::InternedTokens;
 use tt_view::{TokenTreesView, TopSubtree};
 
-// For how many tokens room is made at first. They take 1,000 bytes, which allocators still take for a small block.
+// The number of tokens for which `new` asks for memory. They take 1,000 bytes, which allocators still take for a small block.
 const FEW_TOKENS: usize = 25;
 
-/// Builds a token tree by opening and closing subtrees. A contract sees the levels, the mark and the points that stand.
+/// Builds a token tree: a caller opens and closes subtrees. A contract sees the levels, the mark and the valid restore points.
 #[derive(Drop, Debug)]
 pub struct TopSubtreeBuilder {
     top: Delimiter,
-    // the tokens held, with how often parts and symbols are used in them
+    // the tokens held, with the number of uses of each span part and symbol
     held: InternedTokens,
-    // where the headers of the open subtrees stand, outermost first, where the top counts as the first token
+    // the places of the headers of the open subtrees, outermost first; place 0 is the top
     headers: Vec<usize>,
-    // where the header of the subtree closed last stands
+    // the place of the header of the subtree that was closed last
     mark: Option<usize>,
-    // oldest first
+    // the valid restore points, oldest first
     points: Vec<Standing>,
     taken: u64,
     alloc: Global,
@@ -67,7 +67,7 @@ impl Model for TopSubtreeBuilder {
 impl TopSubtreeBuilder {
     ghost use Rattle.tt.specs.Points.{number_of, kinds_left};
 
-    /// A builder of a tree under that delimiter, which holds nothing yet.
+    /// Returns a builder of a tree under that delimiter. It holds no tokens. Fails only if memory runs out.
     pub fn new(alloc: Global, top: Delimiter) -> Result<TopSubtreeBuilder, TtFault>
         ensures ok { IfOk result (λ builder. builder ≡ empty_builder top) }
         ensures err { IfErr result (λ fault. fault ≡ Memory) }
@@ -83,7 +83,8 @@ impl TopSubtreeBuilder {
         })
     }
 
-    /// Opens a subtree, and clears the mark.
+    /// Opens a subtree, and clears the mark. Fails, and changes nothing, if the tree would have more than 4,294,967,295 tokens below the
+    /// top (`TooManyTokens`), or if memory runs out.
     pub fn open(&mut self, kind: DelimiterKind, open_span: Span) -> Result<(), TtFault>
         ensures ok { OnOk result (self.new ≡ opened kind open_span self.old) }
         ensures room { OnOk result (HasRoom 1 self.old) }
@@ -105,7 +106,7 @@ impl TopSubtreeBuilder {
         Ok(())
     }
 
-    /// Appends a leaf; the mark stays.
+    /// Appends a leaf, and keeps the mark. Fails as `open` does, and then returns the leaf.
     pub fn push(&mut self, leaf: Leaf) -> Result<(), Refused<Leaf>>
         ensures ok { OnOk result (self.new ≡ pushed leaf self.old) }
         ensures room { OnOk result (HasRoom 1 self.old) }
@@ -128,8 +129,8 @@ impl TopSubtreeBuilder {
         Ok(())
     }
 
-    /// Closes the innermost open subtree, and marks it. The points that were taken while it was open go.
-    /// `is_open` tells whether a subtree is open.
+    /// Closes the innermost open subtree, and marks it. The restore points that were taken while it was open become invalid. `is_open`
+    /// returns whether a subtree is open. Fails, and changes nothing, if memory runs out.
     pub fn close(&mut self, close_span: Span) -> Result<(), TtFault>
         requires { IsOpen self.old }
         ensures ok { OnOk result (self.new ≡ closed close_span self.old) }
@@ -149,8 +150,8 @@ impl TopSubtreeBuilder {
         Ok(())
     }
 
-    /// Appends the leaves that an iterator gives; the mark stays. The iterator has to end, as its type tells: those of
-    /// vectors and arrays do. Where the leaves are refused, those that it gave are dropped.
+    /// Appends the leaves of an iterator, and keeps the mark. The iterator must end; those of vectors and arrays do. Fails as `open`
+    /// does, at the first leaf that it cannot append; the builder then holds what it held, and drops the leaves that it took.
     pub fn extend<I: Iterator<Item = Leaf> + Drop>(&mut self, leaves: I) -> Result<(), TtFault>
         requires can { I.can_next leaves }
         requires ends { IsFinite (I.remaining leaves) }
@@ -168,7 +169,8 @@ impl TopSubtreeBuilder {
         }
     }
 
-    /// Appends trees; the mark stays.
+    /// Appends trees, and keeps the mark. Fails, and changes nothing, if the tree would have more than 4,294,967,295 tokens below the top
+    /// (`TooManyTokens`), or if memory runs out.
     pub fn extend_with_tt(&mut self, trees: TokenTreesView<'_>) -> Result<(), TtFault>
         ensures ok { OnOk result (self.new ≡ extended (trees_of trees.entry) self.old) }
         ensures room { OnOk result (HasRoom (size (trees_of trees.entry)) self.old) }
@@ -185,7 +187,7 @@ impl TopSubtreeBuilder {
         Ok(())
     }
 
-    /// Appends trees, of which the last token becomes alone if it is a punct; the mark stays.
+    /// Appends trees, and keeps the mark. If the last token is a punct, it becomes alone. Fails as `extend_with_tt` does.
     pub fn extend_with_tt_alone(&mut self, trees: TokenTreesView<'_>) -> Result<(), TtFault>
         ensures ok { OnOk result (self.new ≡ extended (alone (trees_of trees.entry)) self.old) }
         ensures room { OnOk result (HasRoom (size (trees_of trees.entry)) self.old) }
@@ -202,7 +204,7 @@ impl TopSubtreeBuilder {
         Ok(())
     }
 
-    /// If the marked subtree is invisible, its header goes and its children take its place; the mark goes in any case.
+    /// Puts the children of the marked subtree in its place if that subtree is invisible. Clears the mark in any case.
     pub fn remove_last_subtree_if_invisible(&mut self)
         ensures { self.new ≡ removed self.old }
     {
@@ -215,8 +217,9 @@ impl TopSubtreeBuilder {
         }
     }
 
-    /// Takes a restore point, and clears the mark. It stands until a subtree that is open now is closed, or a standing
-    /// point with fewer tokens is restored.
+    /// Returns a new restore point, and clears the mark. The point is valid until a subtree that is open now is closed, or a valid point
+    /// with fewer tokens is restored. Fails, and changes nothing, if all numbers of points are used (`PointsSpent`), or if memory runs
+    /// out.
     pub fn restore_point(&mut self) -> Result<SubtreeBuilderRestorePoint, TtFault>
         ensures ok { IfOk result (λ point. number_of point ≡ self.old.taken) }
         ensures state { OnOk result (self.new ≡ point_taken self.old) }
@@ -241,14 +244,15 @@ impl TopSubtreeBuilder {
         Ok(SubtreeBuilderRestorePoint::from_number(number))
     }
 
-    /// How many restore points were ever taken, which is the number of the next one.
+    /// Returns the number of restore points that were ever taken. This is also the number of the next one.
     pub fn points_taken(&self) -> u64
         ensures { result ≡ self.now.taken }
     {
         self.taken
     }
 
-    /// Goes back to what was held when the point was taken, and clears the mark, if the point stands; answers whether it does.
+    /// Returns whether the restore point is valid. If it is, goes back to what the builder held when the point was taken, and clears the
+    /// mark; otherwise changes nothing.
     pub fn restore(&mut self, point: SubtreeBuilderRestorePoint) -> bool
         ensures answer { result ≡ is_some (noted (number_of point) self.old.points) }
         ensures state { self.new ≡ restored (number_of point) self.old }
@@ -263,7 +267,7 @@ impl TopSubtreeBuilder {
         true
     }
 
-    /// The tree, where no subtree is open, of which `is_open` tells. A refusal hands the builder back.
+    /// Returns the tree. No subtree is open; `is_open` returns whether one is. A failure returns the builder.
     pub fn build(self) -> Result<TopSubtree, Refused<TopSubtreeBuilder>>
         requires { IsOpen self → ⊥ }
         ensures ok { IfOk result (λ tree. tree ≡ built self) }
@@ -277,8 +281,8 @@ impl TopSubtreeBuilder {
         }
     }
 
-    /// What it holds as a tree of its own, where that is exactly one subtree; else as `build`. No subtree is open, of which
-    /// `is_open` tells.
+    /// Returns what the builder holds as a tree of its own if that is exactly one subtree; otherwise the same as `build`. No subtree is
+    /// open; `is_open` returns whether one is. A failure returns the builder.
     pub fn build_skip_top_subtree(self) -> Result<TopSubtree, Refused<TopSubtreeBuilder>>
         requires { IsOpen self → ⊥ }
         ensures ok { IfOk result (λ tree. tree ≡ built_skipping self) }
@@ -295,7 +299,7 @@ impl TopSubtreeBuilder {
         }
     }
 
-    /// The kinds of the open subtrees, innermost first, without the top.
+    /// Returns the kinds of the delimiters of the open subtrees, innermost first, without the top.
     pub fn expected_delimiters(&self) -> ExpectedDelimiters<'_>
         ensures { kinds_left result ≡ open_kinds self.now.stack }
     {
@@ -305,14 +309,14 @@ impl TopSubtreeBuilder {
         }
     }
 
-    /// Whether a subtree is open, the top left aside.
+    /// Returns whether a subtree other than the top is open.
     pub fn is_open(&self) -> bool
         ensures { MatchBool result (IsOpen self.now) (IsOpen self.now → ⊥) }
     {
         !self.headers.is_empty()
     }
 
-    /// A builder that holds the same, with the same points.
+    /// Returns a builder that holds the same, with the same restore points. Fails only if memory runs out.
     pub fn clone(&self) -> Result<TopSubtreeBuilder, TtFault>
         ensures ok { IfOk result (λ copy. copy ≡ self.now) }
         ensures err { IfErr result (λ fault. fault ≡ Memory) }
@@ -333,21 +337,22 @@ impl TopSubtreeBuilder {
         })
     }
 
-    /// How often a span's part is used in the tokens held. The top and the close of an open subtree are not counted.
+    /// Returns how many times the tokens held use the part of this span. The spans of the top and the close span of an open subtree do
+    /// not count.
     pub fn span_part_uses(&self, span: &Span) -> usize
         ensures { result ≡ uses_of same_part (held_parts self.now.stack) (part_of span.now) }
     {
         self.held.part_uses(&SpanPart::from_span(span))
     }
 
-    /// How often a symbol is used in the tokens held.
+    /// Returns how many times the tokens held use a symbol.
     pub fn symbol_uses(&self, symbol: &Symbol) -> usize
         ensures { result ≡ uses_of bytes_eq (held_symbols self.now.stack) symbol.now }
     {
         self.held.symbol_uses(symbol)
     }
 
-    /// How many different span parts and how many different symbols are used in the tokens held.
+    /// Returns how many different span parts and how many different symbols the tokens held use.
     pub fn distinct_counts(&self) -> (usize, usize)
         ensures parts { result.0 ≡ distinct_parts self.now.stack }
         ensures symbols { result.1 ≡ distinct_symbols self.now.stack }

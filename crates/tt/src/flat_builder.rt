@@ -1,4 +1,4 @@
-//! A tree built by opening and closing subtrees, as one flat list.
+//! Builds a tree as one flat list: a caller opens and closes subtrees.
 ghost use Rattle.std.specs.Prelude.{◌≡◌, ◌<◌, ◌≤◌, ◌-◌, IfOk, IfErr, IsTrue, OnOk, OnErr, length, set, get_or, vec_len};
 ghost use Rattle.std.specs.Vec.{vec_capacity};
 ghost use Rattle.tt_base.specs.declared.fault.TtFault.TheVariants.{Memory};
@@ -14,13 +14,14 @@ use std::marker::Model;
 use tt_base::{Delimiter, DelimiterKind, Leaf, Refused, Span, Subtree, TokenTree, TtFault};
 use tt_view::TopSubtree;
 
-/// Builds a tree by opening and closing subtrees, as one flat list that is packed at the end. It looks at no value of a token
-/// before that, where `TopSubtreeBuilder` counts each as it comes; so it cannot go back. A contract sees the levels.
+/// Builds a tree as one flat list: a caller opens and closes subtrees. `build` packs the list. Before that, this builder looks at no
+/// value of a token, while `TopSubtreeBuilder` counts each value when it comes; so this builder cannot go back. A contract sees the
+/// levels.
 #[derive(Drop)]
 pub struct FlatBuilder {
-    // the top's header and the tokens held; the count and the close span of an open header are set when it is closed
+    // the top's header and the tokens held; `close` sets the count and the close span of a header
     tokens: Vec<TokenTree>,
-    // where the headers of the open subtrees stand, outermost first
+    // the places of the headers of the open subtrees, outermost first
     headers: Vec<usize>,
     alloc: Global,
     ghost state: { HasHeld tokens.items headers.items } by { HasHeld-prop tokens.items headers.items },
@@ -37,7 +38,8 @@ impl Model for FlatBuilder {
 }
 
 impl FlatBuilder {
-    /// A builder of a tree under that delimiter, which holds nothing yet, with room for so many tokens.
+    /// Returns a builder of a tree under that delimiter, with room for `tokens` tokens below the top. It holds no tokens. Fails only if
+    /// memory runs out.
     pub fn with_capacity(
         alloc: Global,
         top: Delimiter,
@@ -58,7 +60,8 @@ impl FlatBuilder {
         })
     }
 
-    /// Opens a subtree.
+    /// Opens a subtree. Fails, and changes nothing, if the tree would have more than 4,294,967,295 tokens below the top
+    /// (`TooManyTokens`), or if memory runs out.
     pub fn open(&mut self, kind: DelimiterKind, open_span: Span) -> Result<(), TtFault>
         ensures ok { OnOk result (self.new ≡ opened kind open_span self.old) }
         ensures err { OnErr result (self.new ≡ self.old) }
@@ -82,7 +85,7 @@ impl FlatBuilder {
         Ok(())
     }
 
-    /// Appends a leaf.
+    /// Appends a leaf. Fails as `open` does.
     #[inline]
     pub fn push(&mut self, leaf: Leaf) -> Result<(), TtFault>
         ensures ok { OnOk result (self.new ≡ pushed leaf self.old) }
@@ -99,7 +102,7 @@ impl FlatBuilder {
         Ok(())
     }
 
-    /// Closes the innermost open subtree. Whoever opens and closes knows whether one is open.
+    /// Closes the innermost open subtree. A subtree is open: a caller knows this from its calls of `open` and `close`.
     pub fn close(&mut self, close_span: Span)
         requires { IsOpen self.old }
         ensures { self.new ≡ closed close_span self.old }
@@ -110,7 +113,7 @@ impl FlatBuilder {
         close_header(&mut self.tokens, place, close_span);
     }
 
-    /// The tree, where no subtree is open.
+    /// Returns the tree. No subtree is open: a caller knows this from its calls of `open` and `close`.
     pub fn build(self) -> Result<TopSubtree, TtFault>
         requires { IsOpen self → ⊥ }
         ensures ok { IfOk result (λ tree. tree ≡ built self) }
@@ -135,7 +138,7 @@ impl FlatBuilder {
     }
 }
 
-// Makes room for one token and one open header, if there is memory for both.
+// Makes room for one token and one open header. Returns whether there is memory for both.
 fn make_room(tokens: &mut Vec<TokenTree>, headers: &mut Vec<usize>) -> bool
     ensures tokens { tokens.new.items ≡ tokens.old.items }
     ensures headers { headers.new.items ≡ headers.old.items }
@@ -148,7 +151,7 @@ fn make_room(tokens: &mut Vec<TokenTree>, headers: &mut Vec<usize>) -> bool
     headers.reserve(1).is_ok()
 }
 
-// Gives the header at a place its close span, and the count of all tokens behind it.
+// Sets the close span of the header at a place, and its count: the number of tokens after it.
 fn close_header(tokens: &mut Vec<TokenTree>, place: usize, close_span: Span)
     requires within { place < length tokens.old.items }
     requires few { length tokens.old.items ≤ 4294967296 }
@@ -161,7 +164,7 @@ fn close_header(tokens: &mut Vec<TokenTree>, place: usize, close_span: Span)
     }
 }
 
-// Gives the first header the count of all tokens behind it.
+// Sets the count of the first header to the number of tokens after it.
 fn count_below(tokens: &mut Vec<TokenTree>)
     requires some { 0 < length tokens.old.items }
     requires few { length tokens.old.items ≤ 4294967296 }

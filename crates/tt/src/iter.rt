@@ -1,3 +1,3 @@
-//! Reading trees sibling by sibling.
+//! Reads trees sibling by sibling.
 
 pub use tt_view::{TtElement, TtIter, TtIterSavepoint};

@@ -1,6 +1,4 @@
-//! Token trees: all that a user of the library calls.
-//!
-//! What contracts speak of stands in `specs/` of this crate.
+//! Token trees: all that a user of the library calls. `specs/` has the definitions that contracts cite.
 #![tactic(auto)]
 
 pub mod buffer;

@@ -1,4 +1,4 @@
-//! Trees as texts. What is left of each subtree that was entered is kept in memory, so a tree may be as deep as that holds.
+//! Trees as texts. The rest of each open subtree is in memory and not on the stack, so only memory limits the depth of a tree.
 ghost use Rattle.std.specs.Prelude.{◌≡◌, ◌++◌, false, IfOk, IfErr, OnOk, string_bytes};
 ghost use Rattle.tt_base.specs.DebugText.{break_if, debug, header_line, indent, leaf_line, lines_text};
 ghost use Rattle.tt_base.specs.LeafText.{ident_text, leaf_text};
@@ -14,14 +14,14 @@ use tt_base::{
 use tt_view::text::{SpaceRule, closing, leaf_lets_space, opening, space};
 use tt_view::{TokenTreesView, TtElement, TtIter};
 
-// What is left of a subtree that was entered, and what stands round it.
+// The rest of a subtree that was entered, and the kind of its delimiter.
 #[derive(Drop)]
 struct Level<'a> {
     rest: TtIter<'a>,
     kind: DelimiterKind,
 }
 
-/// The trees with one space between siblings, except behind a punct that is joint.
+/// Returns the trees as a text with one space between siblings, but none after a joint punct. Fails only if memory runs out.
 pub fn pretty(alloc: Global, trees: TokenTreesView<'_>) -> Result<String, TtFault>
     ensures ok { IfOk result (λ text. string_bytes text ≡ pretty (trees_of trees.entry)) }
     ensures err { IfErr result (λ fault. fault ≡ Memory) }
@@ -30,7 +30,8 @@ pub fn pretty(alloc: Global, trees: TokenTreesView<'_>) -> Result<String, TtFaul
     Ok(text)
 }
 
-/// The text that Display writes, which takes stack for each level of the trees where this takes memory.
+/// Returns the text that `Display` writes. `Display` takes stack for each level of the trees, and this function takes memory. Fails only
+/// if memory runs out.
 pub fn display_text(alloc: Global, trees: TokenTreesView<'_>) -> Result<String, TtFault>
     ensures ok { IfOk result (λ text. string_bytes text ≡ display (trees_of trees.entry)) }
     ensures err { IfErr result (λ fault. fault ≡ Memory) }
@@ -39,7 +40,8 @@ pub fn display_text(alloc: Global, trees: TokenTreesView<'_>) -> Result<String, 
     Ok(text)
 }
 
-/// The text that Debug writes, which takes stack for each level of the trees where this takes memory.
+/// Returns the text that `Debug` writes. `Debug` takes stack for each level of the trees, and this function takes memory. Fails only if
+/// memory runs out.
 pub fn debug_text(alloc: Global, trees: TokenTreesView<'_>) -> Result<String, TtFault>
     ensures ok { IfOk result (λ text. string_bytes text ≡ debug (trees_of trees.entry)) }
     ensures err { IfErr result (λ fault. fault ≡ Memory) }
@@ -48,7 +50,7 @@ pub fn debug_text(alloc: Global, trees: TokenTreesView<'_>) -> Result<String, Tt
     Ok(text)
 }
 
-// Adds an ident.
+// Appends the text of an ident.
 fn write_ident(text: &mut String, ident: &Ident) -> Result<(), AllocError>
     ensures { OnOk result (string_bytes text.new ≡ string_bytes text.old ++ ident_text ident.now) }
 {
@@ -56,7 +58,7 @@ fn write_ident(text: &mut String, ident: &Ident) -> Result<(), AllocError>
     text.push_str(ident.sym.as_str())
 }
 
-// Adds the text of the leaf. Most are puncts and idents, which need no formatter.
+// Appends the text of a leaf. Most leaves are puncts and idents, which need no formatter.
 fn write_text(text: &mut String, leaf: &Leaf) -> Result<(), AllocError>
     ensures { OnOk result (string_bytes text.new ≡ string_bytes text.old ++ leaf_text leaf.now) }
 {
@@ -67,7 +69,7 @@ fn write_text(text: &mut String, leaf: &Leaf) -> Result<(), AllocError>
     }
 }
 
-// Adds the leaf, behind a space if one is due, and tells whether a space may stand behind it.
+// Appends the text of a leaf, after a space if one is due. Returns whether a space may follow.
 fn write_leaf(text: &mut String, rule: SpaceRule, due: bool, leaf: Leaf) -> Result<bool, AllocError>
     ensures written { OnOk result (string_bytes text.new ≡ string_bytes text.old ++ (space_if due ++ leaf_text leaf)) }
     ensures due { IfOk result (λ next. next ≡ space_after (lets_of rule) leaf) }
@@ -77,7 +79,7 @@ fn write_leaf(text: &mut String, rule: SpaceRule, due: bool, leaf: Leaf) -> Resu
     Ok(leaf_lets_space(rule, &leaf))
 }
 
-// Adds what opens a subtree of that kind, behind a space if one is due.
+// Appends the bracket that opens a subtree of that kind, after a space if one is due.
 fn write_opening(text: &mut String, due: bool, kind: DelimiterKind) -> Result<(), AllocError>
     ensures { OnOk result (string_bytes text.new ≡ string_bytes text.old ++ (space_if due ++ opening_text kind)) }
 {
@@ -85,7 +87,7 @@ fn write_opening(text: &mut String, due: bool, kind: DelimiterKind) -> Result<()
     text.push_str(opening(kind))
 }
 
-// Adds the line of the leaf, behind a line feed if one is due.
+// Appends the line of a leaf, after a line feed if one is due.
 fn write_leaf_line(text: &mut String, due: bool, depth: usize, leaf: Leaf) -> Result<(), AllocError>
     ensures { OnOk result (string_bytes text.new ≡ string_bytes text.old ++ ((break_if due ++ indent depth) ++ leaf_line leaf)) }
 {
@@ -93,7 +95,7 @@ fn write_leaf_line(text: &mut String, due: bool, depth: usize, leaf: Leaf) -> Re
     write!(text, "{gap}{}{line}", Indent(depth))
 }
 
-// Adds the line of the header, behind a line feed if one is due.
+// Appends the line of a header, after a line feed if one is due.
 fn write_header_line(
     text: &mut String,
     due: bool,
@@ -106,7 +108,7 @@ fn write_header_line(
     write!(text, "{gap}{}{line}", Indent(depth))
 }
 
-// The trees on one line, with spaces by the rule.
+// Returns the trees on one line, with spaces by the rule.
 fn spaced_text(
     alloc: Global,
     rule: SpaceRule,
@@ -116,12 +118,12 @@ fn spaced_text(
 {
     let mut text = String::new(alloc);
     let mut due = false;
-    // the trees themselves stand in nothing that is printed
+    // no bracket is written around all the trees
     let mut level = Level {
         rest: trees.iter(),
         kind: DelimiterKind::Invisible,
     };
-    // what is left of those round it, the innermost last
+    // the rest of each outer subtree, the innermost last
     let mut outer = Vec::new(alloc);
     'tokens: loop {
         match level.rest.next() {
@@ -148,14 +150,14 @@ fn spaced_text(
     }
 }
 
-// A line for each token.
+// Returns a text with a line for each token.
 fn token_lines(alloc: Global, trees: TokenTreesView<'_>) -> Result<String, AllocError>
     ensures { IfOk result (λ text. string_bytes text ≡ lines_text false 0 (trees_of trees.entry)) }
 {
     let mut text = String::new(alloc);
     let mut due = false;
     let mut level = trees.iter();
-    // what is left of the levels round it, the innermost last
+    // the rest of each outer level, the innermost last
     let mut outer = Vec::new(alloc);
     'tokens: loop {
         match level.next() {
@@ -174,7 +176,7 @@ fn token_lines(alloc: Global, trees: TokenTreesView<'_>) -> Result<String, Alloc
                     return Ok(text);
                 };
                 level = round;
-                // the level ended behind a line
+                // the last line of the level has no line feed yet
                 due = true;
             }
         }

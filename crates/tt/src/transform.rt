@@ -1,4 +1,4 @@
-//! Trees rewritten by a callback.
+//! Rewrites trees by a callback.
 ghost use Rattle.std.specs.Prelude.{◌≡◌, ◌⊎◌, IfOk, IfErr, OnOk, OnErr};
 ghost use Rattle.std.specs.Fn.{CalledAt};
 ghost use Rattle.tt_base.specs.declared.fault.TtFault.TheVariants.{Memory};
@@ -14,17 +14,17 @@ use tt_base::{TokenTree, TtFault};
 use tt_view::{TokenTreesView, TopSubtree};
 use work::rewritten_list;
 
-/// What becomes of a token.
+/// What `transform_tt` does with a token.
 #[derive(Clone, Copy, Debug)]
 pub enum TransformTtAction<'a> {
-    /// It stays. What a header holds is asked for next.
+    /// Keeps the token. If it is a header, the callback is called for what its subtree holds.
     Keep,
-    /// These trees take the place of the leaf, or of the whole subtree.
+    /// Puts these trees in the place of the leaf, or of the whole subtree.
     ReplaceWith(TokenTreesView<'a>),
 }
 
 impl<'a> TransformTtAction<'a> {
-    /// Nothing takes its place.
+    /// Returns the action that removes the leaf or the whole subtree.
     pub fn remove() -> TransformTtAction<'a>
         ensures { action_of result ≡ replace end }
     {
@@ -32,11 +32,12 @@ impl<'a> TransformTtAction<'a> {
     }
 }
 
-/// Asks the callback for each token in reading order, from the top on, and rewrites the tree by its answers. Each
-/// header is shown with its own count. What a replaced subtree holds is not asked for, and what takes a place is not
-/// either. The tree is then stored anew. Where the result is not one subtree (fault 2), or is too large, or memory is
-/// refused, the tree stays as it was; unless it is memory, the callback was asked in full. The callback may be called with any
-/// token, as one without a `requires` may.
+/// Calls the callback for each token in reading order, from the top on, and rewrites the tree by its answers. The callback sees each
+/// header with its old count. It is not called for what a replaced subtree holds, nor for the trees of a replacement. The callback must
+/// accept any token, as one without a `requires` does.
+///
+/// Fails, and leaves the tree as it was, if the result is not one subtree (`NotOneSubtree`), if it exceeds a limit of a tree, or if
+/// memory runs out. Unless memory ran out, the callback was called for all tokens.
 pub fn transform_tt<'b, F: FnMut(&TokenTree) -> TransformTtAction<'b>>(
     alloc: Global,
     tree: &mut TopSubtree,
@@ -52,7 +53,7 @@ pub fn transform_tt<'b, F: FnMut(&TokenTree) -> TransformTtAction<'b>>(
     Ok(())
 }
 
-// The tree rewritten, stored anew.
+// Returns the rewritten tree.
 fn rewritten<'b, F: FnMut(&TokenTree) -> TransformTtAction<'b>>(
     alloc: Global,
     tree: &TopSubtree,
@@ -69,7 +70,7 @@ fn rewritten<'b, F: FnMut(&TokenTree) -> TransformTtAction<'b>>(
     }
 }
 
-// The tree of what came out, if that is one subtree.
+// Returns the tree whose flat list this is. Fails if the list is not that of one subtree, exceeds a limit, or memory runs out.
 fn stored(alloc: Global, list: Vec<TokenTree>) -> Result<TopSubtree, TtFault>
     ensures ok { IfOk result (λ tree. list.items ≡ flat_root tree) }
     ensures limits { IfOk result (λ tree. IsWithinLimits tree) }
@@ -79,29 +80,29 @@ fn stored(alloc: Global, list: Vec<TokenTree>) -> Result<TopSubtree, TtFault>
         None => Err(TtFault::NotOneSubtree),
         Some((TokenTree::Leaf(_), _)) => Err(TtFault::NotOneSubtree),
         Some((TokenTree::Subtree(top), _)) => {
-            // What a header counts fits its type, so the list is not refused for that.
+            // Reads the count, whose type shows that the list is short enough.
             let _len = top.len;
             Ok(TopSubtree::from_serialized(alloc, list)?)
         }
     }
 }
 
-// A kept subtree that is not read to its end: where its header stands in the list, and the trees behind it.
+// A kept subtree with trees that are not read yet: the place of its header in the list, and the trees after it.
 #[derive(Clone, Copy)]
 struct Frame<'t> {
     header: usize,
     rest: TokenTreesView<'t>,
 }
 
-// A rewriting on its way.
+// The state of a rewriting.
 #[derive(Drop)]
 struct Rewriting<'t> {
-    // what came out; the headers of the open subtrees have their old counts
+    // the tokens written so far; the headers of the open subtrees have their old counts
     list: Vec<TokenTree>,
-    // the subtrees that are open, outermost first
+    // the open subtrees, outermost first
     frames: Vec<Frame<'t>>,
-    // what is left to read of the innermost
+    // the unread trees of the innermost open subtree
     rest: TokenTreesView<'t>,
-    // no subtree came out too large; if one did, the list is not written any more
+    // no written subtree is too large; once one is, the list does not grow any more
     fits: bool,
 }

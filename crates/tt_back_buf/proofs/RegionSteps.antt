@@ -1,8 +1,8 @@
 -- Room and bytes of one block, side by side. Assumes `Logic`.
 --     last_place      room is the place of its last byte, and the room before that
---     one_more        a byte in a place is the first of the bytes behind it
+--     one_more        a byte in a place is the first of the bytes after it
 --     no_bytes        no bytes lie anywhere
---     all_room        room and the bytes behind it are room for all
+--     all_room        room, and the bytes after it, are room for all
 use Rattle.std.proofs.Common.{◌≡◌, ℕ, suc, ◌+◌, List, [], ◌∷◌, length, arith, refl, sym, ap, subst, ◌∙◌}
 use seplogic.Ra.Ura.{Ura}
 use base.Fml.{ftrue, fsep, feq, froom}

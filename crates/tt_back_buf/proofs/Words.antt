@@ -1,7 +1,7 @@
--- The machine values of a block and of the right to give it back, and what follows a part of a body.
+-- The machine values of a block and of the right to free it, and what follows a part of a body.
 --     block_val, block_told, block_made      a block is its pointer
 --     lease_val, lease_told, lease_made      the right has no bytes
---     then_runs, out_of_block                what is left to run behind a part of a body
+--     then_runs, out_of_block                what is left to run after a part of a body
 use Rattle.std.proofs.Common.{◌≡◌, ℕ, List, [], ◌∷◌, ◌++◌, refl, ◌∙◌}
 use seplogic.Ra.Ura.{Ura}
 use base.Fml.{Fml}

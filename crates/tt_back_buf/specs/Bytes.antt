@@ -1,4 +1,4 @@
--- What contracts see of a buffer.
+-- The value of a buffer in contracts.
 use Rattle.std.specs.Prelude.{ℕ, List}
 use Rattle.tt_back_buf.specs.declared.back_buf.BackBuf.{BackBuf}
 
@@ -6,6 +6,6 @@ use Rattle.tt_back_buf.specs.declared.back_buf.BackBuf.{BackBuf}
 abbrev pub bytes_of : BackBuf → List ℕ
 bytes_of buf = buf.region.bytes
 
--- how many more there is room for
+-- the number of bytes for which there is still room
 abbrev pub room_of : BackBuf → ℕ
 room_of buf = buf.room

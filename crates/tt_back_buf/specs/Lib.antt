@@ -1,3 +1,3 @@
--- What a buffer that is filled from its end owns, and what contracts see of it.
+-- A buffer filled from its end: what it owns, and what contracts see.
 pub mod Bytes
 pub mod Ownership

@@ -12,10 +12,10 @@ use denote.Struct.Lending.{lent_at}
 abbrev pub block_type : ℕ → Ty
 block_type n = ty_array (ty_int w8) n
 
--- the bytes at p, behind room for so many
+-- the bytes, after room for `room` more, at p
 abbrev pub region_owns : Ptr → ℕ → List ℕ → Fml
 region_owns p room bytes = fsep (lies_at (Array u8 (length bytes)) full_share (p +ₚ room) bytes) (room_for (block_type room) p)
 
--- the bytes alone
+-- the bytes without the room
 abbrev pub region_lends : Ptr → ℕ → List ℕ → Lft → Fml
 region_lends p room bytes = lent_at (Array u8 (length bytes)) (p +ₚ room) bytes

@@ -1,12 +1,12 @@
-//! Bytes that are written from the last to the first.
+//! Bytes written from the last to the first.
 ghost use Rattle.std.specs.Int.{w16, w32, to_le_bytes};
 ghost use Rattle.std.specs.Prelude.{◌≡◌, ◌+◌, ◌^◌, ◌<◌, ◌≤◌, [], ◌∷◌, ◌++◌, length, IfOk};
 
 use crate::region::{Lease, Region};
 use std::alloc::{AllocError, Global};
 
-/// Bytes of which each piece is put before those that are there: the number of bytes that a header holds is known only
-/// when they are written. A contract sees the bytes from the first on, and how many more there is room for.
+/// Bytes written from the last to the first. A header says how many bytes it holds, and this is known once they are written. A contract
+/// sees the bytes from the first on, and the number of bytes for which there is still room.
 pub struct BackBuf {
     region: Region,
     lease: Lease<Global>,
@@ -21,7 +21,7 @@ pub struct BackBuf {
 impl BackBuf {
     ghost use Rattle.tt_back_buf.specs.Bytes.{bytes_of, room_of};
 
-    /// No bytes, and room for so many.
+    /// Returns a buffer without bytes, and with room for `room` bytes. Fails only if memory runs out.
     pub fn with_room(alloc: Global, room: usize) -> Result<BackBuf, AllocError>
         ensures bytes { IfOk result (λ buf. bytes_of buf ≡ []) }
         ensures room { IfOk result (λ buf. (room_of buf ≡ room) × (room < 2 ^ 63)) }
@@ -41,14 +41,14 @@ impl BackBuf {
         })
     }
 
-    /// The number of bytes.
+    /// Returns the number of bytes.
     pub fn len(&self) -> usize
         ensures { result ≡ length (bytes_of self.now) }
     {
         self.size - self.room
     }
 
-    /// Puts one byte before all. There is room for it: what was asked for is more than `len`.
+    /// Puts one byte before the others. There is room for it: `len` is less than the room at first.
     #[inline(always)]
     pub fn put_byte(&mut self, byte: u8)
         requires { 1 ≤ room_of self.old }
@@ -59,7 +59,7 @@ impl BackBuf {
         self.region.put(self.room, byte);
     }
 
-    /// Puts two bytes before all. There is room for them: what was asked for is at least two more than `len`.
+    /// Puts two bytes before the others, the lowest first. There is room for them: `len` is at least two less than the room at first.
     #[inline(always)]
     pub fn put_half(&mut self, half: u16)
         requires { 2 ≤ room_of self.old }
@@ -71,7 +71,7 @@ impl BackBuf {
         self.region.put_two(self.room, low, (half >> 8) as u8);
     }
 
-    /// Puts four bytes before all. There is room for them: what was asked for is at least four more than `len`.
+    /// Puts four bytes before the others, the lowest first. There is room for them: `len` is at least four less than the room at first.
     #[inline(always)]
     pub fn put_word(&mut self, word: u32)
         requires { 4 ≤ room_of self.old }
@@ -87,7 +87,7 @@ impl BackBuf {
             .put_four(self.room, first, second, third, fourth);
     }
 
-    /// The bytes, with no room to spare.
+    /// Returns the bytes in a vector of exactly their size. Fails only if memory runs out.
     pub fn into_vec(self) -> Result<Vec<u8>, AllocError>
         ensures { IfOk result (λ vec. vec.items ≡ bytes_of self) }
     {

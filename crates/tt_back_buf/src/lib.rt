@@ -1,4 +1,4 @@
-//! Bytes that are written from the last to the first.
+//! Bytes written from the last to the first.
 #![tactic(auto)]
 
 mod back_buf;

@@ -1,4 +1,4 @@
-//! Raw memory that is filled from its end. Raw pointers stand here alone.
+//! Raw memory, filled from its end. Only this crate and `tt_shared` have raw pointers.
 ghost use Rattle.std.specs.Prelude.{◌≡◌, ℕ, ◌+◌, ◌^◌, ◌<◌, List, [], ◌∷◌, length, IfSome};
 ghost use denote.RawPtr.{Ptr};
 ghost use Rattle.tt_back_buf.specs.Ownership.{region_owns, region_lends, block_type};
@@ -7,7 +7,7 @@ use std::alloc::Allocator;
 use std::marker::{Model, PhantomData};
 use std::slice;
 
-// A block that holds nothing in its first `room` places, and these bytes behind them.
+// A block. Its first `room` places are empty, and `bytes` follow them.
 pub(crate) struct Region {
     at: *mut u8,
     pub(crate) ghost room: { ℕ },
@@ -21,7 +21,7 @@ impl Model for Region {
     ghost also_shares = { λ r _ κ. region_lends r.at r.room r.bytes κ };
 }
 
-// The right to give a block of so many bytes back.
+// The right to free a block of `size` bytes.
 pub(crate) struct Lease<A: Allocator> {
     marker: PhantomData<A>,
     pub(crate) ghost alloc: { A },
@@ -34,7 +34,7 @@ impl<A: Allocator> Model for Lease<A> {
 }
 
 impl Region {
-    // A block that holds nothing.
+    // Returns an empty block of `size` bytes, or `None` if memory runs out.
     pub(crate) fn new<A: Allocator>(alloc: &A, size: usize) -> Option<(Region, Lease<A>)>
         requires { size < 2 ^ 63 }
         ensures { IfSome result (λ r. (r.0.room ≡ size) × (r.0.bytes ≡ []) × (r.1.alloc ≡ alloc.now) × (r.1.at ≡ r.0.at) × (r.1.size ≡ size)) }
@@ -48,7 +48,7 @@ impl Region {
         }
     }
 
-    // Writes the last byte of the room.
+    // Writes a byte to the last place of the room.
     pub(crate) fn put(&mut self, place: usize, byte: u8)
         requires { place + 1 ≡ self.old.room }
         ensures { (self.new.at ≡ self.old.at) × (self.new.room ≡ place) × (self.new.bytes ≡ byte ∷ self.old.bytes) }
@@ -56,7 +56,7 @@ impl Region {
         unsafe { *self.at.add(place) = byte };
     }
 
-    // Writes the last two bytes of the room.
+    // Writes two bytes to the last places of the room.
     pub(crate) fn put_two(&mut self, place: usize, first: u8, second: u8)
         requires { place + 2 ≡ self.old.room }
         ensures { (self.new.at ≡ self.old.at) × (self.new.room ≡ place) × (self.new.bytes ≡ first ∷ second ∷ self.old.bytes) }
@@ -68,7 +68,7 @@ impl Region {
         }
     }
 
-    // Writes the last four bytes of the room.
+    // Writes four bytes to the last places of the room.
     pub(crate) fn put_four(&mut self, place: usize, first: u8, second: u8, third: u8, fourth: u8)
         requires { place + 4 ≡ self.old.room }
         ensures { (self.new.at ≡ self.old.at) × (self.new.room ≡ place) × (self.new.bytes ≡ first ∷ second ∷ third ∷ fourth ∷ self.old.bytes) }
@@ -82,7 +82,7 @@ impl Region {
         }
     }
 
-    // The bytes behind the room.
+    // Returns the bytes after the room.
     pub(crate) fn bytes(&self, room: usize, len: usize) -> &[u8]
         requires { (room ≡ self.now.room) × (len ≡ length self.now.bytes) }
         ensures { result.now ≡ self.now.bytes }
@@ -90,7 +90,7 @@ impl Region {
         unsafe { slice::from_raw_parts(self.at.add(room), len) }
     }
 
-    // Gives the block back.
+    // Frees the block.
     pub(crate) fn free<A: Allocator>(self, lease: Lease<A>, alloc: &A, size: usize)
         requires { (lease.alloc ≡ alloc.now) × (lease.at ≡ self.at) × (lease.size ≡ size) × (self.room + length self.bytes ≡ size) }
     {

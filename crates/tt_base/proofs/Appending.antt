@@ -6,7 +6,7 @@ use Rattle.tt_base.specs.Forest.{Forest, end, node, join, size}
 use Rattle.tt_base.specs.Unflat.{join-end}
 use Rattle.tt_base.specs.declared.span.Span.{Span}
 
--- Appending no tree changes nothing.
+-- No change if no trees are appended.
 pub append-end : (stack : Stack) → append end stack ≡ stack
 append-end (lowest trees) = ap lowest (join-end trees)
 append-end (above outer kind open_span trees) = ap (above outer kind open_span) (join-end trees)
@@ -21,7 +21,7 @@ pub held-append : (f : Forest) (stack : Stack) → tokens_held (append f stack) 
 held-append f (lowest trees) = size-join trees f
 held-append f (above outer kind open_span trees) = omega (arith, size-join trees f)
 
--- Closing changes no number.
+-- Closing the innermost subtree changes no number of tokens.
 pub held-close : (span : Span) (stack : Stack) → tokens_held (close_innermost span stack) ≡ tokens_held stack
 held-close span (lowest trees) = refl
 held-close span (above outer kind open_span trees) =

@@ -1,4 +1,4 @@
--- What the calls of a builder make of its state, on small examples.
+-- How the calls of a builder change its state, on small examples.
 use Rattle.std.proofs.Common.{◌≡◌, ℕ, [], codes, refl, None, is_some, Bool, true, false}
 use Rattle.tt_base.specs.declared.delimiter.DelimiterKind.TheVariants.{Parenthesis, Brace, Bracket, Invisible, InvisibleOpaque}
 use Rattle.tt_base.specs.declared.leaf.Leaf.{Leaf}
@@ -17,7 +17,7 @@ b = ident (codes "b")
 start : BuilderState
 start = empty_builder (delimiter Invisible (span 0 0) (span 0 0))
 
--- whether a point stands
+-- whether a point is valid
 stands : ℕ → BuilderState → Bool
 stands number s = is_some (noted number s.points)
 
@@ -49,12 +49,12 @@ the_levels_then : (restored 1 two_points).stack ≡ lowest (leaf a end)
 unfolding two_points start a b
 the_levels_then = refl
 
--- open, point, close: the point does not stand
+-- open, point, close: the point is not valid
 closed_over : stands 0 (closed (span 1 1) (point_taken (opened Parenthesis (span 0 1) start))) ≡ false
 unfolding start stands
 closed_over = refl
 
--- point, open, push, close, restore: no subtree is open, and the point stands
+-- point, open, push, close, restore: no subtree is open, and the point is valid
 before_the_subtree : BuilderState
 before_the_subtree = restored 0 (closed (span 1 1) (pushed a (opened Parenthesis (span 0 1) (point_taken start))))
 
@@ -88,7 +88,7 @@ opened_behind = refl
 plus_alone : alone (subtree Parenthesis (leaf (punct 43 Joint) end)) ≡ subtree Parenthesis (leaf (punct 43 Alone) end)
 plus_alone = refl
 
--- one node is built without the top, two trees with it
+-- one node is built without the top, two trees are built with it
 skipped : (built_skipping (closed (span 1 1) (pushed a (opened Bracket (span 0 1) start)))).delimiter.kind ≡ Bracket
 unfolding start a
 skipped = refl
@@ -109,7 +109,7 @@ ident_alone = refl
 only_the_last : alone (leaf (punct 43 Joint) (leaf (punct 43 Joint) end)) ≡ leaf (punct 43 Joint) (leaf (punct 43 Alone) end)
 only_the_last = refl
 
--- an ident stays, and so does a node with nothing inside
+-- an ident stays, and a node with nothing inside stays
 ident_stays : alone (leaf (punct 43 Joint) (leaf a end)) ≡ leaf (punct 43 Joint) (leaf a end)
 unfolding a
 ident_stays = refl
@@ -131,7 +131,7 @@ point_clears_the_mark : (removed (point_taken (closed (span 1 1) (opened Invisib
 unfolding start
 point_clears_the_mark = refl
 
--- an opaque one stays too, and its mark goes
+-- an opaque subtree stays too, and its mark is cleared
 opaque_closed : BuilderState
 opaque_closed = closed (span 1 1) (pushed a (opened InvisibleOpaque (span 0 1) start))
 
@@ -148,7 +148,7 @@ parenthesis_stays : (removed (closed (span 1 1) (opened Parenthesis (span 0 1) s
 unfolding start
 parenthesis_stays = refl
 
--- numbers are given out once
+-- no number is given to two points
 third_point : (point_taken (restored 0 (point_taken (pushed a (point_taken start))))).taken ≡ 3
 unfolding start a
 third_point = refl

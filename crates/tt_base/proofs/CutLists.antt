@@ -1,4 +1,4 @@
--- Lists that are cut into whole lists of given lengths: what is left of the open subtrees, innermost first.
+-- Lists as whole lists of given lengths: the tokens to come for each open subtree, innermost first.
 use Rattle.std.proofs.Common.{◌≡◌, ◌↔◌, ℕ, zero, suc, ◌+◌, ◌-◌, ◌<◌, ◌≤◌, ◌^◌, List, get_or, add-one, Bool, IsTrue, [], ◌∷◌, ◌++◌, length, drop, reverse, ap, sym, ◌∙◌, subst, refl, arith, append_assoc, append-nil, true, false}
 use Rattle.std.specs.List.{All}
 use Rattle.std.proofs.lemmas.List.{drop_all, reverse-append, reverse-reverse}
@@ -26,14 +26,14 @@ no_tokens end none = refl
 no_tokens (leaf l rest) none = absurd (omega arith)
 no_tokens (node d children rest) none = absurd (omega arith)
 
--- A level with nothing left is done.
+-- A level without tokens to come is done.
 pub done_level : (tokens : List TokenTree) (ns : List ℕ) → AreLevels tokens (0 ∷ ns) ↔ AreLevels tokens ns
 done_level tokens ns = (
   λ (trees, rest, cut, none, more). subst (λ l. AreLevels l ns) (sym (cut ∙ ap (λ l. l ++ rest) (no_tokens trees none))) more,
   λ more. (end, tokens, refl, refl, more),
 )
 
--- So is one that stands behind another.
+-- The same for a level around another.
 pub done_outer : (tokens : List TokenTree) (n : ℕ) (ns : List ℕ) → AreLevels tokens (n ∷ 0 ∷ ns) ↔ AreLevels tokens (n ∷ ns)
 done_outer tokens n ns = (
   λ (trees, rest, cut, sized, more). (trees, rest, cut, sized, (done_level rest ns).0 more),
@@ -88,7 +88,7 @@ too_long s tokens n ns long (trees, rest, cut, sized, more) = past trees rest cu
     past (leaf k trees) rest cut sized = cc
     past (node d children trees) rest cut sized = let counted : s.len ≡ size children = cc in omega (arith, counted, sized, long)
 
--- Where no token is left, nothing is.
+-- Without tokens, all levels are done.
 pub no_level : (n : ℕ) (ns : List ℕ) → All (λ k. 0 < k) ns → AreLevels [] (n ∷ ns) ↔ ((n ≡ 0) × (ns ≡ []))
 no_level n ns some = (λ (trees, rest, cut, sized, more). none trees rest cut sized more, λ (zeroed, done). (end, [], refl, sym zeroed, subst (AreLevels []) (sym done) refl))
   where
@@ -108,31 +108,31 @@ no_level n ns some = (λ (trees, rest, cut, sized, more). none trees rest cut si
 
 -- ---- what the calls do
 
--- No token can follow where nothing is open.
+-- No token can follow if no level is open.
 pub stuck : (n : ℕ) (outer ns : List ℕ) → n ≤ 0 → outer ≡ [] → GoesBack (n ∷ reverse outer) ns false
 stuck n outer ns nothing none token tokens levels =
     let zeroed : n ≡ 0 = omega arith in
     let old : AreLevels (token ∷ tokens) (0 ∷ []) = subst (λ ms. AreLevels (token ∷ tokens) (0 ∷ reverse ms)) none (subst (λ m. AreLevels (token ∷ tokens) (m ∷ reverse outer)) zeroed levels) in
     cc ((done_level (token ∷ tokens) []).0 old)
 
--- The level behind one that is done comes next.
+-- The level around one that is done comes next.
 pub went_back : (n after : ℕ) (outer kept : List ℕ) → n ≤ 0 → outer ≡ kept ++ after ∷ [] → GoesBack (n ∷ reverse outer) (after ∷ reverse kept) true
 went_back n after outer kept nothing popped tokens =
     let zeroed : n ≡ 0 = omega arith in
     let reversed : reverse outer ≡ after ∷ reverse kept = ap reverse popped ∙ reverse-append kept (after ∷ []) in
     rw (zeroed, reversed) (done_level tokens (after ∷ reverse kept))
 
--- Nothing is kept of a level with nothing to come.
+-- A level without tokens to come is dropped.
 pub opened_last : (n below : ℕ) (ns : List ℕ) → n - 1 - below ≡ 0 → Opens (n ∷ ns) below (below ∷ ns)
 opened_last n below ns nothing tokens = rw nothing (done_outer tokens below ns)
 
--- The rest of a level is kept behind the one that is opened in it.
+-- The rest of a level comes after the one that is opened in it.
 pub opened : (n below after : ℕ) (outer kept : List ℕ) → after ≡ n - 1 - below → kept ≡ outer ++ after ∷ [] → Opens (n ∷ reverse outer) below (below ∷ reverse kept)
 opened n below after outer kept counted pushed tokens =
     let reversed : reverse kept ≡ after ∷ reverse outer = ap reverse pushed ∙ reverse-append outer (after ∷ []) in
     rw (reversed, counted) (λ levels. levels, λ levels. levels)
 
--- A leaf fits where a token is to come.
+-- A leaf fits if a token is to come.
 pub takes_leaf : (old ns : List ℕ) (n : ℕ) (l : Leaf) → GoesBack old (n ∷ ns) true → 0 < n → TakesToken old (token.Leaf l) ((n - 1) ∷ ns) true
 takes_leaf old ns zero l back room tokens = absurd (omega arith)
 takes_leaf old ns (suc n) l back room tokens =
@@ -141,7 +141,7 @@ takes_leaf old ns (suc n) l back room tokens =
     let went = back (token.Leaf l ∷ tokens) in
     rw same (λ levels. step.0 (went.0 levels), λ levels. went.1 (step.1 levels))
 
--- A header fits where all that it holds is to come.
+-- A header fits if all tokens below it are to come.
 pub takes_node : (old ns new : List ℕ) (n : ℕ) (s : Subtree) → GoesBack old (n ∷ ns) true → s.len < n → Opens (n ∷ ns) s.len new → TakesToken old (token.Subtree s) new true
 takes_node old ns new zero s back room opens tokens = absurd (omega arith)
 takes_node old ns new (suc n) s back room opens tokens =
@@ -152,7 +152,7 @@ takes_node old ns new (suc n) s back room opens tokens =
     let behind = rw same at (opens tokens) in
     (λ levels. behind.0 (step.0 (went.0 levels)), λ levels. went.1 (step.1 (behind.1 levels)))
 
--- A header does not fit where it holds more.
+-- A header does not fit if it has more tokens below it.
 pub takes_no_node : (old ns new : List ℕ) (n : ℕ) (s : Subtree) → GoesBack old (n ∷ ns) true → 0 < n → n ≤ s.len → TakesToken old (token.Subtree s) new false
 takes_no_node old ns new zero s back room long tokens levels = omega arith
 takes_no_node old ns new (suc n) s back room long tokens levels = too_long s tokens n ns (omega arith) ((back (token.Subtree s ∷ tokens)).0 levels)
@@ -160,7 +160,7 @@ takes_no_node old ns new (suc n) s back room long tokens levels = too_long s tok
 All-reverse : (P : ℕ → Type 0) (xs : List ℕ) → All P xs → All P (reverse xs)
 All-reverse P xs all = All-permutation P xs (reverse xs) (IsPermutation-reverse xs) all
 
--- No token is to come exactly where the innermost level is done and none is round it.
+-- No token is to come exactly if the innermost level is done and no level is around it.
 pub none_left : (n : ℕ) (outer : List ℕ) → All (λ k. 0 < k) outer → AreLevels [] (n ∷ reverse outer) ↔ ((n ≡ 0) × (outer ≡ []))
 none_left n outer some =
     let bare = no_level n (reverse outer) (All-reverse (λ k. 0 < k) outer some) in (
@@ -173,7 +173,7 @@ none_left n outer some =
 next_token : (tokens : List TokenTree) (i : ℕ) (d : TokenTree) → i < length tokens → drop i tokens ≡ get_or tokens i d ∷ drop (i + 1) tokens
 next_token tokens i d within = rw (add-one, drop-cons tokens i d)
 
--- A token that fits leaves the question to the tokens behind it.
+-- After a token that fits, the tokens after it decide.
 pub walk_on : (tokens : List TokenTree) (i : ℕ) (t : TokenTree) (old new : List ℕ) → i < length tokens → t ≡ get_or tokens i t
     → IsWhole tokens ↔ AreLevels (drop i tokens) old → TakesToken old t new true → IsWhole tokens ↔ AreLevels (drop (i + 1) tokens) new
 walk_on tokens i t old new within is whole takes =
@@ -182,14 +182,14 @@ walk_on tokens i t old new within is whole takes =
     let step = takes (drop (i + 1) tokens) in
     (λ w. step.0 (before.0 w), λ levels. before.1 (step.1 levels))
 
--- A token that does not fit answers it.
+-- A token that does not fit decides.
 pub walk_stops : (tokens : List TokenTree) (i : ℕ) (t : TokenTree) (old new : List ℕ) → i < length tokens → t ≡ get_or tokens i t
     → IsWhole tokens ↔ AreLevels (drop i tokens) old → TakesToken old t new false → IsWhole tokens → ⊥
 walk_stops tokens i t old new within is whole takes w =
     let cut : drop i tokens ≡ t ∷ drop (i + 1) tokens = next_token tokens i t within ∙ ap (λ x. x ∷ drop (i + 1) tokens) (sym is) in
     takes (drop (i + 1) tokens) ((rw cut at whole).0 w)
 
--- At the end the levels answer it.
+-- At the end the levels decide.
 pub walk_ends : (tokens : List TokenTree) (i : ℕ) (levels : List ℕ) (done : Bool) → length tokens ≤ i
     → IsWhole tokens ↔ AreLevels (drop i tokens) levels → IsTrue done ↔ AreLevels [] levels → IsTrue done ↔ IsWhole tokens
 walk_ends tokens i levels done ended whole none =
@@ -197,7 +197,7 @@ walk_ends tokens i levels done ended whole none =
     let before = rw rest at whole in
     (λ yes. before.1 (none.0 yes), λ w. none.1 (before.0 w))
 
--- A header makes a list one subtree exactly where it counts what is behind it, and that is whole.
+-- A header and tokens are one subtree exactly if the header counts these tokens, and they are whole.
 pub one_subtree_iff : (s : Subtree) (below : List TokenTree) → s.len < 2 ^ 32 → IsOneSubtree (token.Subtree s ∷ below) ↔ ((s.len ≡ length below) × IsWhole below)
 one_subtree_iff s below fits = (
   λ (root, e, few).

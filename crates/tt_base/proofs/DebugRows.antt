@@ -1,4 +1,4 @@
--- What Debug writes of small tokens and trees, as `docs/FORMATS.md` has it.
+-- What `Debug` writes for small tokens and trees, by `docs/FORMATS.md`.
 use Rattle.std.proofs.Common.{◌≡◌, ◌++◌, ◌∷◌, [], map, codes, refl}
 use Rattle.std.specs.Fmt.{digits}
 use Rattle.tt_base.specs.declared.delimiter.DelimiterKind.TheVariants.{Parenthesis, InvisibleOpaque}

@@ -1,4 +1,4 @@
--- What edits and rewriting give on small trees.
+-- Edits and rewritings of small trees.
 use Rattle.std.proofs.Common.{◌≡◌, ℕ, List, [], ◌∷◌, codes, refl}
 use Rattle.tt_base.specs.declared.delimiter.DelimiterKind.TheVariants.{Parenthesis, Brace, Bracket, Invisible}
 use Rattle.tt_base.specs.declared.leaf.Leaf.{Leaf}
@@ -38,12 +38,12 @@ top_put = refl
 top_removed : (rewrite first_run (replace end ∷ [])).0 ≡ end
 top_removed = refl
 
--- ( a ; ) with another tree behind it: what is left over goes on there
+-- ( a ; ) and another tree after it: actions that are left go on there
 two_trees : rewrite (node (delimiter Parenthesis (span 0 1) (span 1 1)) (leaf a end) (leaf b end)) (keep ∷ keep ∷ replace end ∷ keep ∷ [])
     ≡ (node (delimiter Parenthesis (span 0 1) (span 1 1)) (leaf a end) end, keep ∷ [])
 two_trees = refl
 
--- a top over a brace over a, b; b is removed
+-- a top around braces around a and b; b is removed
 abbrev nested : Forest
 nested = subtree Invisible (subtree Brace (leaf a (leaf b end)))
 
@@ -65,11 +65,11 @@ counts_shown = refl
 counts_after : flat (rewrite nested removing_b).0 ≡ top 2 ∷ brace 1 ∷ token.Leaf a ∷ []
 counts_after = refl
 
--- neither what is replaced nor what takes its place is shown
+-- the callback sees neither the trees of a replaced node nor those in its place
 not_shown : shown nested (keep ∷ replace other ∷ []) ≡ top 3 ∷ brace 2 ∷ []
 not_shown = refl
 
--- with no actions, all is shown and all is kept
+-- without actions, the callback sees all tokens and all are kept
 all_shown : shown nested [] ≡ top 3 ∷ brace 2 ∷ token.Leaf a ∷ token.Leaf b ∷ []
 all_shown = refl
 
@@ -86,7 +86,7 @@ comma_set = refl
 top_stays : leaf_set 0 (punct 44 Alone) root ≡ root
 top_stays = refl
 
--- inside a node and behind it
+-- inside a node and after it
 set_inside : leaf_set 3 a (record { delimiter = delimiter Invisible (span 0 1) (span 1 1); children = subtree Brace (leaf a (leaf b end)) })
     ≡ record { delimiter = delimiter Invisible (span 0 1) (span 1 1); children = subtree Brace (leaf a (leaf a end)) }
 set_inside = refl

@@ -1,4 +1,4 @@
--- What small elements are taken for, which puncts stand as one, and what is left of an invisible root, one row for each case.
+-- Small elements as a parser accepts them, puncts that are one operator, and the children of an invisible root, row by row.
 use Rattle.std.proofs.Common.{◌≡◌, ℕ, [], ◌∷◌, List, map, codes, refl, Option, Some, None, true, false}
 use Rattle.tt_base.specs.declared.delimiter.DelimiterKind.TheVariants.{Parenthesis, Brace, Bracket, Invisible}
 use Rattle.tt_base.specs.declared.punct.Punct.{Punct}
@@ -24,7 +24,7 @@ abbrev chars_of : Option (List Punct) → List ℕ
 chars_of None = []
 chars_of (Some puncts) = map (λ it. it.char) puncts
 
--- the characters at the front that stand as one
+-- the characters of the operator at the front
 abbrev as_one : List ℕ → List ℕ
 as_one chars = chars_of (glued (joined chars))
 
@@ -38,7 +38,7 @@ all_twos = refl
 all_threes : map as_one (codes "..." ∷ codes "..=" ∷ codes "<<=" ∷ codes ">>=" ∷ []) ≡ codes "..." ∷ codes "..=" ∷ codes "<<=" ∷ codes ">>=" ∷ []
 all_threes = refl
 
--- what is in no table stands alone: a quote too
+-- characters in no table are single operators, also a quote
 no_twos : map as_one (codes "<+" ∷ codes "=<" ∷ codes "'a" ∷ codes "~=" ∷ codes "=!" ∷ []) ≡ codes "<" ∷ codes "=" ∷ codes "'" ∷ codes "~" ∷ codes "=" ∷ []
 no_twos = refl
 
@@ -72,7 +72,7 @@ subtree_is_no_leaf = refl
 subtree_is_a_node : is_at_node (subtree Brace end) ≡ true
 subtree_is_a_node = refl
 
--- a subtree's first span is where it opens
+-- a subtree's first span is its open span
 opens_first : tree_span (branch (delimiter Brace (span 3 1) (span 8 1)) end) ≡ span 3 1
 opens_first = refl
 
@@ -85,7 +85,7 @@ leaf_token_span_first = refl
 leaf_span_first : tree_span (tip (ident (codes "a"))) ≡ span 0 1
 leaf_span_first = refl
 
--- two leaves are looked at in their order; the end of a subtree parts them
+-- two leaves are read in their order; the end of a subtree is no leaf
 two_leaves : two_leaves_at (passes (ident (codes "a")) ∷ passes (ident (codes "b")) ∷ []) ≡ Some (ident (codes "a") ∷ ident (codes "b") ∷ [])
 two_leaves = refl
 
@@ -95,7 +95,7 @@ parted_by_an_end = refl
 parted_by_an_opening : two_leaves_at (passes (ident (codes "a")) ∷ opens (subtree_of (delimiter Brace (span 0 1) (span 2 1)) 1) ∷ passes (ident (codes "b")) ∷ []) ≡ None
 parted_by_an_opening = refl
 
--- one leaf alone is not two, nor is a subtree and what it holds
+-- one leaf is not two, and a subtree with a leaf inside is not
 one_leaf_at_the_end : two_leaves_at (passes (ident (codes "a")) ∷ []) ≡ None
 one_leaf_at_the_end = refl
 
@@ -105,7 +105,7 @@ behind_an_opening = refl
 behind_an_end : two_leaves_at (closes (subtree_of (delimiter Brace (span 0 1) (span 2 1)) 0) ∷ passes (ident (codes "a")) ∷ passes (ident (codes "b")) ∷ []) ≡ None
 behind_an_end = refl
 
--- only an invisible root is taken off, and once
+-- only an invisible root is removed, and only once
 strips_invisible : stripped (subtree Invisible (subtree Invisible (leaf (ident (codes "a")) end))) ≡ subtree Invisible (leaf (ident (codes "a")) end)
 strips_invisible = refl
 

@@ -1,4 +1,4 @@
--- What stands behind a header in a whole list: what it holds, and the tokens behind that.
+-- The tokens after a header in a whole list: those below it, and those after its subtree.
 use Rattle.std.proofs.Common.{◌≡◌, ℕ, zero, suc, ◌+◌, ◌-◌, ◌≤◌, List, [], ◌∷◌, ◌++◌, length, drop, refl, ap, ap₂, sym, ◌∙◌, arith, length-append}
 use Rattle.std.proofs.Math.Seq.{drop-append_seam}
 use Rattle.tt_base.specs.declared.delimiter.Subtree.{Subtree}
@@ -7,7 +7,7 @@ use Rattle.tt_base.specs.declared.token_tree.TokenTree.TheVariants as token
 use Rattle.tt_base.specs.Forest.{Forest, end, leaf, node, size, header, flat, join, IsWhole}
 use Rattle.tt_base.specs.Unflat.{flat-join, whole_iff, unflat-flat, length-flat, front, behind, unflat}
 
--- The first trees and those behind them are all of them.
+-- The first trees and those after them are all of them.
 pub join-front-behind : (n : ℕ) (f : Forest) → join (front n f) (behind n f) ≡ f
 join-front-behind zero f = refl
 join-front-behind (suc n) end = refl
@@ -20,12 +20,12 @@ count_of n [] = n
 count_of n (token.Leaf l ∷ tokens) = n
 count_of n (token.Subtree s ∷ tokens) = s.len
 
--- A whole list that begins with a header goes on with as many tokens as the header counts.
+-- A whole list that begins with a header has as many tokens after it as it counts, or more.
 pub header_holds : (s : Subtree) (tokens : List TokenTree) → IsWhole (token.Subtree s ∷ tokens) → size (front s.len (unflat tokens)) ≡ s.len
 unfolding count_of
 header_holds s tokens w = ap (count_of s.len) ((whole_iff (token.Subtree s ∷ tokens)).0 w)
 
--- What is left of a whole list behind its first trees is the flat list of those behind.
+-- The tokens of a whole list after its first trees are the flat list of the trees after those.
 pub unflat-drop : (n : ℕ) (tokens : List TokenTree) → IsWhole tokens → size (front n (unflat tokens)) ≡ n → unflat (drop n tokens) ≡ behind n (unflat tokens)
 unflat-drop n tokens w e =
     ap (λ l. unflat (drop n l)) (sym whole ∙ ap flat (sym (join-front-behind n (unflat tokens))) ∙ flat-join first last)
@@ -42,7 +42,7 @@ unflat-drop n tokens w e =
     whole : flat (unflat tokens) ≡ tokens
     whole = (whole_iff tokens).0 w
 
--- A header counts no more tokens than stand behind it.
+-- A header counts no more tokens than follow it.
 pub header_within : (s : Subtree) (tokens : List TokenTree) → IsWhole (token.Subtree s ∷ tokens) → s.len ≤ length tokens
 header_within s tokens w = omega (arith, counted, holds)
   where

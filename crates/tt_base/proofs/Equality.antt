@@ -1,4 +1,4 @@
--- Derived `==` tells whether two tokens are one.
+-- The derived `==` is equality of tokens.
 use Rattle.std.proofs.Common.{◌≡◌, nat_eq, ◌&&◌, ◌↔◌, ◌≤◌, ◌-◌, ℕ, List, Option, None, Some, bytes_eq, refl, true, length, ap, subst, rules}
 use Rattle.std.proofs.lemmas.Bool.{and_from}
 use Rattle.std.specs.Coded.{le_prop}
@@ -133,18 +133,18 @@ token_from_eq (token.Leaf a) (token.Leaf b) h = ap token.Leaf (leaf_from_eq a b 
 token_from_eq (token.Subtree a) (token.Subtree b) h = ap token.Subtree (subtree_from_eq a b (search rules))
 token_from_eq a b h = search rules
 
--- `==` is true of two tokens exactly if they are one.
+-- `==` is true for two tokens exactly if they are equal.
 pub same_token_iff : (a b : TokenTree) → (same_token a b ≡ true) ↔ (a ≡ b)
 same_token_iff a b = (token_from_eq a b, λ same. subst (λ x. same_token a x ≡ true) same (same_token-equivalence.refl a))
 
--- `==` is true of two span parts exactly if they are one.
+-- `==` is true for two span parts exactly if they are equal.
 pub same_part_iff : (a b : SpanPart) → ((part_impl.ghosts).eq a b ≡ true) ↔ (a ≡ b)
 same_part_iff a b = (part_from_eq, λ same. subst (λ x. (part_impl.ghosts).eq a x ≡ true) same (part_eq.lawful.laws.refl a))
   where
     part_from_eq : (part_impl.ghosts).eq a b ≡ true → a ≡ b
     part_from_eq h = search rules
 
--- `==` is true of two faults exactly if they are one.
+-- `==` is true for two faults exactly if they are equal.
 pub same_fault_iff : (a b : TtFault) → ((fault_impl.ghosts).eq a b ≡ true) ↔ (a ≡ b)
 same_fault_iff a b = (fault_from_eq, λ same. subst (λ x. (fault_impl.ghosts).eq a x ≡ true) same (fault_eq.lawful.laws.refl a))
   where
@@ -162,7 +162,7 @@ delim_span_itself a =
     and_from ((span_impl.ghosts).eq a.open_span a.open_span) ((span_impl.ghosts).eq a.close a.close)
     (span_eq.lawful.laws.refl a.open_span) (span_eq.lawful.laws.refl a.close)
 
--- `==` is true of two pairs of spans exactly if they are one.
+-- `==` is true for two pairs of spans exactly if they are equal.
 pub same_delim_span_iff : (a b : DelimSpan) → ((delim_span_impl.ghosts).eq a b ≡ true) ↔ (a ≡ b)
 same_delim_span_iff a b =
     (delim_span_from_eq a b, λ same. subst (λ x. (delim_span_impl.ghosts).eq a x ≡ true) same (delim_span_itself a))
@@ -196,6 +196,6 @@ lit_itself a =
     (lit_kind_eq.lawful.laws.refl a.kind)
     (and_from (bytes_eq a.symbol a.symbol) (option_eq bytes_eq a.suffix a.suffix) symbols (suffix_itself a.suffix))
 
--- `==` is true of two literals without a span exactly if they are one.
+-- `==` is true for two literals without a span exactly if they are equal.
 pub same_lit_iff : (a b : Lit) → ((lit_impl.ghosts).eq a b ≡ true) ↔ (a ≡ b)
 same_lit_iff a b = (lit_from_eq a b, λ same. subst (λ x. (lit_impl.ghosts).eq a x ≡ true) same (lit_itself a))

@@ -1,4 +1,4 @@
--- What one call for puncts that stand as one leaves to those that follow.
+-- Calls for the next operator, one after the other.
 use Rattle.std.proofs.Common.{◌≡◌, ◌<◌, ◌≤◌, ◌-◌, ℕ, zero, suc, Bool, true, false, List, [], ◌∷◌, Option, Some, None, length, if◌then◌else◌, refl, ap, sym, ◌∙◌, arith}
 use Rattle.std.specs.Prelude.{option_map}
 use Rattle.tt_base.specs.declared.leaf.Leaf.TheVariants as leaf_kind
@@ -38,7 +38,7 @@ after_end : (n : ℕ) → after_trees n end ≡ end
 after_end zero = refl
 after_end (suc n) = after_end n
 
--- The sizes behind so many trees.
+-- The sizes after the first n trees.
 pub sizes_behind : (n : ℕ) (trees : Forest) → sizes_after n trees ≡ glued_sizes (after_trees n trees)
 sizes_behind zero end = refl
 sizes_behind zero (leaf it rest) = refl

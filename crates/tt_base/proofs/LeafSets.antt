@@ -1,4 +1,4 @@
--- A leaf that is set stands at its place of the flat list, and all else stays.
+-- A leaf that is set is at its place of the flat list, and the other tokens stay.
 use Rattle.std.proofs.Common.{◌≡◌, ℕ, zero, suc, ◌+◌, ◌-◌, ◌<◌, ◌≤◌, ◌⊎◌, inl, inr, ◌∷◌, ◌++◌, List, length, get_or, set, Bool, true, false, cond, nat_lt, refl, ap, ap₂, sym, ◌∙◌, subst, arith}
 use Rattle.std.proofs.lemmas.Bool.Decides.{leb_tells}
 use Rattle.std.proofs.lemmas.List.{set-append_left, set-append_right, get_or-append-add}
@@ -11,7 +11,7 @@ use Rattle.tt_base.specs.Edits.{with_leaf, leaf_set, HasLeafAt}
 use Rattle.tt_base.specs.Forest.{Forest, end, leaf, node, Root, size, header, flat, flat_root}
 use Rattle.tt_base.specs.Unflat.{length-flat}
 
--- As many tokens as before.
+-- There are as many tokens as before.
 pub size-with_leaf : (place : ℕ) (it : Leaf) (trees : Forest) → size (with_leaf place it trees) ≡ size trees
 size-with_leaf place it end = refl
 size-with_leaf zero it (leaf old rest) = refl
@@ -59,7 +59,7 @@ flat-with_leaf (suc place) it (node d children rest) within is =
 leaf_there : (tokens : List TokenTree) (place : ℕ) → HasLeafAt tokens place → (d : TokenTree) → IsLeaf (get_or tokens place d)
 leaf_there tokens place (it, at) d = subst IsLeaf (sym (get_or_from_slice_get tokens place (token.Leaf it) d at)) tt
 
--- So a list with another leaf at a leaf's place is one subtree, of that tree.
+-- A list with another leaf in the place of a leaf is one subtree, that of the new tree.
 pub flat-leaf_set : (place : ℕ) (it : Leaf) (root : Root) → HasLeafAt (flat_root root) place → flat_root (leaf_set place it root) ≡ set (flat_root root) place (token.Leaf it)
 flat-leaf_set zero it root has = absurd (leaf_there (flat_root root) 0 has (token.Leaf it))
 flat-leaf_set (suc place) it root has =

@@ -1,4 +1,4 @@
--- The texts of leaves, as they come out piece by piece.
+-- The texts of leaves, part by part.
 use Rattle.std.proofs.Common.{ℕ, List, ◌≡◌, ◌∷◌, ◌++◌, ◌∙◌, ap, sym, append_assoc, codes}
 use Rattle.tt_base.specs.declared.delimiter.Delimiter.{Delimiter}
 use Rattle.tt_base.specs.declared.leaf.Leaf.{Leaf}

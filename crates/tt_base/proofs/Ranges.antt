@@ -1,4 +1,4 @@
--- When two ranges are one.
+-- Equal ranges.
 use Rattle.std.proofs.Common.{◌≡◌, ◌≤◌}
 use Rattle.std.specs.Coded.{le_prop}
 use mathlib.Core.HLevel.{is_prop→PathP}

@@ -1,4 +1,4 @@
--- What the definitions compute on small trees, as the rows of `docs/FORMATS.md` have it.
+-- The definitions on small trees, by the rows of `docs/FORMATS.md`.
 use Rattle.std.proofs.Common.{◌≡◌, [], ◌∷◌, codes, refl, lit<, lit≤, not-le_of_lt}
 use Rattle.tt_base.specs.declared.delimiter.DelimiterKind.TheVariants.{Parenthesis, Brace, Invisible, InvisibleOpaque}
 use Rattle.tt_base.specs.declared.literal.LitKind.TheVariants as lit

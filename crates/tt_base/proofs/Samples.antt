@@ -31,7 +31,7 @@ ident text = leaf.Ident (record { sym = text; span = span 0 1; is_raw = No })
 abbrev pub literal : (text : List ℕ) → LitKind → 0 ≤ length text → IsCharBoundary text (length text - 0) → Leaf
 literal text kind fits cuts = leaf.Literal (record { symbol = text; span = span 0 1; kind = kind; suffix_len = 0; fits = fits; cuts = cuts })
 
--- a node of a kind, alone
+-- a node of a kind, without siblings
 abbrev pub subtree : DelimiterKind → Forest → Forest
 subtree kind children = node (delimiter kind (span 0 1) (span 1 1)) children end
 
@@ -39,7 +39,7 @@ subtree kind children = node (delimiter kind (span 0 1) (span 1 1)) children end
 abbrev pub hex_digit : ℕ → ℕ
 hex_digit c = if nat_lt c 58 then c - 48 else c - 87
 
--- the bytes that pairs of hexadecimal digits spell, with a space between
+-- the bytes with these pairs of hexadecimal digits, which have a space between them
 abbrev pub hex : List ℕ → List ℕ
 hex [] = []
 hex (a ∷ []) = []

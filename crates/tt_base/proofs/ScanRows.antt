@@ -1,4 +1,4 @@
--- What a scan makes of short texts, and which scans do not fit them.
+-- The literals of short texts by a scan, and scans that do not fit a text.
 use Rattle.std.proofs.Common.{◌≡◌, [], ◌∷◌, codes, refl, true, false, Some, None, lit<, lit≤, not-le_of_lt}
 use Rattle.tt_base.specs.declared.literal.LitKind.TheVariants as lit
 use Rattle.tt_base.specs.declared.scan.LiteralScan.TheVariants as scan
@@ -40,7 +40,7 @@ float = refl
 underscore : parts_told (codes "1_") (Some (scan.Int, 1)) ≡ record { kind = lit.Integer; value = codes "1"; suffix = [] }
 underscore = refl
 
--- what is not terminated reaches up to the suffix
+-- without a closing quote, the value reaches up to the suffix
 open_character : parts_told (codes "'a") (Some (scan.Char false, 2)) ≡ record { kind = lit.Char; value = codes "a"; suffix = [] }
 open_character = refl
 
@@ -53,7 +53,7 @@ open_byte_string = refl
 open_c_string : parts_told (codes "c\"a") (Some (scan.CStr false, 3)) ≡ record { kind = lit.CStr; value = codes "a"; suffix = [] }
 open_c_string = refl
 
--- hashes that were not counted are none
+-- without a number of hashes, there are 0
 raw_string_of_no_count : parts_told (codes "r\"a\"") (Some (scan.RawStr None, 4)) ≡ record { kind = lit.StrRaw 0; value = codes "a"; suffix = [] }
 raw_string_of_no_count = refl
 
@@ -63,7 +63,7 @@ raw_byte_string_of_no_count = refl
 raw_c_string_of_no_count : parts_told (codes "cr\"a\"") (Some (scan.RawCStr None, 5)) ≡ record { kind = lit.CStrRaw 0; value = codes "a"; suffix = [] }
 raw_c_string_of_no_count = refl
 
--- a suffix on what is no number
+-- a suffix after a literal that is no number
 string_with_suffix : parts_told (codes "\"a\"x") (Some (scan.Str true, 3)) ≡ no_literal (codes "\"a\"x")
 string_with_suffix = refl
 
@@ -85,7 +85,7 @@ raw_byte_string_with_suffix = refl
 raw_c_string_with_suffix : parts_told (codes "cr\"a\"x") (Some (scan.RawCStr (Some 0), 5)) ≡ no_literal (codes "cr\"a\"x")
 raw_c_string_with_suffix = refl
 
--- an underscore counts as none there too
+-- an underscore is no suffix there either
 string_with_underscore : parts_told (codes "\"a\"_") (Some (scan.Str true, 3)) ≡ record { kind = lit.Str; value = codes "a"; suffix = [] }
 string_with_underscore = refl
 

@@ -26,7 +26,7 @@ walk-join (node d children rest) g =
     ap (λ v. opens (subtree_of d (size children)) ∷ (walk children ++ (closes (subtree_of d (size children)) ∷ v))) (walk-join rest g)
     ∙ ap (λ v. opens (subtree_of d (size children)) ∷ v) (sym (append_assoc (walk children) (closes (subtree_of d (size children)) ∷ walk rest) (walk g)))
 
--- A walk goes out of all that it goes into.
+-- A walk goes out of each node that it goes into.
 pub open_walk : (f : Forest) (events : List Event) → open_nodes (walk f ++ events) ≡ open_nodes events
 open_walk end events = refl
 open_walk (leaf it rest) events = open_walk rest events
@@ -50,7 +50,7 @@ tokens_walk (node d children rest) =
     ap (λ v. header d (size children) ∷ v)
     (tokens-append (walk children) (closes (subtree_of d (size children)) ∷ walk rest) ∙ ap₂ ◌++◌ (tokens_walk children) (tokens_walk rest))
 
--- At the end no event is made.
+-- At the end, one event further is the same place.
 pub stays : (w : Walked) → events_ahead w ≡ [] → w ≡ one_on w
 stays w e = let far : w.place ≡ w.place + one_if_any (events_ahead w) = omega arith ∙ ap (λ v. w.place + one_if_any v) (sym e) in λ i. record { origin = w.origin; place = far i }
 
@@ -93,23 +93,23 @@ none_at_close (passes other ∷ l) e it t = cc
 none_at_close (opens s ∷ l) e it t = cc
 none_at_close (closes s ∷ l) e it t = cc
 
--- The tokens of the events ahead are what is left of the flat list.
+-- The tokens of the events ahead are the rest of the flat list.
 pub flat_left_is : (w : Walked) → tokens_of (events_ahead w) ≡ flat_left w
 flat_left_is w =
     let all : flat w.origin ≡ tokens_of (take w.place (walk w.origin)) ++ tokens_of (events_ahead w) =
     sym (tokens_walk w.origin) ∙ ap tokens_of (sym (take-append-drop w.place (walk w.origin))) ∙ tokens-append (take w.place (walk w.origin)) (events_ahead w) in
     sym (ap (drop (length (tokens_of (take w.place (walk w.origin))))) all ∙ drop-append_seam (tokens_of (take w.place (walk w.origin))) (tokens_of (events_ahead w)))
 
--- What is left of the flat list is whole.
+-- The rest of the flat list is whole.
 pub flat_left_whole : (w : Walked) → IsWhole (flat_left w)
 flat_left_whole w = whole_drop (length (tokens_of (take w.place (walk w.origin)))) w.origin
 
--- One event on, the others are ahead.
+-- One event further, the others are ahead.
 pub event_passed : (w : Walked) (event : Event) (events : List Event) → events_ahead w ≡ event ∷ events → events_ahead (one_on w) ≡ events
 event_passed w event events e =
     ap (λ v. drop (w.place + one_if_any v) (walk w.origin)) e ∙ sym (drop-drop 1 w.place (walk w.origin)) ∙ ap (drop 1) e
 
--- So there is one fewer.
+-- One event fewer is then ahead.
 pub one_fewer : (w : Walked) → is_over (events_ahead w) ≡ false → suc (length (events_ahead (one_on w))) ≡ length (events_ahead w)
 one_fewer w e = by (events_ahead w) refl e
   where
@@ -117,21 +117,21 @@ one_fewer w e = by (events_ahead w) refl e
     by [] same more = cc
     by (event ∷ events) same more = omega (arith, ap length (event_passed w event events same), ap length same)
 
--- Where there is an event and no token, a node ends.
+-- If an event is ahead and no token, a node ends.
 pub ends_here : (events : List Event) → token_at events ≡ None → is_over events ≡ false → is_at_close events ≡ true
 ends_here [] n more = cc
 ends_here (passes it ∷ events) n more = cc
 ends_here (opens s ∷ events) n more = cc
 ends_here (closes s ∷ events) n more = refl
 
--- Where there is a token, none does.
+-- If a token is next, no node ends.
 pub no_end_at_token : (events : List Event) (t : TokenTree) → token_at events ≡ Some t → is_at_close events ≡ false
 no_end_at_token [] t e = refl
 no_end_at_token (passes it ∷ events) t e = refl
 no_end_at_token (opens s ∷ events) t e = refl
 no_end_at_token (closes s ∷ events) t e = cc
 
--- Nor does one where none is open.
+-- If no node is open, no node ends.
 pub no_end_outside : (events : List Event) → open_nodes events ≡ 0 → is_at_close events ≡ false
 no_end_outside [] e = refl
 no_end_outside (passes it ∷ events) e = refl

@@ -1,8 +1,8 @@
 -- Calls of a callback, one after another.
 use Rattle.std.specs.Prelude.{◌≡◌, List, [], ◌∷◌}
 
--- asked these in order, one call each, the callback answered those, and came from the state p to the state q; `call` says what one call may
--- answer and leave
+-- the callback was called with these values, once each and in order; it returned these answers, and its state went from p to q; `call`
+-- says what one call may return, and which state it may leave
 abbrev pub AsksAll : {F A B : Type 0} → (call : F → A → B → F → Type 0) → (p : F) → List A → List B → (q : F) → Type 0
 AsksAll call p [] [] q = p ≡ q
 AsksAll call p [] (answer ∷ answers) q = ⊥

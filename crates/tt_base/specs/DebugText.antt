@@ -1,4 +1,4 @@
--- What Debug writes of spans, of the kinds of literals and of trees, as bytes.
+-- What `Debug` writes for spans, kinds of literals and trees, as bytes.
 use Rattle.std.specs.Prelude.{ℕ, zero, suc, Bool, true, false, List, [], ◌∷◌, ◌++◌, codes, decimal, if◌then◌else◌}
 use Rattle.tt_base.specs.declared.delimiter.Delimiter.{Delimiter}
 use Rattle.tt_base.specs.declared.delimiter.DelimiterKind.{DelimiterKind}
@@ -40,7 +40,7 @@ ends_text Bracket = codes "[]"
 ends_text Invisible = codes "$$"
 ends_text InvisibleOpaque = codes "$$"
 
--- a spacing: a punct that is joint hidden is told as joint
+-- a spacing; joint hidden is written as joint
 abbrev pub spacing_text : Spacing → List ℕ
 spacing_text Alone = codes "[alone]"
 spacing_text Joint = codes "[joint]"
@@ -67,13 +67,14 @@ indent (suc depth) = 32 ∷ 32 ∷ indent depth
 abbrev pub break_if : Bool → List ℕ
 break_if due = if due then 10 ∷ [] else []
 
--- a line for each token in flat order, indented by its depth, with a line feed before each but the first; due tells whether one is due now
+-- a line for each token in flat order, indented by its depth, with line feeds between the lines; `due` says whether one comes before the
+-- first
 abbrev pub lines_text : (due : Bool) → (depth : ℕ) → Forest → List ℕ
 lines_text due depth end = []
 lines_text due depth (leaf_then leaf rest) = break_if due ++ indent depth ++ leaf_line leaf ++ lines_text true depth rest
 lines_text due depth (node delimiter children rest) =
     break_if due ++ indent depth ++ header_line delimiter ++ lines_text true (suc depth) children ++ lines_text true depth rest
 
--- what Debug writes
+-- what `Debug` writes
 unfoldable pub debug : Forest → List ℕ
 debug trees = lines_text false 0 trees

@@ -13,15 +13,15 @@ use Rattle.tt_base.specs.declared.token_tree.TokenTree.TheVariants as token
 use Rattle.tt_base.specs.Token.{delimiter}
 use Rattle.tt_base.specs.Forest.{Forest, end, leaf, node, Root, size}
 
--- the top takes another kind
+-- the same root with another kind
 abbrev pub with_kind : DelimiterKind → Root → Root
 with_kind kind root = record { delimiter = delimiter kind root.delimiter.open_span root.delimiter.close; children = root.children }
 
--- the top takes other spans
+-- the same root with other spans
 abbrev pub with_spans : DelimSpan → Root → Root
 with_spans spans root = record { delimiter = delimiter root.delimiter.kind spans.open_span spans.close; children = root.children }
 
--- the leaf at a place of the flat list gives way to another; a header stays, and so does all where there is no such place
+-- the same trees with another leaf at a place of the flat list; the same trees if a header or nothing is at that place
 abbrev pub with_leaf : (place : ℕ) → Leaf → Forest → Forest
 with_leaf place it end = end
 with_leaf zero it (leaf old rest) = leaf it rest
@@ -31,16 +31,16 @@ with_leaf (suc place) it (node delimiter children rest) =
     if nat_lt place (size children) then node delimiter (with_leaf place it children) rest
     else node delimiter children (with_leaf (place - size children) it rest)
 
--- the same of a tree, whose top has the place 0
+-- the same for a root; the top is at place 0
 abbrev pub leaf_set : (place : ℕ) → Leaf → Root → Root
 leaf_set zero it root = root
 leaf_set (suc place) it root = record { delimiter = root.delimiter; children = with_leaf place it root.children }
 
--- a leaf stands at that place of a list
+-- a leaf is at that place of a list
 abbrev pub HasLeafAt : List TokenTree → (place : ℕ) → Type 0
 HasLeafAt tokens place = (it : Leaf) × (slice_get tokens place ≡ Some (token.Leaf it))
 
--- a header stands there
+-- a header is at that place of a list
 abbrev pub HasHeaderAt : List TokenTree → (place : ℕ) → Type 0
 HasHeaderAt tokens place = (it : Subtree) × (slice_get tokens place ≡ Some (token.Subtree it))
 
@@ -48,7 +48,7 @@ HasHeaderAt tokens place = (it : Subtree) × (slice_get tokens place ≡ Some (t
 abbrev pub with_id : ErasedFileAstId → Span → Span
 with_id id span = record { range = span.range; anchor = record { file_id = span.anchor.file_id; ast_id = id }; ctx = span.ctx }
 
--- each span gives way to what f makes of it
+-- each span is replaced by the value of f for it
 module _ (f : Span → Span) where
   -- in a leaf
   abbrev pub respanned_leaf : Leaf → Leaf

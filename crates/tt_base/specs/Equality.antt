@@ -1,4 +1,4 @@
--- What `==` computes of two tokens, and of two trees.
+-- What `==` returns for two tokens, and for two trees.
 use Rattle.std.specs.Cmp.{IsEquivalence}
 use Rattle.std.specs.Prelude.{Bool}
 use Rattle.tt_base.specs.declared.token_tree.TokenTree.{TokenTree}
@@ -12,7 +12,7 @@ use Rattle.tt_base.specs.contracts.token_tree.TokenTreePartialEq.TheImpl as toke
 abbrev pub same_token : TokenTree → TokenTree → Bool
 same_token = (token_impl.ghosts).eq
 
--- it is an equivalence
+-- This is an equivalence.
 pub same_token-equivalence : IsEquivalence same_token
 same_token-equivalence = token_eq.lawful.laws
 

@@ -1,4 +1,4 @@
--- What the first tree of a list is taken for.
+-- What a parser accepts as the first tree of a list.
 use Rattle.std.specs.Prelude.{ℕ, Bool, true, false, ◌==◌, ◌∷◌, [], List, Option, Some, None, codes, bytes_eq, if◌then◌else◌}
 use Rattle.std.specs.List.{list_any}
 use Rattle.tt_base.specs.declared.ident.Ident.{Ident}
@@ -7,38 +7,38 @@ use Rattle.tt_base.specs.declared.leaf.Leaf.TheVariants as leaf_kind
 use Rattle.tt_base.specs.declared.punct.Punct.{Punct}
 use Rattle.tt_base.specs.Forest.{Forest, end, leaf, node}
 
--- what the first tree is taken for, where it is a leaf
+-- what f returns for the first tree, if that is a leaf
 abbrev pub first_leaf_as : {X : Type 0} → (Leaf → Option X) → Forest → Option X
 first_leaf_as f end = None
 first_leaf_as f (leaf it rest) = f it
 first_leaf_as f (node delimiter children rest) = None
 
--- a leaf for itself
+-- the leaf itself
 abbrev pub as_leaf : Leaf → Option Leaf
 as_leaf it = Some it
 
--- a punct
+-- the punct, if the leaf is one
 abbrev pub as_punct : Leaf → Option Punct
 as_punct (leaf_kind.Literal it) = None
 as_punct (leaf_kind.Punct it) = Some it
 as_punct (leaf_kind.Ident it) = None
 
--- an ident, `_` too
+-- the ident, also `_`, if the leaf is one
 abbrev pub as_ident_or_underscore : Leaf → Option Ident
 as_ident_or_underscore (leaf_kind.Literal it) = None
 as_ident_or_underscore (leaf_kind.Punct it) = None
 as_ident_or_underscore (leaf_kind.Ident it) = Some it
 
--- an ident, unless its text is `_`
+-- the ident, unless its text is `_`
 abbrev pub unless_underscore : Option Ident → Option Ident
 unless_underscore None = None
 unless_underscore (Some it) = if bytes_eq it.sym (codes "_") then None else Some it
 
--- whether a text is a truth value
+-- whether a text is `true` or `false`
 abbrev pub is_truth_value : List ℕ → Bool
 is_truth_value text = list_any (bytes_eq text) (codes "true" ∷ codes "false" ∷ [])
 
--- a literal, and the idents of the truth values
+-- the leaf, if it is a literal or the ident `true` or `false`
 abbrev pub as_literal : Leaf → Option Leaf
 as_literal (leaf_kind.Literal it) = Some (leaf_kind.Literal it)
 as_literal (leaf_kind.Punct it) = None

@@ -17,7 +17,7 @@ number_of TooManySymbols = 9
 number_of TooManyBytes = 10
 number_of PointsSpent = 11
 
--- what Display writes of a fault
+-- what `Display` writes for a fault
 abbrev pub fault_text : TtFault → List ℕ
 fault_text Memory = codes "out of memory"
 fault_text NotOneSubtree = codes "not one subtree"

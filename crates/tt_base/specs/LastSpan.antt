@@ -4,12 +4,12 @@ use Rattle.tt_base.specs.declared.span.Span.{Span}
 use Rattle.tt_base.specs.Forest.{Forest, end, leaf, node}
 use Rattle.tt_base.specs.Token.{leaf_span}
 
--- the one if there is one, else the other
+-- the first span if there is one, otherwise the second
 abbrev pub given_or : Option Span → Span → Span
 given_or None other = other
 given_or (Some one) other = one
 
--- the last span: of the trees behind the first if there are any, else of what that one holds, else its own or its close span
+-- the last span: of the trees after the first if there are any, otherwise of what the first holds, otherwise its own span or close span
 abbrev pub last_span : Forest → Option Span
 last_span end = None
 last_span (leaf it rest) = Some (given_or (last_span rest) (leaf_span it))

@@ -1,4 +1,4 @@
--- What Display writes of a leaf, as bytes.
+-- What `Display` writes for a leaf, as bytes.
 use Rattle.std.specs.Prelude.{ℕ, List, [], ◌++◌, replicate, codes, encode_utf8}
 use Rattle.tt_base.specs.declared.ident.Ident.{Ident}
 use Rattle.tt_base.specs.declared.ident.IdentIsRaw.{IdentIsRaw}
@@ -11,11 +11,11 @@ use Rattle.tt_base.specs.declared.literal.Literal.{Literal}
 use Rattle.tt_base.specs.declared.punct.Punct.{Punct}
 use Rattle.tt_base.specs.Literal.{text_of, suffix_of, kind_of}
 
--- as many #
+-- that many #
 abbrev pub hashes : ℕ → List ℕ
 hashes count = replicate count 35
 
--- what opens a literal of a kind
+-- the text that opens a literal of a kind
 abbrev pub opening_quote : LitKind → List ℕ
 opening_quote lit.Byte = codes "b'"
 opening_quote lit.Char = codes "'"
@@ -29,7 +29,7 @@ opening_quote lit.CStr = codes "c\""
 opening_quote (lit.CStrRaw count) = codes "cr" ++ hashes count ++ codes "\""
 opening_quote (lit.Err unit) = []
 
--- what closes it, before the suffix
+-- the text that closes it, before the suffix
 abbrev pub closing_quote : LitKind → List ℕ
 closing_quote lit.Byte = codes "'"
 closing_quote lit.Char = codes "'"
@@ -51,12 +51,12 @@ literal_text literal = opening_quote (kind_of literal) ++ text_of literal ++ clo
 abbrev pub punct_text : Punct → List ℕ
 punct_text punct = encode_utf8 punct.char
 
--- what stands before a name
+-- the text before a name
 abbrev pub raw_prefix : IdentIsRaw → List ℕ
 raw_prefix No = []
 raw_prefix Yes = codes "r#"
 
--- an ident: r# where it is raw, then its name
+-- an ident: r# if it is raw, then its name
 abbrev pub ident_text : Ident → List ℕ
 ident_text ident = raw_prefix ident.is_raw ++ ident.sym
 

@@ -1,22 +1,22 @@
--- What a literal is seen as: one text, whose end is the suffix.
+-- The parts of a literal: one text that ends in the suffix.
 use Rattle.std.specs.Prelude.{◌≡◌, ℕ, ◌-◌, ◌≤◌, List, length, take, drop, IsCharBoundary}
 use Rattle.tt_base.specs.declared.literal.LitKind.{LitKind}
 use Rattle.tt_base.specs.declared.literal.Literal.{Literal}
 use Rattle.tt_base.specs.declared.span.Span.{Span}
 
--- its text and suffix together
+-- the text and the suffix together
 abbrev pub symbol_of : Literal → List ℕ
 symbol_of literal = literal.symbol
 
--- where it stands
+-- the span
 abbrev pub span_of : Literal → Span
 span_of literal = literal.span
 
--- what kind it is
+-- the kind
 abbrev pub kind_of : Literal → LitKind
 kind_of literal = literal.kind
 
--- how many bytes of the symbol are the suffix
+-- the number of bytes of the symbol that are the suffix
 abbrev pub suffix_len_of : Literal → ℕ
 suffix_len_of literal = literal.suffix_len
 

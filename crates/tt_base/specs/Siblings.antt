@@ -11,18 +11,18 @@ pub data Tree : Type 0 where
   tip : Leaf → Tree
   branch : Delimiter → Forest → Tree
 
--- the trees in order
+-- the list of the trees, in order
 abbrev pub list_of : Forest → List Tree
 list_of end = []
 list_of (leaf it rest) = tip it ∷ list_of rest
 list_of (node delimiter children rest) = branch delimiter children ∷ list_of rest
 
--- leaves, as trees
+-- the trees of these leaves
 abbrev pub leaves : List Leaf → Forest
 leaves [] = end
 leaves (it ∷ others) = leaf it (leaves others)
 
--- there is none
+-- whether there is no tree
 abbrev pub is_end : Forest → Bool
 is_end end = true
 is_end (leaf it rest) = false
@@ -39,7 +39,7 @@ first_tree end = end
 first_tree (leaf it rest) = leaf it end
 first_tree (node delimiter children rest) = node delimiter children end
 
--- what the first tree holds
+-- the children of the first tree, none if it is a leaf
 abbrev pub children_of : Forest → Forest
 children_of end = end
 children_of (leaf it rest) = end

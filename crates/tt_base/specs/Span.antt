@@ -9,11 +9,11 @@ use Rattle.tt_base.specs.declared.span.SpanPart.{SpanPart}
 abbrev pub size_of : TextSize → ℕ
 size_of size = size.raw
 
--- where a range starts
+-- the start of a range
 abbrev pub start_of : TextRange → ℕ
 start_of range = range.start.raw
 
--- where it ends
+-- the end of a range
 abbrev pub end_of : TextRange → ℕ
 end_of range = range.end.raw
 

@@ -1,4 +1,4 @@
--- Delimiters, puncts and idents, made of their parts, and where a token stands.
+-- Delimiters, puncts and idents from their parts, and the spans of a token.
 use Rattle.tt_base.specs.declared.delimiter.DelimSpan.{DelimSpan}
 use Rattle.tt_base.specs.declared.delimiter.Delimiter.{Delimiter}
 use Rattle.tt_base.specs.declared.delimiter.DelimiterKind.{DelimiterKind}
@@ -38,7 +38,7 @@ zero_span =
 abbrev pub zero_punct : Punct
 zero_punct = record { char = 0; spacing = Alone; span = zero_span }
 
--- raw if it starts with r#
+-- raw if the text begins with r#
 abbrev pub rawness_of : List ℕ → IdentIsRaw
 rawness_of text = if starts_with nat_eq text (codes "r#") then Yes else No
 
@@ -46,7 +46,7 @@ rawness_of text = if starts_with nat_eq text (codes "r#") then Yes else No
 abbrev pub without_raw_prefix : List ℕ → List ℕ
 without_raw_prefix text = if starts_with nat_eq text (codes "r#") then drop 2 text else text
 
--- the ident that is written so
+-- the ident of that text
 abbrev pub ident_from : List ℕ → Span → Ident
 ident_from text span = record { sym = without_raw_prefix text; span = span; is_raw = rawness_of text }
 
@@ -66,7 +66,7 @@ abbrev pub close_span : TokenTree → Span
 close_span (token.Leaf leaf) = leaf_span leaf
 close_span (token.Subtree subtree) = subtree.delimiter.close
 
--- how many tokens a header says are below it; a leaf has none
+-- the number of tokens below a header; 0 for a leaf
 abbrev pub count_below : TokenTree → ℕ
 count_below (token.Leaf leaf) = 0
 count_below (token.Subtree subtree) = subtree.len

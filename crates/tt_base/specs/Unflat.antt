@@ -1,4 +1,4 @@
--- How a flat list is read back into trees, from its end; that its trees are unique; and so what lets a forest and a root be the value of a model.
+-- Reads a flat list back into trees, from its end. The trees are unique, so forests and roots have codes, which models need.
 use Rattle.std.specs.Prelude.{ℕ, zero, suc, ◌-◌, List, [], ◌∷◌, ◌≡◌, ◌+◌, ◌++◌, length, ◌↔◌, refl, ◌≤◌, drop}
 use Rattle.tt_base.specs.declared.token_tree.TokenTree.{TokenTree}
 use Rattle.tt_base.specs.Forest.{Forest, end, leaf, node, size, header, flat, join, IsWhole, Root, flat_root, IsOneSubtree}
@@ -11,14 +11,14 @@ use Rattle.tt_base.specs.contracts.token_tree.TokenTree.{the_row as token_row}
 use Rattle.tt_base.specs.declared.delimiter.Delimiter.{Delimiter}
 use Rattle.tt_base.specs.declared.token_tree.TokenTree.TheVariants as token
 
--- the first trees, which hold n tokens together
+-- the first trees with n tokens together
 abbrev pub front : ℕ → Forest → Forest
 front zero trees = end
 front (suc n) end = end
 front (suc n) (leaf l rest) = leaf l (front n rest)
 front (suc n) (node delimiter children rest) = node delimiter children (front (n - size children) rest)
 
--- the trees behind those
+-- the trees after those
 abbrev pub behind : ℕ → Forest → Forest
 behind zero trees = trees
 behind (suc n) end = end
@@ -31,7 +31,7 @@ unflat [] = end
 unflat (token.Leaf l ∷ tokens) = leaf l (unflat tokens)
 unflat (token.Subtree s ∷ tokens) = node s.delimiter (front s.len (unflat tokens)) (behind s.len (unflat tokens))
 
--- The first trees of two lists of trees.
+-- The first trees of two lists joined are the first list.
 pub front-join : (f g : Forest) → front (size f) (join f g) ≡ f
 front-join end g = refl
 front-join (leaf l rest) g = ap (leaf l) (front-join rest g)
@@ -39,20 +39,20 @@ front-join (node d children rest) g =
     ap (node d children)
     (ap (λ n. front n (join rest g)) (add-sub_cancel_left (size children) (size rest)) ∙ front-join rest g)
 
--- What is behind them.
+-- The trees after them are the second list.
 pub behind-join : (f g : Forest) → behind (size f) (join f g) ≡ g
 behind-join end g = refl
 behind-join (leaf l rest) g = behind-join rest g
 behind-join (node d children rest) g =
     ap (λ n. behind n (join rest g)) (add-sub_cancel_left (size children) (size rest)) ∙ behind-join rest g
 
--- Nothing comes after.
+-- A list of trees joined with none is itself.
 pub join-end : (f : Forest) → join f end ≡ f
 join-end end = refl
 join-end (leaf l rest) = ap (leaf l) (join-end rest)
 join-end (node d children rest) = ap (node d children) (join-end rest)
 
--- The flat list of two lists of trees.
+-- The flat list of two lists of trees is their flat lists, one after the other.
 pub flat-join : (f g : Forest) → flat (join f g) ≡ flat f ++ flat g
 flat-join end g = refl
 flat-join (leaf l rest) g = ap (λ tokens. token.Leaf l ∷ tokens) (flat-join rest g)
@@ -68,7 +68,7 @@ length-flat (leaf l rest) = ap suc (length-flat rest)
 length-flat (node d children rest) =
     ap suc (length-append (flat children) (flat rest) ∙ ap₂ ◌+◌ (length-flat children) (length-flat rest))
 
--- What stands first is read back first.
+-- The trees of a flat list are read back before the tokens after it.
 pub unflat-append : (f : Forest) (tokens : List TokenTree) → unflat (flat f ++ tokens) ≡ join f (unflat tokens)
 unflat-append end tokens = refl
 unflat-append (leaf l rest) tokens = ap (leaf l) (unflat-append rest tokens)
@@ -79,26 +79,26 @@ unflat-append (node d children rest) tokens =
     ∙ ap (join children) (unflat-append rest tokens))
     ∙ ap₂ (node d) (front-join children _) (behind-join children _)
 
--- Reading a flat list gives its trees back.
+-- A flat list is read back as its trees.
 pub unflat-flat : (f : Forest) → unflat (flat f) ≡ f
 unflat-flat f = ap unflat (sym (append-nil (flat f))) ∙ unflat-append f [] ∙ join-end f
 
--- The trees of a whole list are unique.
+-- Trees with the same flat list are equal.
 pub flat-injective : (f g : Forest) → flat f ≡ flat g → f ≡ g
 flat-injective f g e = sym (unflat-flat f) ∙ ap unflat e ∙ unflat-flat g
 
--- A list is whole exactly if reading it loses nothing.
+-- A list is whole exactly if the trees read back have that flat list.
 pub whole_iff : (tokens : List TokenTree) → IsWhole tokens ↔ (flat (unflat tokens) ≡ tokens)
 whole_iff tokens = (
   λ (trees, e). ap (λ l. flat (unflat l)) e ∙ ap flat (unflat-flat trees) ∙ sym e,
   λ e. (unflat tokens, sym e),
 )
 
--- a forest is stored as its flat list
+-- the code of a forest: its flat list
 abbrev pub forest_code : Coded Forest
 forest_code = code_by (List TokenTree) (coded_list token_row.coded) flat unflat unflat-flat
 
--- a root is stored as its delimiter and its children
+-- the code of a root: its delimiter and its children
 abbrev pub root_code : Coded Root
 root_code =
     code_by (Delimiter × Forest) (coded× delimiter_row.coded forest_code) (λ r. (r.delimiter, r.children)) (λ p. record { delimiter = p.0; children = p.1 }) (λ _. refl)
@@ -115,7 +115,7 @@ unfolding delimiter_at
 flat_root-injective a b e =
     λ i. record { delimiter = ap (delimiter_at a.delimiter) e i; children = flat-injective a.children b.children (ap (drop 1) e) i }
 
--- A list is one subtree in one way, so the root that it means can stand in a ghost field.
+-- A list has only one root, so this is a proposition, as a ghost field must be.
 pub IsOneSubtree-prop : (tokens : List TokenTree) → IsProp (IsOneSubtree tokens)
 IsOneSubtree-prop tokens x y =
     let roots : x.0 ≡ y.0 = flat_root-injective x.0 y.0 (sym x.1 ∙ y.1) in

@@ -9,7 +9,7 @@ use Rattle.tt_base.specs.declared.token_tree.TokenTree.TheVariants as token
 use Rattle.tt_base.specs.Forest.{Forest, end, leaf, node, size, flat}
 use Rattle.tt_base.specs.Unflat.{forest_code}
 
--- what a walk comes by: a leaf, the start of a node, its end
+-- an event of a walk: a leaf, the start of a node, or its end
 pub data Event : Type 0 where
   passes : Leaf → Event
   opens : Subtree → Event
@@ -26,7 +26,7 @@ walk (leaf it rest) = passes it ∷ walk rest
 walk (node delimiter children rest) =
     opens (subtree_of delimiter (size children)) ∷ (walk children ++ (closes (subtree_of delimiter (size children)) ∷ walk rest))
 
--- a place in the walk through a list of trees: how many of its events are passed
+-- a place in the walk through a list of trees, as the number of events that are passed
 pub record Walked : Type 0 where
   pub origin : Forest
   pub place : ℕ
@@ -35,7 +35,7 @@ pub record Walked : Type 0 where
 abbrev pub begun : Forest → Walked
 begun origin = record { origin = origin; place = 0 }
 
--- what lets a place be the value of a model
+-- the code of a place, which a model needs
 abbrev pub walked_code : Coded Walked
 walked_code = code_by (Forest × ℕ) (coded× forest_code coded_ℕ) (λ w. (w.origin, w.place)) (λ p. record { origin = p.0; place = p.1 }) (λ _. refl)
 
@@ -43,19 +43,19 @@ walked_code = code_by (Forest × ℕ) (coded× forest_code coded_ℕ) (λ w. (w.
 abbrev pub events_ahead : Walked → List Event
 events_ahead walked = drop walked.place (walk walked.origin)
 
--- there are none
+-- no event is ahead
 abbrev pub is_over : List Event → Bool
 is_over [] = true
 is_over (event ∷ events) = false
 
--- the next one is the end of a node
+-- the next event is the end of a node
 abbrev pub is_at_close : List Event → Bool
 is_at_close [] = false
 is_at_close (passes it ∷ events) = false
 is_at_close (opens subtree ∷ events) = false
 is_at_close (closes subtree ∷ events) = true
 
--- the next one is the start of a node
+-- the next event is the start of a node
 abbrev pub is_at_open : List Event → Bool
 is_at_open [] = false
 is_at_open (passes it ∷ events) = false
@@ -69,7 +69,7 @@ token_at (passes it ∷ events) = Some (token.Leaf it)
 token_at (opens subtree ∷ events) = Some (token.Subtree subtree)
 token_at (closes subtree ∷ events) = None
 
--- the leaves that the next two events are
+-- the leaves of the next two events, if both are leaves
 abbrev pub two_leaves_at : List Event → Option (List Leaf)
 two_leaves_at [] = None
 two_leaves_at (opens subtree ∷ events) = None
@@ -79,7 +79,7 @@ two_leaves_at (passes it ∷ opens subtree ∷ events) = None
 two_leaves_at (passes it ∷ closes subtree ∷ events) = None
 two_leaves_at (passes it ∷ passes other ∷ events) = Some (it ∷ other ∷ [])
 
--- how many nodes end of which the events have no start
+-- the number of nodes that end in the events and do not start in them
 abbrev pub open_nodes : List Event → ℕ
 open_nodes [] = 0
 open_nodes (passes it ∷ events) = open_nodes events
@@ -98,7 +98,7 @@ abbrev pub one_if_any : List Event → ℕ
 one_if_any [] = 0
 one_if_any (event ∷ events) = 1
 
--- one place on, and the same at the end
+-- one event further, or the same place at the end
 abbrev pub one_on : Walked → Walked
 one_on walked = record { origin = walked.origin; place = walked.place + one_if_any (events_ahead walked) }
 

@@ -1,4 +1,4 @@
-//! The lines of Debug: one for each token of a tree.
+//! The lines that `Debug` writes: one for each token of a tree.
 ghost use Rattle.std.specs.Prelude.{◌≡◌, Some};
 ghost use Rattle.tt_base.specs.DebugText.{break_if, ends_text, header_line, indent, leaf_line, spacing_text};
 
@@ -7,14 +7,14 @@ use crate::leaf::Leaf;
 use crate::punct::Spacing;
 use std::fmt;
 
-/// A line feed if one is due.
+/// Returns a line feed if one is due, otherwise nothing.
 pub fn line_break(due: bool) -> &'static str
     ensures { result.now ≡ break_if due }
 {
     if due { "\n" } else { "" }
 }
 
-/// Prints two spaces for each level.
+/// Writes two spaces for each level.
 #[derive(Clone, Copy)]
 pub struct Indent(pub usize);
 
@@ -29,7 +29,7 @@ impl fmt::Display for Indent {
     }
 }
 
-/// Prints the line of a leaf, without its indentation.
+/// Writes the line of a leaf, without its indentation.
 #[derive(Clone, Copy)]
 pub struct LeafLine<'a>(pub &'a Leaf);
 
@@ -57,7 +57,7 @@ impl fmt::Display for LeafLine<'_> {
     }
 }
 
-/// Prints the line of a subtree's header, without its indentation.
+/// Writes the line of a subtree's header, without its indentation.
 #[derive(Clone, Copy)]
 pub struct HeaderLine(pub Delimiter);
 
@@ -75,7 +75,7 @@ impl fmt::Display for HeaderLine {
     }
 }
 
-// Both ends of a subtree of that kind.
+// Returns the text for both ends of a subtree of that kind.
 fn both_ends(kind: DelimiterKind) -> &'static str
     ensures { result.now ≡ ends_text kind }
 {

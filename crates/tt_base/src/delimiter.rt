@@ -3,19 +3,19 @@ ghost use Rattle.std.specs.Prelude.{◌≡◌, ◌<◌, ◌^◌};
 
 use crate::span::Span;
 
-/// What stands round a subtree. The numbers are those of `docs/FORMATS.md`, "Numbers of kinds".
+/// The brackets around a subtree. The numbers are those of `docs/FORMATS.md`, "Numbers of kinds".
 #[derive(Debug, Clone, Copy, PartialEq, Eq, Hash)]
 pub enum DelimiterKind {
     Parenthesis = 0,
     Brace = 1,
     Bracket = 2,
-    /// Nothing is printed for it.
+    /// No brackets: `Display` writes nothing for it.
     Invisible = 3,
-    /// Nothing is printed for it either, but it is never taken away.
+    /// No brackets: `Display` writes nothing for it, and `strip_invisible` keeps it.
     InvisibleOpaque = 4,
 }
 
-/// The spans of an opening and a closing delimiter.
+/// The spans of an opening and a closing bracket.
 #[derive(Debug, Clone, Copy, PartialEq)]
 pub struct DelimSpan {
     pub open_span: Span,
@@ -25,14 +25,14 @@ pub struct DelimSpan {
 impl DelimSpan {
     ghost use Rattle.tt_base.specs.Token.{delim_span};
 
-    /// Both spans are the given one.
+    /// Returns the pair in which both spans are `span`.
     pub fn from_single(span: Span) -> Self
         ensures { result ≡ delim_span span span }
     {
         DelimSpan::from_pair(span, span)
     }
 
-    /// The two spans.
+    /// Returns the pair of these spans.
     pub fn from_pair(open_span: Span, close: Span) -> Self
         ensures { result ≡ delim_span open_span close }
     {
@@ -40,7 +40,7 @@ impl DelimSpan {
     }
 }
 
-/// A kind and where its two ends come from.
+/// A kind of brackets, and the spans of the opening and the closing one.
 #[derive(Debug, Clone, Copy, PartialEq, Eq, Hash)]
 pub struct Delimiter {
     pub open_span: Span,
@@ -51,14 +51,14 @@ pub struct Delimiter {
 impl Delimiter {
     ghost use Rattle.tt_base.specs.Token.{delimiter, delim_span};
 
-    /// The invisible delimiter with that span at both ends.
+    /// Returns the invisible delimiter with that span at both ends.
     pub fn invisible_spanned(span: Span) -> Self
         ensures { result ≡ delimiter DelimiterKind.Invisible span span }
     {
         Delimiter::invisible_delim_spanned(DelimSpan::from_single(span))
     }
 
-    /// The invisible delimiter with those spans.
+    /// Returns the invisible delimiter with these spans.
     pub fn invisible_delim_spanned(span: DelimSpan) -> Self
         ensures { result ≡ delimiter DelimiterKind.Invisible span.open_span span.close }
     {
@@ -69,7 +69,7 @@ impl Delimiter {
         }
     }
 
-    /// Both spans.
+    /// Returns both spans.
     pub fn delim_span(&self) -> DelimSpan
         ensures { result ≡ delim_span self.now.open_span self.now.close }
     {
@@ -80,16 +80,16 @@ impl Delimiter {
     }
 }
 
-/// The header of a subtree, which is followed by all that it holds.
+/// The header of a subtree. In a flat list, all that the subtree holds follows it.
 #[derive(Debug, Clone, Copy, PartialEq, Eq, Hash)]
 pub struct Subtree {
     pub delimiter: Delimiter,
-    /// How many tokens follow that belong to it, at any depth.
+    /// The number of tokens that the subtree holds, at any depth.
     pub len: u32,
 }
 
 impl Subtree {
-    /// `len`, as a `usize`.
+    /// Returns `len` as a `usize`.
     pub fn usize_len(&self) -> usize
         ensures value { result ≡ self.now.len }
         ensures bound { result < 2 ^ 32 }
@@ -97,7 +97,7 @@ impl Subtree {
         self.len as usize
     }
 
-    /// `len`: all flat tokens below the header, itself not counted.
+    /// Returns `len`: the number of tokens below the header, at any depth, without the header.
     pub fn count(&self) -> usize
         ensures value { result ≡ self.now.len }
         ensures bound { result < 2 ^ 32 }

@@ -1,4 +1,4 @@
-//! Why calls are refused.
+//! Why calls fail.
 ghost use Rattle.std.specs.Prelude.{◌≡◌, Some};
 ghost use Rattle.tt_base.specs.declared.fault.TtFault.TheVariants.{Memory};
 
@@ -6,37 +6,37 @@ use std::alloc::{AllocError, AllocFailed};
 use std::error::Error;
 use std::fmt;
 
-/// Why a call was refused. The numbers and their order are those of `docs/FORMATS.md`, "Faults".
+/// Why a call failed. The numbers and their order are those of `docs/FORMATS.md`, "Faults".
 #[derive(Debug, Clone, Copy, PartialEq, Eq)]
 pub enum TtFault {
-    /// A growth was refused.
+    /// Memory ran out.
     Memory = 1,
     /// The list is not the flat list of exactly one subtree.
     NotOneSubtree = 2,
-    /// The place is not below the token count.
+    /// The place is not less than the number of tokens.
     NoSuchPlace = 3,
     /// The place holds a header.
     NotALeaf = 4,
-    /// A suffix of more than 255 bytes.
+    /// A suffix has more than 255 bytes.
     SuffixTooLong = 5,
     /// The offsets of a scan do not fit the text.
     BadScan = 6,
-    /// More than 4,294,967,295 tokens below the top.
+    /// The tree has more than 4,294,967,295 tokens below the top.
     TooManyTokens = 7,
-    /// A parts table of more than 268,435,456 entries.
+    /// The table of span parts would have more than 268,435,456 entries.
     TooManySpanParts = 8,
-    /// More than 536,870,912 different symbols.
+    /// The tree has more than 536,870,912 different symbols.
     TooManySymbols = 9,
-    /// More than 4,294,967,295 bytes below the top.
+    /// The tree would take more than 4,294,967,295 bytes below the top.
     TooManyBytes = 10,
-    /// All numbers of restore points were given out.
+    /// All numbers of restore points are used.
     PointsSpent = 11,
 }
 
 impl TtFault {
     ghost use Rattle.tt_base.specs.Fault.{number_of};
 
-    /// The fault's number, from 1 to 11.
+    /// Returns the fault's number, from 1 to 11.
     pub fn number(&self) -> u8
         ensures { result ≡ number_of self.now }
     {
@@ -84,14 +84,14 @@ impl<T: Drop> From<AllocFailed<T>> for TtFault {
     }
 }
 
-/// A value that a call took and then refused, handed back with the reason.
+/// A value that a call took and returns after a failure, with the reason.
 #[derive(Debug, Drop)]
 pub struct Refused<T> {
     pub fault: TtFault,
     pub value: T,
 }
 
-// A caller that has no use for the value keeps the reason, so it can write `?`.
+// So a caller that does not use the value can write `?`, which keeps the reason.
 impl<T: Drop> From<Refused<T>> for TtFault {
     ghost from_gives = { λ refused fault. fault ≡ refused.fault };
 

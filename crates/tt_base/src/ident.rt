@@ -8,7 +8,7 @@ use crate::symbol::Symbol;
 use std::alloc::Global;
 use std::fmt;
 
-/// Whether an ident is written with `r#`. The numbers are those of `docs/FORMATS.md`, "Numbers of kinds".
+/// Whether a text has `r#` before the ident. The numbers are those of `docs/FORMATS.md`, "Numbers of kinds".
 #[derive(Debug, Clone, Copy, PartialEq, Eq, Hash)]
 pub enum IdentIsRaw {
     No = 0,
@@ -19,21 +19,21 @@ impl IdentIsRaw {
     ghost use Rattle.tt_base.specs.LeafText.{raw_prefix};
     ghost use Rattle.tt_base.specs.Token.{rawness_of, without_raw_prefix};
 
-    /// Whether it is `Yes`.
+    /// Returns whether this is `Yes`.
     pub fn yes(self) -> bool
         ensures { IsTrue result ↔ (self ≡ IdentIsRaw.Yes) }
     {
         matches!(self, IdentIsRaw::Yes)
     }
 
-    /// Whether it is `No`.
+    /// Returns whether this is `No`.
     pub fn no(&self) -> bool
         ensures { IsTrue result ↔ (self.now ≡ IdentIsRaw.No) }
     {
         matches!(self, IdentIsRaw::No)
     }
 
-    /// What stands before the name: `r#` or nothing.
+    /// Returns the text before the name: `r#` or nothing.
     pub fn as_str(self) -> &'static str
         ensures { result.now ≡ raw_prefix self }
     {
@@ -43,7 +43,7 @@ impl IdentIsRaw {
         }
     }
 
-    /// Takes off one leading `r#`, if there is one.
+    /// Returns whether the text begins with `r#`, and the text without one leading `r#`.
     pub fn split_from_symbol(text: &str) -> (Self, &str)
         ensures rawness { result.0 ≡ rawness_of text.now }
         ensures name { result.1.now ≡ without_raw_prefix text.now }
@@ -67,7 +67,8 @@ pub struct Ident {
 impl Ident {
     ghost use Rattle.tt_base.specs.Token.{ident_from};
 
-    /// The ident that is written so: a leading `r#` makes it raw.
+    /// Returns the ident with that text. If the text begins with `r#`, the ident is raw, and its name is the rest. Fails only if memory
+    /// runs out.
     pub fn new(alloc: Global, text: &str, span: Span) -> Result<Ident, TtFault>
         ensures ok { IfOk result (λ ident. ident ≡ ident_from text.now span) }
         ensures err { IfErr result (λ fault. fault ≡ Memory) }

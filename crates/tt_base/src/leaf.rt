@@ -19,7 +19,7 @@ pub enum Leaf {
 impl Leaf {
     ghost use Rattle.tt_base.specs.Token.{leaf_span};
 
-    /// The span of what it is.
+    /// Returns the span of the literal, the punct or the ident.
     pub fn span(&self) -> &Span
         ensures { result.now ≡ leaf_span self.now }
     {

@@ -7,13 +7,13 @@ ghost use Rattle.tt_base.specs.Forest.{AreLevels};
 use crate::token_tree::TokenTree;
 use std::alloc::{AllocError, Global};
 
-/// How many tokens are still to come of each subtree that is open in a flat list, to see in one pass whether the list is
-/// that of some trees. It asks for memory only where a subtree goes on behind one that is open in it.
+/// Checks in one pass whether a flat list is that of some trees. For each open subtree it has the number of tokens that are still to
+/// come. It takes memory only if a subtree has tokens to come after one that is opened in it.
 #[derive(Drop)]
 pub struct Levels {
-    // of the innermost one
+    // the number for the innermost subtree
     left: usize,
-    // of those round it, each behind the one that is open in it; one with nothing to come is not kept
+    // the numbers for the subtrees around it, the innermost last: each counts the tokens after the subtree inside; no number is 0
     outer: Vec<usize>,
     ghost some: { All (λ n. 0 < n) outer.items },
 }
@@ -21,7 +21,7 @@ pub struct Levels {
 impl Levels {
     ghost use Rattle.tt_base.specs.Levels.{open_levels, GoesBack, IsSameQuestion, Opens, TakesToken};
 
-    /// One level of so many tokens.
+    /// Returns one level of `len` tokens. Takes no memory.
     pub fn new(alloc: Global, len: usize) -> Levels
         ensures { open_levels result ≡ len ∷ [] }
     {
@@ -31,7 +31,7 @@ impl Levels {
         }
     }
 
-    // Goes back to the innermost subtree with tokens to come, if there is one.
+    // Goes to the innermost subtree with tokens to come. Returns whether there is one.
     #[inline(always)]
     fn go_back(&mut self) -> bool
         ensures levels { GoesBack (open_levels self.old) (open_levels self.new) result }
@@ -47,7 +47,7 @@ impl Levels {
         true
     }
 
-    // Opens a subtree with so many tokens below its header, which is the next token.
+    // Opens a subtree with `below` tokens below its header, which is the next token.
     fn open(&mut self, below: usize) -> Result<(), AllocError>
         requires { below < self.old.left }
         ensures ok { OnOk result (Opens (open_levels self.old) below (open_levels self.new)) }
@@ -63,8 +63,8 @@ impl Levels {
         Ok(())
     }
 
-    /// Takes the next token, and answers whether it fits. Where memory is refused, the token is not taken, and may be
-    /// offered again. In the place of the call, so that the kind of a token is not asked again where it is known.
+    /// Takes the next token. Returns whether the token fits at this place. If memory runs out, fails and does not take the token; the
+    /// caller may pass it again. The call is inline, so that a caller that knows the kind of the token does not test it again.
     #[inline(always)]
     pub fn take(&mut self, token: &TokenTree) -> Result<bool, AllocError>
         ensures ok { IfOk result (TakesToken (open_levels self.old) token.now (open_levels self.new)) }
@@ -85,7 +85,7 @@ impl Levels {
         Ok(true)
     }
 
-    /// Whether no token is to come.
+    /// Returns whether no token is to come.
     pub fn is_done(&self) -> bool
         ensures { IsTrue result ↔ AreLevels [] (open_levels self.now) }
     {

@@ -1,6 +1,5 @@
-//! The plain data of token trees: ranges, spans, symbols, token types and faults.
-//!
-//! `specs/` has what a token tree means: all definitions that two crates speak of stand there.
+//! The plain data of token trees: ranges, spans, symbols, token types and faults. `specs/` has the definitions of what a token tree
+//! means, and all others that two crates use.
 #![tactic(auto)]
 
 mod debug_line;

@@ -8,7 +8,7 @@ use crate::span::Span;
 use crate::symbol::Symbol;
 use std::alloc::{AllocError, Global};
 
-/// What a literal is. A raw kind counts its hashes. Its Debug text is its name, and the hashes of a raw one.
+/// The kind of a literal. A raw kind has the number of its hashes. `Debug` writes the name, and the hashes of a raw kind.
 #[derive(Clone, Copy, PartialEq, Eq, Hash)]
 pub enum LitKind {
     Byte,
@@ -34,7 +34,7 @@ pub struct Lit {
     pub suffix: Option<Symbol>,
 }
 
-/// A literal: one text, whose last `suffix_len` bytes are the suffix.
+/// A literal: one text, the last `suffix_len` bytes of which are the suffix.
 #[derive(Debug, PartialEq, Eq, Hash, Drop)]
 pub struct Literal {
     symbol: Symbol,
@@ -48,7 +48,8 @@ pub struct Literal {
 impl Literal {
     ghost use Rattle.tt_base.specs.Literal.{IsLiteral, CutsText, symbol_of, span_of, kind_of, suffix_len_of, text_of, suffix_of};
 
-    /// The literal of that text followed by that suffix. The two are joined only where there is a suffix.
+    /// Returns the literal of that text and that suffix. Copies the text only once if the suffix is empty. Fails if the suffix has more
+    /// than 255 bytes (`SuffixTooLong`), otherwise only if memory runs out.
     pub fn new(
         alloc: Global,
         text: &str,
@@ -76,7 +77,7 @@ impl Literal {
         })
     }
 
-    /// The literal of that text, with no suffix.
+    /// Returns the literal of that text, with no suffix. Fails only if memory runs out.
     pub fn new_no_suffix(
         alloc: Global,
         text: &str,
@@ -94,7 +95,7 @@ impl Literal {
         })
     }
 
-    // Whether the last so many bytes of the text begin at a character.
+    // Returns whether the last `suffix_len` bytes of the text begin at a character.
     #[inline(never)]
     fn cuts(symbol: &Symbol, suffix_len: u8) -> bool
         ensures { IsTrue result ↔ CutsText symbol.now suffix_len }
@@ -104,8 +105,8 @@ impl Literal {
         suffix <= text.len() && text.is_char_boundary(text.len() - suffix)
     }
 
-    /// The literal whose text and suffix are the symbol, or `None` where a suffix of that length
-    /// would not begin at a character. Where there is none, the text is not looked at.
+    /// Returns the literal whose text and suffix are the symbol, or `None` if the last `suffix_len` bytes do not begin at a character.
+    /// Does not read the text if `suffix_len` is 0.
     #[inline(always)]
     pub fn from_parts(symbol: Symbol, span: Span, kind: LitKind, suffix_len: u8) -> Option<Literal>
         ensures { MatchOption result (¬ (CutsText symbol suffix_len)) (λ literal. IsLiteral literal symbol span kind suffix_len) }
@@ -121,7 +122,7 @@ impl Literal {
         })
     }
 
-    /// The same literal at another place.
+    /// Returns the literal with another span.
     pub fn with_span(mut self, span: Span) -> Literal
         ensures { IsLiteral result (symbol_of self) span (kind_of self) (suffix_len_of self) }
     {
@@ -129,7 +130,7 @@ impl Literal {
         self
     }
 
-    /// The text without the suffix, and the suffix, which is empty where there is none.
+    /// Returns the text without the suffix, and the suffix, which may be empty.
     pub fn text_and_suffix(&self) -> (&str, &str)
         ensures text { result.0.now ≡ text_of self.now }
         ensures suffix { result.1.now ≡ suffix_of self.now }
@@ -138,42 +139,42 @@ impl Literal {
         both.split_at(both.len() - self.suffix_len as usize)
     }
 
-    /// The text without the suffix.
+    /// Returns the text without the suffix.
     pub fn text(&self) -> &str
         ensures { result.now ≡ text_of self.now }
     {
         self.text_and_suffix().0
     }
 
-    /// The suffix, which is empty where there is none.
+    /// Returns the suffix, which may be empty.
     pub fn suffix(&self) -> &str
         ensures { result.now ≡ suffix_of self.now }
     {
         self.text_and_suffix().1
     }
 
-    /// The text and the suffix, as one symbol.
+    /// Returns the text and the suffix as one symbol.
     pub fn symbol(&self) -> &Symbol
         ensures { result.now ≡ symbol_of self.now }
     {
         &self.symbol
     }
 
-    /// Where it stands.
+    /// Returns the span.
     pub fn span(&self) -> &Span
         ensures { result.now ≡ span_of self.now }
     {
         &self.span
     }
 
-    /// Its kind.
+    /// Returns the kind.
     pub fn kind(&self) -> LitKind
         ensures { result ≡ kind_of self.now }
     {
         self.kind
     }
 
-    /// How many bytes the suffix has.
+    /// Returns the number of bytes of the suffix.
     pub fn suffix_len(&self) -> u8
         ensures { result ≡ suffix_len_of self.now }
     {

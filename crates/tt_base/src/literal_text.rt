@@ -1,4 +1,4 @@
-//! How a literal is printed, and its kind.
+//! The texts of literals and of their kinds.
 ghost use Rattle.std.specs.Prelude.{◌++◌, codes, Some};
 ghost use Rattle.std.specs.Fmt.{WritesOnOk};
 ghost use Rattle.tt_base.specs.DebugText.{kind_text};
@@ -7,7 +7,7 @@ ghost use Rattle.tt_base.specs.LeafText.{hashes, literal_text};
 use crate::literal::{LitKind, Literal};
 use std::fmt;
 
-// Prints as many `#`.
+// Writes that many `#`.
 #[derive(Clone, Copy)]
 struct Hashes(u8);
 
@@ -41,7 +41,7 @@ impl fmt::Display for Literal {
     }
 }
 
-// A raw string between its fences.
+// Writes a raw string between its quotes and hashes.
 fn write_raw<W: fmt::Write>(
     f: &mut fmt::Formatter<W>,
     prefix: &str,

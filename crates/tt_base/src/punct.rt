@@ -5,14 +5,14 @@ use crate::span::{ErasedFileAstId, FileId, Span, SpanAnchor, SyntaxContext};
 use crate::text_range::{TextRange, TextSize};
 use std::fmt;
 
-/// How a punct stands to the token after it. The numbers are those of `docs/FORMATS.md`, "Numbers of kinds".
+/// What follows a punct. The numbers are those of `docs/FORMATS.md`, "Numbers of kinds".
 #[derive(Debug, Clone, Copy, PartialEq, Eq, Hash)]
 pub enum Spacing {
-    /// It does not join the next token.
+    /// It is not joined to the next token.
     Alone = 0,
-    /// The next token is a punct, and follows at once.
+    /// The next token is a punct, and follows directly.
     Joint = 1,
-    /// Another token follows at once. It is shown to no macro.
+    /// Another token follows directly. Macros do not see this.
     JointHidden = 2,
 }
 
@@ -34,7 +34,7 @@ impl fmt::Display for Punct {
     }
 }
 
-/// U+0000, alone, with a span of zeros: what fills the free places of an array of puncts.
+/// U+0000, alone, with a span of zeros. It fills the free places of an array of puncts.
 impl Default for Punct {
     ghost use Rattle.tt_base.specs.Token.{zero_punct};
 

@@ -1,4 +1,4 @@
-//! Literals of a text in which a lexer has found the places.
+//! Literals of a text in which a lexer has found the parts.
 ghost use Rattle.std.specs.Prelude.{◌≡◌, ◌-◌, ◌≤◌, ◌++◌, length, drop, slice_range, IfOk, IfErr, MatchOption};
 ghost use Rattle.tt_base.specs.Literal.{IsLiteral};
 ghost use Rattle.tt_base.specs.Scan.{FitsText, IsScanFault, ScanFits, closing_len, is_number, kind_told, opening_len, parts_told, suffix_told};
@@ -8,8 +8,8 @@ use crate::literal::{LitKind, Literal};
 use crate::span::Span;
 use std::alloc::Global;
 
-/// What a lexer says of the text of a literal: its kind, whether its closing quote is there, and how many hashes a raw
-/// one has, where they could be counted.
+/// What a lexer found in the text of a literal: its kind, whether it has a closing quote, and for a raw one the number of hashes, or
+/// `None` if there is no valid number.
 #[derive(Debug, Clone, Copy, PartialEq, Eq)]
 pub enum LiteralScan {
     Int,
@@ -25,7 +25,7 @@ pub enum LiteralScan {
 }
 
 impl LiteralScan {
-    // The kind of literal. Hashes that were not counted are none.
+    // Returns the kind of literal. If there is no number of hashes, it has 0.
     fn kind(self) -> LitKind
         ensures { result ≡ kind_told self }
     {
@@ -43,7 +43,7 @@ impl LiteralScan {
         }
     }
 
-    // How many bytes stand before the value.
+    // Returns the number of bytes before the value.
     fn opening_len(self) -> usize
         ensures { result ≡ opening_len self }
     {
@@ -58,7 +58,7 @@ impl LiteralScan {
         }
     }
 
-    // How many bytes stand behind the value, before the suffix.
+    // Returns the number of bytes after the value and before the suffix.
     fn closing_len(self) -> usize
         ensures { result ≡ closing_len self }
     {
@@ -76,14 +76,14 @@ impl LiteralScan {
     }
 }
 
-// Whether a literal of the kind may have a suffix.
+// Returns whether a literal of the kind may have a suffix.
 fn is_number(kind: LitKind) -> bool
     ensures { result ≡ is_number kind }
 {
     matches!(kind, LitKind::Integer | LitKind::Float)
 }
 
-// The value, and all that follows the literal, where the places fit the text.
+// Returns the value, and all that follows the literal, or `None` if the scan does not fit the text.
 fn cut(text: &str, scan: LiteralScan, place: usize) -> Option<(&str, &str)>
     ensures { MatchOption result (FitsText text.now scan place → ⊥) (λ parts. FitsText text.now scan place
         × (parts.0.now ≡ slice_range text.now (opening_len scan) (place - closing_len scan))
@@ -104,15 +104,16 @@ fn cut(text: &str, scan: LiteralScan, place: usize) -> Option<(&str, &str)>
     Some((&text[start..end], behind))
 }
 
-// The suffix that counts of what follows a literal.
+// Returns the suffix of a literal that this text follows: the text, or nothing if it is `_`.
 fn counted_suffix(behind: &str) -> &str
     ensures { result.now ≡ suffix_told behind.now }
 {
     if behind == "_" { "" } else { behind }
 }
 
-/// The literal that a text spells, as a scan tells it: the number beside the scan is the byte place where the suffix
-/// starts. Without a scan, and where a suffix follows what is no number, the whole text is a literal of kind `Err`.
+/// Returns the literal of a text by a scan. The number beside the scan is the byte at which the suffix begins. If there is no scan, or a
+/// literal that is no number has a suffix, the whole text is a literal of kind `Err`. Fails if the scan does not fit the text
+/// (`BadScan`), then if the suffix has more than 255 bytes (`SuffixTooLong`), otherwise only if memory runs out.
 pub fn token_to_literal(
     alloc: Global,
     text: &str,

@@ -1,4 +1,4 @@
-//! Where a token comes from.
+//! The source of a token.
 ghost use Rattle.std.specs.Prelude.{◌≡◌, Some};
 
 use crate::text_range::TextRange;
@@ -13,17 +13,17 @@ pub struct ErasedFileAstId(pub u32);
 #[derive(Debug, Clone, Copy, PartialEq, Eq, Hash)]
 pub struct SyntaxContext(pub u32);
 
-/// The file and the item in it that a range is counted from.
+/// The file and the item in it at whose start a range begins to count.
 #[derive(Debug, Clone, Copy, PartialEq, Eq, Hash)]
 pub struct SpanAnchor {
     pub file_id: FileId,
     pub ast_id: ErasedFileAstId,
 }
 
-/// Where a token comes from. Its Debug text is `file:ast@start..end#ctx`, in decimal.
+/// The source of a token. `Debug` writes `file:ast@start..end#ctx`, in decimal.
 #[derive(Clone, Copy, PartialEq, Eq, Hash)]
 pub struct Span {
-    /// Counted from the start of the anchor's item.
+    /// The range in bytes from the start of the anchor's item.
     pub range: TextRange,
     pub anchor: SpanAnchor,
     pub ctx: SyntaxContext,
@@ -48,7 +48,7 @@ impl fmt::Debug for Span {
     }
 }
 
-/// A span without its range: what many spans of one tree share.
+/// A span without its range. Many spans of a tree have the same part.
 #[derive(Debug, Clone, Copy, PartialEq, Eq, Hash)]
 pub struct SpanPart {
     pub anchor: SpanAnchor,
@@ -58,7 +58,7 @@ pub struct SpanPart {
 impl SpanPart {
     ghost use Rattle.tt_base.specs.Span.{part_of, span_in};
 
-    /// The part of a span.
+    /// Returns the part of a span.
     pub fn from_span(span: &Span) -> Self
         ensures { result ≡ part_of span.now }
     {
@@ -68,7 +68,7 @@ impl SpanPart {
         }
     }
 
-    /// The span of this part with that range.
+    /// Returns the span with this part and that range.
     pub fn recombine(&self, range: TextRange) -> Span
         ensures { result ≡ span_in self.now range }
     {

@@ -1,4 +1,4 @@
-//! Texts that are shared.
+//! Shared texts.
 ghost use Rattle.std.specs.Prelude.{◌≡◌, IfOk, IfErr, Some, bytes_eq, ⊤};
 ghost use Rattle.std.proofs.Common.{rules};
 ghost use Rattle.std.specs.Cmp.Rules.{comparing, hashing};
@@ -13,14 +13,14 @@ use std::hash::{Hash, Hasher};
 use std::marker::Model;
 use tt_shared::Shared;
 
-/// A name, or the text of a literal. Symbols are equal where their texts are. A clone shares the text:
-/// it takes no memory and cannot fail. A contract sees the text's bytes.
+/// A name, or the text of a literal. Symbols are equal if their texts are. A clone shares the text, takes no memory and cannot fail. A
+/// contract sees the bytes of the text.
 #[derive(Drop)]
 pub struct Symbol {
     shared: Shared<SharedText>,
 }
 
-// What all clones of a symbol have in common: the text, and the place that was noted last.
+// What all clones of a symbol share: the text, and the place that was noted last.
 #[derive(Drop)]
 struct SharedText {
     text: Text,
@@ -38,7 +38,7 @@ impl Model for Symbol {
 }
 
 impl Symbol {
-    /// The symbol of a text, which is copied. The only fault is `Memory`.
+    /// Returns the symbol of a text, with a copy of the text. Fails only if memory runs out (`Memory`).
     pub fn new(alloc: Global, text: &str) -> Result<Symbol, TtFault>
         ensures ok { IfOk result (λ symbol. symbol ≡ text.now) }
         ensures err { IfErr result (λ fault. fault ≡ TtFault.Memory) }
@@ -49,27 +49,27 @@ impl Symbol {
         Ok(Symbol { shared })
     }
 
-    /// Its text.
+    /// Returns the text.
     pub fn as_str(&self) -> &str
         ensures { result.now ≡ self.now }
     {
         self.shared.get().text.as_str()
     }
 
-    /// The place that was last noted of this symbol or of a clone of it; 0 if none was. No contract says more: whoever
-    /// looks for the symbol in a table may look there first, and has to see whether it is there.
+    /// Returns the place that `note_place` noted last for this symbol or a clone of it, or 0. No contract says more: a caller that looks
+    /// for the symbol in a table may try this place first, and must check that the symbol is there.
     #[inline(always)]
     pub fn place(&self) -> u32 {
         self.shared.get().place.get()
     }
 
-    /// Notes where in a table this symbol stands, for all its clones.
+    /// Notes a place of this symbol in a table, for all its clones.
     #[inline(always)]
     pub fn note_place(&self, place: u32) {
         self.shared.get().place.set(place);
     }
 
-    // Whether the texts are equal, wherever they are.
+    // Returns whether the bytes of the texts are equal.
     #[inline(never)]
     fn has_text_of(&self, other: &Symbol) -> bool
         ensures { result ≡ bytes_eq self.now other.now }
@@ -94,7 +94,7 @@ impl PartialEq for Symbol {
 
     ghost laws = { Prim.search (comparing, rules) };
 
-    // Mostly equal symbols share their text, so that is tried in place, and the rest is a call.
+    // Equal symbols mostly share their text, so this test is inline, and the other one is a call.
     #[inline(always)]
     fn eq(&self, other: &Symbol) -> bool {
         self.shared.ptr_eq(&other.shared) || self.has_text_of(other)

@@ -5,10 +5,10 @@ ghost use Rattle.tt_base.specs.Text.{text_bytes};
 use arrayvec::ArrayString;
 use std::alloc::{AllocError, Global};
 
-// A text of up to so many bytes is short, as nearly all names are. With more, each block of a symbol would be larger.
+// The largest number of bytes of a short text. Nearly all names are short. A larger number would make each block of a symbol larger.
 const SHORT_BYTES: usize = 24;
 
-/// A text that stays as it is. A short one lies in the value itself, so that who reaches the value reaches the text.
+/// A text that does not change. A short one is inside the value, so a caller that has read the value has the text.
 #[derive(Drop)]
 pub(crate) enum Text {
     Short(ArrayString<SHORT_BYTES>),
@@ -16,7 +16,7 @@ pub(crate) enum Text {
 }
 
 impl Text {
-    /// A copy of the text. Only a long one takes memory.
+    /// Returns a copy of the text. Takes memory only if the text is long.
     pub(crate) fn new(alloc: Global, text: &str) -> Result<Text, AllocError>
         ensures { IfOk result (λ copy. text_bytes copy ≡ text.now) }
     {

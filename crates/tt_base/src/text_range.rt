@@ -10,21 +10,21 @@ pub struct TextSize {
 impl TextSize {
     ghost use Rattle.tt_base.specs.Span.{size_of};
 
-    /// A place, or a length, of so many bytes.
+    /// Returns the place, or the length, of `raw` bytes.
     pub fn new(raw: u32) -> Self
         ensures { size_of result ≡ raw }
     {
         TextSize { raw }
     }
 
-    /// How many bytes.
+    /// Returns the number of bytes.
     pub fn raw(self) -> u32
         ensures { result ≡ size_of self }
     {
         self.raw
     }
 
-    /// The sum, or `None` where it does not fit.
+    /// Returns the sum, or `None` if a `u32` cannot hold it.
     pub fn checked_add(self, rhs: TextSize) -> Option<TextSize>
         ensures { MatchOption result
             (2 ^ 32 ≤ size_of self + size_of rhs)
@@ -33,7 +33,7 @@ impl TextSize {
         self.raw.checked_add(rhs.raw).map(TextSize::new)
     }
 
-    /// The difference, or `None` where `rhs` is the larger.
+    /// Returns the difference, or `None` if `rhs` is larger.
     pub fn checked_sub(self, rhs: TextSize) -> Option<TextSize>
         ensures { MatchOption result
             (size_of self < size_of rhs)
@@ -63,7 +63,7 @@ impl From<TextSize> for u32 {
     }
 }
 
-/// A piece of a text: from its start up to its end, in bytes.
+/// A part of a text: from its start up to its end, in bytes.
 #[derive(Debug, Clone, Copy, PartialEq, Eq, Hash)]
 pub struct TextRange {
     start: TextSize,
@@ -74,7 +74,7 @@ pub struct TextRange {
 impl TextRange {
     ghost use Rattle.tt_base.specs.Span.{size_of, start_of, end_of};
 
-    /// The range from a place up to another, where `start <= end`. `at` takes a length, and needs no such test.
+    /// Returns the range from a place up to another. `start` is at most `end`. `at` takes a length, and has no such condition.
     pub fn new(start: TextSize, end: TextSize) -> Self
         requires { size_of start ≤ size_of end }
         ensures start { start_of result ≡ size_of start }
@@ -83,7 +83,7 @@ impl TextRange {
         TextRange { start, end }
     }
 
-    /// The range of that length at a place, or `None` where its end does not fit.
+    /// Returns the range of that length at a place, or `None` if a `u32` cannot hold its end.
     pub fn at(offset: TextSize, len: TextSize) -> Option<TextRange>
         ensures { MatchOption result
             (2 ^ 32 ≤ size_of offset + size_of len)
@@ -93,7 +93,7 @@ impl TextRange {
         Some(TextRange::new(offset, end))
     }
 
-    /// The range of no length at a place.
+    /// Returns the empty range at a place.
     pub fn empty(offset: TextSize) -> TextRange
         ensures start { start_of result ≡ size_of offset }
         ensures end { end_of result ≡ size_of offset }
@@ -101,7 +101,7 @@ impl TextRange {
         TextRange::new(offset, offset)
     }
 
-    /// Where it begins.
+    /// Returns the start.
     pub fn start(self) -> TextSize
         ensures value { size_of result ≡ start_of self }
         ensures ordered { start_of self ≤ end_of self }
@@ -109,7 +109,7 @@ impl TextRange {
         self.start
     }
 
-    /// Where it ends: the place behind its last byte.
+    /// Returns the end: the place after the last byte.
     pub fn end(self) -> TextSize
         ensures value { size_of result ≡ end_of self }
         ensures ordered { start_of self ≤ end_of self }
@@ -117,14 +117,14 @@ impl TextRange {
         self.end
     }
 
-    /// How many bytes it has.
+    /// Returns the number of bytes.
     pub fn len(self) -> TextSize
         ensures { start_of self + size_of result ≡ end_of self }
     {
         TextSize::new(self.end.raw - self.start.raw)
     }
 
-    /// Whether it ends where it begins.
+    /// Returns whether the range is empty.
     pub fn is_empty(self) -> bool
         ensures { IsTrue result ↔ (start_of self ≡ end_of self) }
     {

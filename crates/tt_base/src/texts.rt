@@ -7,20 +7,20 @@ use crate::symbol::Symbol;
 use std::alloc::Global;
 use std::str::from_utf8;
 
-// How many symbols are kept at most.
+// The largest number of symbols that are kept.
 const MOST_PLACES: usize = 1024;
 
-// A longer text is not looked for: names are short.
+// The largest number of bytes of a text that is looked for; names are short.
 const MOST_BYTES: usize = 64;
 
-// Of a text with fewer bytes each name gets a symbol of its own: few names come twice, and to keep them costs more.
+// In a text with fewer bytes, each name has a symbol of its own: few names come twice, and to keep the symbols costs more.
 const SHORT_TEXT: usize = 512;
 
-// A place is kept for so many bytes of a text.
+// The number of bytes of a text for which one place is kept.
 const BYTES_OF_PLACE: usize = 16;
 
-/// The symbols of texts that came before, each at the place that its text has. So equal texts that stand near one another
-/// mostly share one symbol, as in a front end that interns its names. No contract tells which texts are kept.
+/// The symbols of earlier texts, each at a place that its text determines. So equal texts that are near one another mostly share one
+/// symbol, as in a front end that interns its names. No contract says which texts are kept.
 #[derive(Drop)]
 pub struct Texts {
     known: Vec<Symbol>,
@@ -28,7 +28,7 @@ pub struct Texts {
 }
 
 impl Texts {
-    /// Each text gets a symbol of its own, and no memory is taken for others.
+    /// Returns a table that keeps nothing: each text has a symbol of its own. Takes no memory.
     pub fn apart(alloc: Global) -> Texts {
         Texts {
             known: Vec::new(alloc),
@@ -36,12 +36,13 @@ impl Texts {
         }
     }
 
-    /// Equal texts mostly share a symbol. Where there is no memory for that, each text gets one of its own.
+    /// Returns a table by which equal texts mostly share a symbol. If there is no memory for it, each text has a symbol of its own.
     pub fn shared(alloc: Global) -> Texts {
         Texts::with_places(alloc, MOST_PLACES)
     }
 
-    /// For the names of one text with so many bytes, as `shared`; but in a short one each name gets a symbol of its own.
+    /// Returns a table for the names of one text with that many bytes. If the text has fewer than 512 bytes, each name has a symbol of
+    /// its own; otherwise this is the same as `shared`, with a place for each 16 bytes, at most 1,024.
     pub fn of_source(alloc: Global, bytes: usize) -> Texts {
         if bytes < SHORT_TEXT {
             return Texts::apart(alloc);
@@ -49,7 +50,7 @@ impl Texts {
         Texts::with_places(alloc, (bytes / BYTES_OF_PLACE).min(MOST_PLACES))
     }
 
-    // So many symbols are kept, if there is memory for that.
+    // Returns a table with that many places, or one without places if there is no memory for them.
     fn with_places(alloc: Global, places: usize) -> Texts {
         let known = match empty_symbols(alloc, places) {
             Ok(known) => known,
@@ -58,12 +59,12 @@ impl Texts {
         Texts { known, alloc }
     }
 
-    /// The allocator.
+    /// Returns the allocator.
     pub fn alloc(&self) -> Global {
         self.alloc
     }
 
-    /// The symbol of a text. The only fault is `Memory`.
+    /// Returns the symbol of a text. Fails only if memory runs out (`Memory`).
     #[inline]
     pub fn symbol(&mut self, text: &str) -> Result<Symbol, TtFault>
         ensures ok { IfOk result (λ symbol. symbol ≡ text.now) }
@@ -81,7 +82,7 @@ impl Texts {
         Ok(symbol)
     }
 
-    /// The text as a symbol, if it is UTF-8. The only fault is `Memory`.
+    /// Returns the symbol of a text, or `None` if the bytes are not UTF-8. Fails only if memory runs out (`Memory`).
     #[inline(always)]
     pub fn symbol_of_bytes(&mut self, text: &[u8]) -> Result<Option<Symbol>, TtFault>
         ensures reads { IfOk result (λ found. MatchOption found (IsUtf8 text.now → ⊥) (λ symbol. (symbol ≡ text.now) × IsUtf8 text.now)) }
@@ -101,7 +102,7 @@ impl Texts {
         Ok(Some(symbol))
     }
 
-    // Where the symbol of a text is kept.
+    // Returns the place of a text.
     #[inline(always)]
     fn place_of(&self, text: &[u8]) -> usize {
         let mut sum = 0u32;
@@ -112,7 +113,7 @@ impl Texts {
         (u64::from(sum.wrapping_mul(0x9e37_79b1)).wrapping_mul(places) >> 32) as usize
     }
 
-    // The symbol at a place, if it is that text's.
+    // Returns the symbol at a place if it has that text.
     #[inline(always)]
     fn kept(&self, place: usize, text: &[u8]) -> Result<Option<Symbol>, TtFault>
         ensures is { IfOk result (λ found. IfSome found (λ symbol. (symbol ≡ text.now) × IsUtf8 text.now)) }
@@ -126,7 +127,7 @@ impl Texts {
         Ok(None)
     }
 
-    // The symbol stands at that place from now on.
+    // Puts the symbol at a place, if there are places.
     #[inline(always)]
     fn keep(&mut self, place: usize, symbol: &Symbol) -> Result<(), TtFault>
         ensures { IfErr result (λ fault. fault ≡ Memory) }
@@ -138,7 +139,7 @@ impl Texts {
     }
 }
 
-// So many symbols, all of the empty text.
+// Returns a list of that many symbols of the empty text.
 fn empty_symbols(alloc: Global, count: usize) -> Result<Vec<Symbol>, TtFault> {
     let empty = Symbol::new(alloc, "")?;
     let mut known = Vec::with_capacity(alloc, count)?;
@@ -148,7 +149,7 @@ fn empty_symbols(alloc: Global, count: usize) -> Result<Vec<Symbol>, TtFault> {
     Ok(known)
 }
 
-/// The text as a symbol of its own, if it is UTF-8. The only fault is `Memory`.
+/// Returns the text as a symbol of its own, or `None` if the bytes are not UTF-8. Fails only if memory runs out (`Memory`).
 #[inline(never)]
 pub fn new_symbol(alloc: Global, text: &[u8]) -> Result<Option<Symbol>, TtFault>
     ensures reads { IfOk result (λ found. MatchOption found (IsUtf8 text.now → ⊥) (λ symbol. (symbol ≡ text.now) × IsUtf8 text.now)) }

@@ -6,7 +6,7 @@ use crate::delimiter::Subtree;
 use crate::leaf::Leaf;
 use crate::span::Span;
 
-/// One token of a flat list: a leaf, or the header of a subtree, which is followed by all that it holds.
+/// One token of a flat list: a leaf, or the header of a subtree. In a flat list, all that the subtree holds follows its header.
 #[derive(Debug, Clone, PartialEq, Eq, Hash, Drop)]
 pub enum TokenTree {
     Leaf(Leaf),
@@ -16,7 +16,7 @@ pub enum TokenTree {
 impl TokenTree {
     ghost use Rattle.tt_base.specs.Token.{first_span};
 
-    /// A leaf's span, or a header's open span.
+    /// Returns a leaf's span, or a header's open span.
     pub fn first_span(&self) -> Span
         ensures { result ≡ first_span self.now }
     {

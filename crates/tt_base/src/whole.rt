@@ -6,10 +6,10 @@ use crate::levels::Levels;
 use crate::token_tree::TokenTree;
 use std::alloc::{AllocError, Global};
 
-/// Whether the list is the flat list of exactly one subtree, found in one pass.
+/// Returns whether the list is the flat list of exactly one subtree. Makes one pass.
 ///
-/// It keeps a number for each open subtree that goes on behind the one open in it, and so asks for no memory while there
-/// is none. The only error is that this memory is refused; it says nothing of the list.
+/// Takes memory for each open subtree that has tokens after the one that is open in it, and none if there is no such subtree. Fails only
+/// if memory runs out; a failure says nothing of the list.
 pub fn is_one_subtree(alloc: Global, tokens: &[TokenTree]) -> Result<bool, AllocError>
     ensures { IfOk result (λ one. IsTrue one ↔ IsOneSubtree tokens.now) }
 {
@@ -22,7 +22,7 @@ pub fn is_one_subtree(alloc: Global, tokens: &[TokenTree]) -> Result<bool, Alloc
     Ok(is_whole(alloc, below)?)
 }
 
-// Whether the list is the flat list of some trees.
+// Returns whether the list is the flat list of some trees.
 fn is_whole(alloc: Global, tokens: &[TokenTree]) -> Result<bool, AllocError>
     ensures { IfOk result (λ whole. IsTrue whole ↔ IsWhole tokens.now) }
 {

@@ -1,4 +1,4 @@
--- The bytes of a tree tell the tree.
+-- The bytes of a tree determine the tree.
 use Rattle.std.proofs.Common.{◌≡◌, ℕ, List, [], ◌∷◌, ◌++◌, length, append_assoc, refl, ap, ap₂, sym, ◌∙◌, Some, arith}
 use Rattle.std.specs.List.{AllByRecursion}
 use Rattle.tt_base.specs.declared.span.SpanPart.{SpanPart}
@@ -13,7 +13,7 @@ use Rattle.tt_tables.specs.Stored.{packed}
 use Rattle.tt_tables.proofs.StoredAlike.{roots_alike}
 use Rattle.tt_tables.proofs.TreesAlike.{seam}
 
--- As many parts, with the same bytes in front, are the same parts.
+-- Parts are equal if there are as many and the same bytes begin with their bytes.
 pub parts_alike : (a b : List SpanPart) (x y : List ℕ) → length a ≡ length b → AllByRecursion PartFits a → AllByRecursion PartFits b
     → parts_bytes a ++ x ≡ parts_bytes b ++ y → (a ≡ b) × (x ≡ y)
 parts_alike [] [] x y same fits_a fits_b e = (refl, e)
@@ -26,7 +26,7 @@ parts_alike (p ∷ a) (q ∷ b) x y same fits_a fits_b e =
     let others = parts_alike a b x y (omega (arith, same)) fits_a.1 fits_b.1 both.1 in
     (ap₂ (λ h t. h ∷ t) both.0 others.0, others.1)
 
--- So are as many symbols.
+-- Symbols are equal if there are as many and the same bytes begin with their bytes.
 pub symbols_alike : (a b : List (List ℕ)) (x y : List ℕ) → length a ≡ length b → AllByRecursion TextFits a → AllByRecursion TextFits b
     → symbols_bytes a ++ x ≡ symbols_bytes b ++ y → (a ≡ b) × (x ≡ y)
 symbols_alike [] [] x y same fits_a fits_b e = (refl, e)
@@ -49,7 +49,7 @@ symbols_alike (p ∷ a) (q ∷ b) x y same fits_a fits_b e =
 tails : (a b c d : ℕ) (x y : List ℕ) → a ∷ b ∷ c ∷ d ∷ x ≡ a ∷ b ∷ c ∷ d ∷ y → x ≡ y
 tails a b c d x y same = cc same
 
--- Two trees with the same bytes are one.
+-- Two trees with the same bytes are equal.
 pub trees_alike : (a b : Root) (all : List ℕ) → AreBytesOf a all → AreBytesOf b all → a ≡ b
 unfolding packed
 trees_alike a b all is_a is_b =

@@ -1,10 +1,10 @@
--- Values that differ, one by one.
+-- Different values, one by one.
 use Rattle.std.proofs.Common.{◌≡◌, ◌==◌, ℕ, Bool, true, false, ◌||◌, bytes_eq, List, [], ◌∷◌, length, map, refl, ap, ap₂, ◌∙◌, arith}
 use Rattle.std.proofs.lemmas.Bool.Decides.{Decides-eqb}
 use Rattle.std.proofs.lemmas.Slice.Eq.{bytes_eq-Decides}
 use Rattle.std.specs.List.{AllByRecursion, IsDistinct, list_any}
 
--- `same` tells whether two values are equal
+-- `same` is whether two values are equal
 module _ {X : Type 0} (same : X → X → Bool) where
   none_equals : ((x y : X) → same x y ≡ same y x) → (first : X) (rest : List X) → list_any (λ y. same y first) rest ≡ false → AllByRecursion (λ y. same first y ≡ false) rest
   none_equals turns first [] none = tt
@@ -15,7 +15,7 @@ module _ {X : Type 0} (same : X → X → Bool) where
       by_test true e absent later = absurd (cc absent)
       by_test false e absent later = (turns first y ∙ e, later absent)
 
-  -- One before others that differ, none of which it equals.
+  -- A value before others, if they are all different and it equals none of them.
   pub one_apart : ((x y : X) → same x y ≡ same y x) → (first : X) (rest : List X) → list_any (λ y. same y first) rest ≡ false → IsDistinct same rest → IsDistinct same (first ∷ rest)
   unfolding IsDistinct
   one_apart turns first rest none differ = (none_equals turns first rest none, differ)
@@ -24,18 +24,18 @@ module _ {X : Type 0} (same : X → X → Bool) where
   none_equal turns first [] apart = refl
   none_equal turns first (y ∷ rest) apart = ap₂ (λ a b. a || b) (turns y first ∙ apart.0) (none_equal turns first rest apart.1)
 
-  -- One that differs from others equals none of them.
+  -- If a value and others are all different, it equals none of the others.
   pub apart_one : ((x y : X) → same x y ≡ same y x) → (first : X) (rest : List X) → IsDistinct same (first ∷ rest) → (list_any (λ y. same y first) rest ≡ false) × IsDistinct same rest
   unfolding IsDistinct
   apart_one turns first rest differ = (none_equal turns first rest differ.0, differ.1)
 
-  -- No values differ.
+  -- A list of no values has only different ones.
   pub none_apart : (values : List X) → length values ≡ 0 → IsDistinct same values
   unfolding IsDistinct
   none_apart [] none = tt
   none_apart (x ∷ values) none = absurd (omega (arith, none))
 
--- A text differs from those that have other numbers.
+-- A text is not among texts that have other digests.
 text_apart : (number : List ℕ → ℕ) (text : List ℕ) (rest : List (List ℕ)) → AllByRecursion (λ n. (number text == n) ≡ false) (map number rest)
     → AllByRecursion (λ other. bytes_eq text other ≡ false) rest
 text_apart number text [] apart = tt
@@ -47,7 +47,7 @@ text_apart number text (other ∷ rest) apart = (by_test (bytes_eq text other) r
         absurd (cc (alike, apart.0))
     by_test false e = refl
 
--- Texts whose numbers differ do.
+-- Texts with different digests are different.
 pub texts_apart : (number : List ℕ → ℕ) (texts : List (List ℕ)) → IsDistinct ◌==◌ (map number texts) → IsDistinct bytes_eq texts
 unfolding IsDistinct
 texts_apart number [] differ = tt

@@ -1,4 +1,4 @@
--- How numbers of uses change where one use more comes.
+-- How one more use changes numbers of uses.
 use Rattle.std.proofs.Common.{◌≡◌, ℕ, zero, suc, ◌+◌, Bool, true, false, cond, ◌||◌, List, [], ◌∷◌, ◌++◌, Some, map, set, slice_get, refl, ap, ap₂, sym, subst, ◌∙◌, arith}
 use Rattle.std.proofs.lemmas.List.{map-append}
 use Rattle.std.specs.Cmp.{IsEquivalence}
@@ -7,14 +7,14 @@ use Rattle.tt_tables.proofs.Different.{different-snoc, any-different, not_used}
 use Rattle.tt_tables.proofs.Used.{one_if, all_at_place, uses-append, uses-one}
 use Rattle.tt_tables.specs.TableOrder.{different, uses_of}
 
--- `same` tells whether two values are equal
+-- `same` is whether two values are equal
 module _ {X : Type 0} (same : X → X → Bool) (laws : IsEquivalence same) (sound : (x y : X) → same x y ≡ true → x ≡ y) where
-  -- What x equals none of equals not x.
+  -- If x equals none of the values, none of them equals x.
   turned : (x : X) (values : List X) → AllByRecursion (λ v. same x v ≡ false) values → AllByRecursion (λ v. same v x ≡ false) values
   turned x [] apart = tt
   turned x (v ∷ values) apart = (laws.symm v x ∙ apart.0, turned x values apart.1)
 
-  -- Where none equals x, x equals none of them.
+  -- If no value equals x, x equals none of them.
   none_equal : (x : X) (values : List X) → list_any (same x) values ≡ false → AllByRecursion (λ v. same x v ≡ false) values
   none_equal x [] none = tt
   none_equal x (v ∷ values) none = by_test (same x v) refl none (none_equal x values)
@@ -24,12 +24,12 @@ module _ {X : Type 0} (same : X → X → Bool) (laws : IsEquivalence same) (sou
       by_test true e absent later = absurd (cc absent)
       by_test false e absent later = (e, later absent)
 
-  -- A search by the one side is one by the other.
+  -- A search by one side of the test is a search by the other.
   pub any_turned : (values : List X) (x : X) → list_any (λ z. same z x) values ≡ list_any (same x) values
   any_turned [] x = refl
   any_turned (v ∷ values) x = ap₂ (λ a b. a || b) (laws.symm v x) (any_turned values x)
 
-  -- A value that stands in a list is found there.
+  -- A value in a list is found there.
   found_any : (values : List X) (i : ℕ) (x : X) → slice_get values i ≡ Some x → list_any (λ z. same z x) values ≡ true
   found_any [] i x at = absurd (cc at)
   found_any (v ∷ values) zero x at =
@@ -71,7 +71,7 @@ module _ {X : Type 0} (same : X → X → Bool) (laws : IsEquivalence same) (sou
   counted_at uses values numbers i n x distinct at are number =
       ap (λ l. set l i (n + 1)) are ∙ counted_step uses values i n x distinct at (ap (λ l. slice_get l i) (sym are) ∙ number)
 
-  -- A value that is new among those that are used has one use.
+  -- A value that had no use has one use.
   pub counted_new : (uses values : List X) (x : X) → list_any (same x) values ≡ false → values ≡ different same uses
       → map (uses_of same uses) values ++ 1 ∷ [] ≡ map (uses_of same (uses ++ x ∷ [])) (values ++ x ∷ [])
   counted_new uses values x none order =
@@ -88,14 +88,14 @@ module _ {X : Type 0} (same : X → X → Bool) (laws : IsEquivalence same) (sou
       first : 1 ≡ uses_of same (uses ++ x ∷ []) x
       first = omega (arith, uses-append same uses (x ∷ []) x, uses-one same x x, one, unused)
 
-  -- One that stands there stays where it is.
+  -- A value that had uses keeps its place.
   pub order_same : (uses values : List X) (i : ℕ) (x : X) → slice_get values i ≡ Some x → values ≡ different same uses → values ≡ different same (uses ++ x ∷ [])
   order_same uses values i x at order =
       order
       ∙ sym (different-snoc same laws uses x ∙ ap (λ t. cond t (different same uses) (different same uses ++ x ∷ []))
       (ap (list_any (λ z. same z x)) (sym order) ∙ found_any values i x at))
 
-  -- One that is new stands behind the others.
+  -- A value that had no use comes last.
   pub order_new : (uses values : List X) (x : X) → list_any (same x) values ≡ false → values ≡ different same uses → values ++ x ∷ [] ≡ different same (uses ++ x ∷ [])
   order_new uses values x none order =
       ap (λ l. l ++ x ∷ []) order

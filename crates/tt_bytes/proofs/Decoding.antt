@@ -1,4 +1,4 @@
--- What is decoded in the packed bytes of a tree.
+-- The tokens that are decoded in the packed bytes of a tree.
 use Rattle.std.proofs.Common.{◌≡◌, ℕ, ◌+◌, ◌<◌, List, length, drop, Option, Some, ap, ap₂, sym, subst, arith}
 use Rattle.std.proofs.lemmas.List.{take_all}
 use Rattle.tt_base.specs.declared.span.SpanPart.{SpanPart}
@@ -16,7 +16,7 @@ use Rattle.tt_tables.specs.Tables.{Tables, tables_from}
 use Rattle.tt_tables.proofs.Ahead.{leaf_is_ahead, node_is_ahead}
 use Rattle.tt_pack.proofs.Moves.{leaf_in_range_ahead, node_in_range_ahead, start_is_ahead}
 
--- what was decoded at an offset is the first token ahead
+-- the token that was decoded at an offset is the first one ahead
 pub record IsFirstAt (tables : Tables) (all : List ℕ) (offset : ℕ) (trees : Forest) (rest : List ℕ) (result : Option TokenTree) : Type 0 where
   pub it : TokenTree
   pub found : result ≡ Some it
@@ -24,13 +24,13 @@ pub record IsFirstAt (tables : Tables) (all : List ℕ) (offset : ℕ) (trees : 
   pub passed : offset + length rest < length all
   pub behind : (next : ℕ) → next + length rest ≡ length all → IsAhead tables all next (after_token trees)
 
--- Numbers that are read where trees lie ahead pass some bytes.
+-- Numbers that are read take some bytes, if trees are ahead.
 pub passes : (tables : Tables) (all : List ℕ) (offset : ℕ) (trees : Forest) → IsAhead tables all offset trees → (entry : Entry) (rest : List ℕ)
     → entry_at (drop offset all) ≡ Some (entry, rest) → offset + length rest < length all
 passes tables all offset trees ahead (of_leaf entry) rest e = (leaf_is_ahead tables all offset trees entry rest ahead e).passed
 passes tables all offset trees ahead (of_header entry) rest e = (node_is_ahead tables all offset trees entry rest ahead e).passed
 
--- They are those of the first token.
+-- They are the numbers of the first token.
 pub first_at : (tables : Tables) (all : List ℕ) (offset : ℕ) (trees : Forest) → IsAhead tables all offset trees → (entry : Entry) (rest : List ℕ) (result : Option TokenTree)
     → entry_at (drop offset all) ≡ Some (entry, rest) → GivesToken tables entry result → IsFirstAt tables all offset trees rest result
 first_at tables all offset trees ahead (of_leaf entry) rest result e gives =
@@ -54,7 +54,7 @@ first_at tables all offset trees ahead (of_header entry) rest result e gives =
       behind = λ next moved. subst (IsAhead tables all next) (sym (ap after_token n.is)) (n.inside next moved);
     }
 
--- The tables of a tree have as few entries as indices can name.
+-- The tables of a tree have no more entries than indices can name.
 pub root_ahead : (root : Root) (all : List ℕ) (parts : List SpanPart) (symbols : List (List ℕ)) → IsInRange root → IsWithinLimits root
     → parts ≡ (packed root).parts → symbols ≡ (packed root).symbols → all ≡ (packed root).bytes → IsAhead (first_entries parts symbols) all 0 (only root)
 unfolding packed

@@ -1,4 +1,4 @@
--- What bytes hold, step by step, and that a piece holds what it was made of.
+-- What bytes hold, step by step; and a piece holds what it was made from.
 use Rattle.std.proofs.Common.{◌≡◌, ℕ, ◌≤◌, ◌<◌, inl, inr, List, [], ◌++◌, length, take, drop, if◌then◌else◌, Some, None, Ok, Err, refl, ap, ap₂, sym, subst, ◌∙◌, arith}
 use Rattle.std.proofs.lemmas.Bool.{le-leb}
 use Rattle.std.proofs.lemmas.Bool.Decides.{leb_tells}
@@ -23,7 +23,7 @@ pub no_mark : (bytes : List ℕ) (fault : BytesFault) → behind_mark 0 mark byt
 unfolding held
 no_mark bytes fault wrong = ap (λ r. r >> held_from (length bytes)) wrong
 
--- It is right.
+-- The mark is right.
 pub marked_held : (bytes rest : List ℕ) → behind_mark 0 mark bytes ≡ Ok rest → held bytes ≡ held_from (length bytes) rest
 unfolding held
 marked_held bytes rest right = ap (λ r. r >> held_from (length bytes)) right
@@ -32,7 +32,7 @@ marked_held bytes rest right = ap (λ r. r >> held_from (length bytes)) right
 pub no_counts : (all : ℕ) (bytes : List ℕ) → counts_at bytes ≡ None → held_from all bytes ≡ Err (TooShort all)
 no_counts all bytes none = ap (λ r. or_short all r >> λ counts. behind_counts all counts.0 counts.1) none
 
--- They are.
+-- The counts are there.
 pub counted : (all : ℕ) (bytes rest : List ℕ) (counts : Counts) → counts_at bytes ≡ Some (counts, rest) → held_from all bytes ≡ behind_counts all counts rest
 counted all bytes rest counts found = ap (λ r. or_short all r >> λ counts. behind_counts all counts.0 counts.1) found
 
@@ -40,7 +40,7 @@ counted all bytes rest counts found = ap (λ r. or_short all r >> λ counts. beh
 pub no_parts : (all : ℕ) (counts : Counts) (bytes : List ℕ) (fault : BytesFault) → parts_from all counts.parts bytes ≡ Err fault → behind_counts all counts bytes ≡ Err fault
 no_parts all counts bytes fault wrong = ap (λ r. r >> λ parts. behind_parts all counts parts.0 parts.1) wrong
 
--- They are.
+-- The parts are there.
 pub parts_there : (all : ℕ) (counts : Counts) (bytes rest : List ℕ) (parts : List SpanPart) → parts_from all counts.parts bytes ≡ Ok (parts, rest)
     → behind_counts all counts bytes ≡ behind_parts all counts parts rest
 parts_there all counts bytes rest parts found = ap (λ r. r >> λ parts. behind_parts all counts parts.0 parts.1) found
@@ -50,12 +50,12 @@ pub no_symbols : (all : ℕ) (counts : Counts) (parts : List SpanPart) (bytes : 
     → behind_parts all counts parts bytes ≡ Err fault
 no_symbols all counts parts bytes fault wrong = ap (λ r. r >> λ symbols. packed_from all counts.bytes parts symbols.0 symbols.1) wrong
 
--- They are.
+-- The symbols are there.
 pub symbols_there : (all : ℕ) (counts : Counts) (parts : List SpanPart) (bytes rest : List ℕ) (symbols : List (List ℕ)) → texts_from all counts.symbols bytes ≡ Ok (symbols, rest)
     → behind_parts all counts parts bytes ≡ packed_from all counts.bytes parts symbols rest
 symbols_there all counts parts bytes rest symbols found = ap (λ r. r >> λ symbols. packed_from all counts.bytes parts symbols.0 symbols.1) found
 
--- Too few packed bytes are there.
+-- There are too few packed bytes.
 pub packed_short : (all count : ℕ) (parts : List SpanPart) (symbols : List (List ℕ)) (bytes : List ℕ) → length bytes < count → packed_from all count parts symbols bytes ≡ Err (TooShort all)
 packed_short all count parts symbols bytes few =
     elim (leb_tells count (length bytes)) [
@@ -64,14 +64,14 @@ packed_short all count parts symbols bytes few =
           ap (λ b. if b then Ok (record { parts = parts; symbols = symbols; packed = take count bytes; behind = drop count bytes }) else Err (TooShort all)) short.0
     ]
 
--- So many packed bytes are there.
+-- There are enough packed bytes.
 pub packed_there : (all count : ℕ) (parts : List SpanPart) (symbols : List (List ℕ)) (bytes packed behind : List ℕ) → count ≤ length bytes → packed ≡ take count bytes → behind ≡ drop count bytes
     → packed_from all count parts symbols bytes ≡ Ok (record { parts = parts; symbols = symbols; packed = packed; behind = behind })
 packed_there all count parts symbols bytes packed behind room is rest =
     ap (λ b. if b then Ok (record { parts = parts; symbols = symbols; packed = take count bytes; behind = drop count bytes }) else Err (TooShort all)) (le-leb count (length bytes) room)
     ∙ ap₂ (λ p b. Ok (record { parts = parts; symbols = symbols; packed = p; behind = b })) (sym is) (sym rest)
 
--- A piece holds what it was made of, and nothing stands behind it.
+-- A piece holds what it was made from, and no bytes follow it.
 pub piece_holds : (parts : List SpanPart) (symbols : List (List ℕ)) (below all : List ℕ) → PieceFits parts symbols below → all ≡ piece parts symbols below
     → held all ≡ Ok (record { parts = parts; symbols = symbols; packed = below; behind = [] })
 piece_holds parts symbols below all fits is =
@@ -92,11 +92,11 @@ held_by root all it are holds =
     cc (sym holds ∙ piece_holds (packed root).parts (packed root).symbols (packed root).bytes all are.has.fits are.is) in
     (ap (λ h. h.parts) same, ap (λ h. h.symbols) same, ap (λ h. h.packed) same)
 
--- Bytes whose front is wrong are those of no tree.
+-- Bytes with a fault in their front are those of no tree.
 pub none_held : (all : List ℕ) (fault : BytesFault) → held all ≡ Err fault → AreBytesOfNone all
 none_held all fault wrong root are = cc (sym wrong ∙ piece_holds (packed root).parts (packed root).symbols (packed root).bytes all are.has.fits are.is)
 
--- The tree lies ahead of the packed bytes that its bytes hold.
+-- The tree is ahead at the start of the packed bytes that its bytes hold.
 pub ahead_of : (root : Root) (all : List ℕ) (it : Held) (tables : Tables) → AreBytesOf root all → held all ≡ Ok it → tables ≡ first_entries it.parts it.symbols
     → IsAhead tables it.packed 0 (only root)
 ahead_of root all it tables are holds same =

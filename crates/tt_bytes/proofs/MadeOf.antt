@@ -1,4 +1,4 @@
--- Bytes that were read are the piece of what they hold, and what stands behind its end.
+-- Bytes that were read are the piece of what they hold, and then the bytes after its end.
 use Rattle.std.proofs.Common.{◌≡◌, ℕ, zero, suc, ◌+◌, ◌-◌, ◌<◌, ◌^◌, ◌==◌, Bool, true, false, if◌then◌else◌, List, [], ◌∷◌, ◌++◌, length, take, drop, get_or, nat_le, append_assoc, append-nil, Some, None, Result, Ok, Err, refl, ap, ap₂, sym, subst, ◌∙◌, arith}
 use Rattle.std.proofs.lemmas.Bool.{leb-true}
 use Rattle.std.proofs.lemmas.Bool.Decides.{Decides-eqb}
@@ -21,40 +21,40 @@ use Rattle.tt_codec.proofs.Found.{same_parts}
 use Rattle.tt_codec.specs.Read.{Read, ◌>>=◌, word_at}
 use Rattle.tt_tables.specs.Stored.{packed, IsInRange, IsWithinLimits}
 
--- each is a byte
+-- each number is a byte
 abbrev pub AreBytes : List ℕ → Type 0
 AreBytes bytes = (i : ℕ) → get_or bytes i 0 < 256
 
--- So is each behind some.
+-- Each number after the first ones is a byte.
 bytes_behind : (n : ℕ) (bytes : List ℕ) → AreBytes bytes → AreBytes (drop n bytes)
 bytes_behind zero bytes are = are
 bytes_behind (suc n) [] are = are
 bytes_behind (suc n) (b ∷ bytes) are = bytes_behind n bytes (λ i. are (suc i))
 
--- What was read where no fault is told.
+-- If there is no fault, the first read has a value.
 then_ok : {X Y : Type 0} (r : Result X BytesFault) (f : X → Result Y BytesFault) (y : Y) → (r >> f) ≡ Ok y → (x : X) × (r ≡ Ok x) × (f x ≡ Ok y)
 then_ok (Err fault) f y is = absurd (cc is)
 then_ok (Ok x) f y is = (x, refl, is)
 
--- that was read
+-- the value that was read
 abbrev pub read_ok : {X : Type 0} → X × List ℕ → Reads X
 read_ok found = Ok found
 
--- Two that were read are one.
+-- Two values of one read are equal.
 both_ok : {X : Type 0} (one other : X × List ℕ) → read_ok one ≡ read_ok other → (one.0 ≡ other.0) × (one.1 ≡ other.1)
 both_ok one other is = let same : one ≡ other = cc is in (ap (λ p. p.0) same, ap (λ p. p.1) same)
 
--- What is not too short was read.
+-- If there is no fault, the bytes are long enough.
 long_enough : {X : Type 0} (all : ℕ) (r : Read X) (found : X × List ℕ) → or_short all r ≡ Ok found → r ≡ Some found
 long_enough all None found is = absurd (cc is)
 long_enough all (Some other) found is = let same : other ≡ found = cc is in ap Some same
 
--- What holds where a test is passed, if it is not passed otherwise.
+-- If there is no fault, the test passed.
 passed : {X : Type 0} (t : Bool) (x y : X) (f : BytesFault) → (if t then Ok x else Err f) ≡ Ok y → (t ≡ true) × (x ≡ y)
 passed true x y f is = (refl, cc is)
 passed false x y f is = absurd (cc is)
 
--- The mark.
+-- The bytes begin with the mark.
 mark_of : (at : ℕ) (wanted bytes rest : List ℕ) → behind_mark at wanted bytes ≡ Ok rest → bytes ≡ wanted ++ rest
 mark_of at [] bytes rest read = cc read
 mark_of at (w ∷ wanted) [] rest read = absurd (cc read)
@@ -65,7 +65,7 @@ mark_of at (w ∷ wanted) (b ∷ bytes) rest read = by_test (b == w) refl read (
     by_test true e next later = ap₂ ◌∷◌ ((Decides-eqb b w).0 e) (later next)
     by_test false e next later = absurd (cc next)
 
--- the value was written there, and bytes stand behind it
+-- the bytes begin with those of the value, and the others follow
 abbrev pub WasThere : (Fits : Type 0) (value bytes rest : List ℕ) → Type 0
 WasThere Fits value bytes rest = Fits × (bytes ≡ value ++ rest) × AreBytes rest
 
@@ -102,7 +102,7 @@ ThreeFit a b c = (a < 2 ^ 32) × (b < 2 ^ 32) × (c < 2 ^ 32)
 abbrev pub three_bytes : (a b c : ℕ) → List ℕ
 three_bytes a b c = (number_bytes a ++ number_bytes b) ++ number_bytes c
 
--- Three numbers one after the other.
+-- Three numbers, one after the other.
 three_of : (bytes first second third : List ℕ) (a b c : ℕ) → AreBytes bytes → word_at bytes ≡ Some (a, first) → word_at first ≡ Some (b, second) → word_at second ≡ Some (c, third)
     → WasThere (ThreeFit a b c) (three_bytes a b c) bytes third
 three_of bytes first second third a b c are one two three =
@@ -114,7 +114,7 @@ three_of bytes first second third a b c are one two three =
       are_c,
     )
 
--- the value is made of three numbers that were written there
+-- the value is made from three numbers, with whose bytes the bytes begin
 abbrev pub MadeOfThree : {Y : Type 0} → (make : ℕ → ℕ → ℕ → Y) → (y : Y) → (bytes rest : List ℕ) → Type 0
 MadeOfThree make y bytes rest = (a : ℕ) × (b : ℕ) × (c : ℕ) × (make a b c ≡ y) × WasThere (ThreeFit a b c) (three_bytes a b c) bytes rest
 
@@ -130,7 +130,7 @@ second_read : {Y : Type 0} (make : ℕ → ℕ → ℕ → Y) (y : Y) (bytes fir
 second_read make y bytes first rest a None are one two read = absurd (cc read)
 second_read make y bytes first rest a (Some b) are one two read = third_read make y bytes first b.1 rest a b.0 (word_at b.1) are one two refl read
 
--- A value of three numbers.
+-- A value made from three numbers.
 three_read : {Y : Type 0} (make : ℕ → ℕ → ℕ → Y) (y : Y) (bytes rest : List ℕ) (r : Read ℕ) → AreBytes bytes → word_at bytes ≡ r
     → ◌>>=◌ {Y = Y × List ℕ} r (λ a. ◌>>=◌ {Y = Y × List ℕ} (word_at a.1) (λ b. ◌>>=◌ {Y = Y × List ℕ} (word_at b.1) (λ c. Some (make a.0 b.0 c.0, c.1)))) ≡ Some (y, rest) → MadeOfThree make y bytes rest
 three_read make y bytes rest None are one read = absurd (cc read)
@@ -220,11 +220,11 @@ symbols_of all (suc count) bytes rest symbols are read =
     (subst (λ l. WasThere ((length l ≡ suc count) × AllByRecursion TextFits l) (symbols_bytes l) bytes others.1) is
     ((ap suc fit.0, (fits, fit.1)), wrote ∙ ap (λ l. symbol_bytes one.0 ++ l) written ∙ sym (append_assoc (symbol_bytes one.0) (symbols_bytes others.0) others.1), last))
 
--- Equal counts are written alike.
+-- Equal counts have equal bytes.
 same_counts : (a b c k l m : ℕ) → a ≡ k → b ≡ l → c ≡ m → three_bytes a b c ≡ three_bytes k l m
 same_counts a b c k l m one two three = ap₂ ◌++◌ (ap₂ (λ x y. number_bytes x ++ number_bytes y) one two) (ap number_bytes three)
 
--- What stands one after the other is a piece and what is behind it.
+-- The parts one after the other are a piece and the bytes after it.
 pieced : (parts : List SpanPart) (symbols : List (List ℕ)) (below behind : List ℕ)
     → mark ++ (three_bytes (length parts) (length symbols) (length below) ++ (parts_bytes parts ++ (symbols_bytes symbols ++ (below ++ behind)))) ≡ piece parts symbols below ++ behind
 unfolding piece
@@ -263,7 +263,7 @@ made_of bytes it are read =
       is = whole;
     })
 
--- Bytes behind whose end nothing stands are those of the tree that is stored as they hold.
+-- If no bytes follow the end, the bytes are those of the tree that is stored as they hold.
 pub stored_in : (bytes : List ℕ) (it : Held) (root : Root) → IsInRange root → IsWithinLimits root → it.parts ≡ (packed root).parts → it.symbols ≡ (packed root).symbols → it.packed ≡ (packed root).bytes
     → it.behind ≡ [] → IsMadeOf it bytes → AreBytesOf root bytes
 stored_in bytes it root range limits parts symbols below none made =

@@ -6,7 +6,7 @@ use Rattle.tt_bytes.specs.declared.fault.BytesFault.TheVariants.{TooShort, Other
 use Rattle.tt_bytes.specs.Format.{mark}
 use Rattle.tt_bytes.specs.Front.{behind_mark}
 
--- What is left of the mark begins with its next byte.
+-- The rest of the mark begins with its next byte.
 ahead : (at : ℕ) → at < 4 → drop at mark ≡ slice_index mark at ∷ drop (at + 1) mark
 ahead zero small = refl
 ahead (suc zero) small = refl
@@ -18,7 +18,7 @@ ahead (suc (suc (suc (suc at)))) small = absurd (omega (arith, small))
 pub mark_missing : (at : ℕ) (rest : List ℕ) → at < 4 → rest ≡ [] → behind_mark at (drop at mark) rest ≡ Err (TooShort at)
 mark_missing at rest small none = ap₂ (λ m r. behind_mark at m r) (ahead at small) none
 
--- The next byte is another.
+-- The next byte is not that of the mark.
 pub mark_differs : (at byte : ℕ) (rest behind : List ℕ) → at < 4 → rest ≡ byte ∷ behind → byte ≢ slice_index mark at
     → behind_mark at (drop at mark) rest ≡ Err (OtherFormat at)
 mark_differs at byte rest behind small is other =

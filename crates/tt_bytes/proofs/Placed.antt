@@ -1,4 +1,4 @@
--- Where symbols stand among those that are used.
+-- The places of symbols among the used ones.
 use Rattle.std.proofs.Common.{◌≡◌, ℕ, zero, suc, ◌<◌, ◌≤◌, ◌⊎◌, inl, inr, Bool, true, false, ◌||◌, bytes_eq, List, [], ◌∷◌, ◌++◌, Some, length, set, slice_get, refl, ap, sym, ◌∙◌, arith}
 use Rattle.std.specs.List.{IsDistinct, list_any}
 use Rattle.tt_base.specs.contracts.symbol.SymbolEq.TheImpl.Laws as symbol_eq
@@ -7,7 +7,7 @@ use Rattle.tt_bytes.proofs.Counting.{apart_at}
 use Rattle.tt_interned.proofs.Naming.{keeps_front}
 use Rattle.tt_tables.proofs.TokenTables.{text_sound}
 
--- What stands behind a list.
+-- The item after a list.
 pub stands_last : {X : Type 0} (xs : List X) (x : X) (n : ℕ) → n ≡ length xs → slice_get (xs ++ x ∷ []) n ≡ Some x
 stands_last {X} xs x n e = ap (slice_get (xs ++ x ∷ [])) e ∙ last xs
   where
@@ -15,13 +15,13 @@ stands_last {X} xs x n e = ap (slice_get (xs ++ x ∷ [])) e ∙ last xs
     last [] = refl
     last (y ∷ ys) = last ys
 
--- What is set stands there.
+-- An item that is set is at its place.
 set_there : {X : Type 0} (xs : List X) (i : ℕ) (x y z : X) → slice_get xs i ≡ Some y → slice_get (set xs i x) i ≡ Some z → x ≡ z
 set_there [] i x y z at is = absurd (cc at)
 set_there (w ∷ xs) zero x y z at is = cc is
 set_there (w ∷ xs) (suc i) x y z at is = set_there xs i x y z at is
 
--- All else stays.
+-- All other items stay.
 set_elsewhere : {X : Type 0} (xs : List X) (i j : ℕ) (x : X) → (j ≡ i → ⊥) → slice_get (set xs i x) j ≡ slice_get xs j
 set_elsewhere [] i j x other = refl
 set_elsewhere (w ∷ xs) zero zero x other = absurd (other refl)
@@ -40,7 +40,7 @@ equal_or (suc i) (suc j) = next (equal_or i j)
     next (inl e) = inl (ap suc e)
     next (inr other) = inr (λ e. other (omega (arith, e)))
 
--- One value more, which is not equal either.
+-- One more value that does not equal the text either.
 none_more : (text other : List ℕ) (order : List (List ℕ)) → list_any (bytes_eq text) order ≡ false → bytes_eq text other ≡ false → list_any (bytes_eq text) (order ++ other ∷ []) ≡ false
 none_more text other [] none apart = ap (λ t. t || false) apart
 none_more text other (first ∷ order) none apart = by_test (bytes_eq text first) none (λ absent. none_more text other order absent apart)

@@ -1,4 +1,4 @@
--- How the front of a piece is read one value after the other, and that what was written is read again.
+-- How the front of a piece is read, value by value; and what was written is read again.
 use Rattle.std.proofs.Common.{◌≡◌, ℕ, suc, ◌+◌, ◌-◌, ◌≤◌, true, false, if◌then◌else◌, List, [], ◌∷◌, ◌++◌, length, length-append, take, drop, append_assoc, append-nil, Some, None, Ok, Err, refl, ap, ap₂, sym, ◌∙◌, subst, arith}
 use Rattle.std.proofs.lemmas.Bool.{le-leb}
 use Rattle.std.proofs.lemmas.Str.{is_utf8-from_IsUtf8, IsUtf8-from_is_utf8}
@@ -14,12 +14,12 @@ use Rattle.tt_bytes.specs.Format.{number_bytes, part_bytes, parts_bytes, symbol_
 use Rattle.tt_bytes.specs.Front.{Reads, ◌>>◌, or_short, part_at, parts_from, text_of, text_from, texts_from}
 use Rattle.tt_bytes.proofs.Again.{part_again, number_again}
 
--- what was taken stands before what is read behind it
+-- the values that were taken, before those that are read
 abbrev pub before : {X : Type 0} → List X → Reads (List X) → Reads (List X)
 before taken (Ok found) = Ok (taken ++ found.0, found.1)
 before taken (Err fault) = Err fault
 
--- One more is taken.
+-- One more value is taken.
 one_more : {X : Type 0} (taken more : List X) (x : X) (read : Reads (List X)) → more ≡ taken ++ x ∷ []
     → before taken (read >> λ found. Ok (x ∷ found.0, found.1)) ≡ before more read
 one_more taken more x (Ok found) is = ap (λ l. Ok (l, found.1)) (sym (ap (λ l. l ++ found.0) is ∙ append_assoc taken (x ∷ []) found.0))
@@ -33,7 +33,7 @@ part_taken all k left taken more part bytes behind is_left read is =
     ∙ ap (λ r. before taken (or_short all r >> λ part. parts_from all k part.1 >> λ parts. Ok (part.0 ∷ parts.0, parts.1))) read
     ∙ one_more taken more part (parts_from all k behind) is
 
--- No part is left.
+-- No part can be taken.
 pub part_missing : (all k left : ℕ) (taken : List SpanPart) (bytes : List ℕ) → left ≡ suc k → part_at bytes ≡ None
     → before taken (parts_from all left bytes) ≡ Err (TooShort all)
 part_missing all k left taken bytes is_left none =
@@ -53,7 +53,7 @@ text_taken all k left taken more text bytes behind is_left read is =
     ∙ ap (λ r. before taken (r >> λ text. texts_from all k text.1 >> λ texts. Ok (text.0 ∷ texts.0, texts.1))) read
     ∙ one_more taken more text (texts_from all k behind) is
 
--- No symbol is left, or none that is a text.
+-- No symbol can be taken, or its text is not UTF-8.
 pub text_missing : (all k left : ℕ) (taken : List (List ℕ)) (bytes : List ℕ) (fault : BytesFault) → left ≡ suc k → text_from all bytes ≡ Err fault
     → before taken (texts_from all left bytes) ≡ Err fault
 text_missing all k left taken bytes fault is_left none =
@@ -65,7 +65,7 @@ pub texts_taken : (all left : ℕ) (taken : List (List ℕ)) (bytes : List ℕ) 
 texts_taken all left taken bytes none =
     ap (λ n. before taken (texts_from all n bytes)) none ∙ ap (λ l. Ok (l, bytes)) (append-nil taken)
 
--- Nothing taken changes nothing.
+-- With nothing taken, the read is the same.
 pub none_taken : {X : Type 0} (read : Reads (List X)) → before [] read ≡ read
 none_taken (Ok found) = refl
 none_taken (Err fault) = refl
@@ -81,12 +81,12 @@ parts_again all (part ∷ given) rest fits =
     (part_again part (parts_bytes given ++ rest) fits.0)
     ∙ ap (λ r. r >> λ parts. Ok (part ∷ parts.0, parts.1)) (parts_again all given rest fits.1)
 
--- where a test is not passed, its answer is no
+-- A test that cannot pass is false.
 not_true : (b : Bool) → (b ≡ true → ⊥) → b ≡ false
 not_true true never = absurd (never refl)
 not_true false never = refl
 
--- A text of so many bytes is there.
+-- A text of `count` bytes is there.
 pub text_there : (all count : ℕ) (bytes text behind : List ℕ) → count ≤ length bytes → text ≡ take count bytes → behind ≡ drop count bytes → IsUtf8 text
     → text_of all count bytes ≡ Ok (text, behind)
 text_there all count bytes text behind room is rest utf8 =
@@ -94,7 +94,7 @@ text_there all count bytes text behind room is rest utf8 =
     ∙ ap (λ b. if b then Ok (take count bytes, drop count bytes) else Err (NoText (all - length bytes + utf8_valid_len (take count bytes)))) (is_utf8-from_IsUtf8 (take count bytes) (subst IsUtf8 is utf8))
     ∙ ap₂ (λ t b. Ok (t, b)) (sym is) (sym rest)
 
--- So many bytes are there, and are no text.
+-- `count` bytes are there, and are not UTF-8.
 pub no_text_there : (all count : ℕ) (bytes : List ℕ) → count ≤ length bytes → (IsUtf8 (take count bytes) → ⊥)
     → text_of all count bytes ≡ Err (NoText (all - length bytes + utf8_valid_len (take count bytes)))
 no_text_there all count bytes room none =
@@ -108,7 +108,7 @@ text_again all text rest fits =
     ∙ ap (λ r. or_short all r >> λ count. text_of all count.0 count.1) (number_again (length text) (text ++ rest) fits.short)
     ∙ text_there all (length text) (text ++ rest) text rest (omega (arith, length-append text rest)) (sym (take-append_seam text rest)) (sym (drop-append_seam text rest)) fits.utf8
 
--- So are symbols.
+-- Symbols that were written are read again.
 pub texts_again : (all : ℕ) (given : List (List ℕ)) (rest : List ℕ) → AllByRecursion TextFits given
     → texts_from all (length given) (symbols_bytes given ++ rest) ≡ Ok (given, rest)
 texts_again all [] rest fits = refl

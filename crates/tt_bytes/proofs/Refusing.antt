@@ -1,4 +1,4 @@
--- Why bytes are those of no tree, from what was seen of them.
+-- Why bytes are those of no tree, by the step that failed.
 use Rattle.std.proofs.Common.{◌≡◌, ◌⊎◌, inl, inr, ℕ, ◌+◌, List, length, Ok, refl, sym, ◌∙◌, subst, arith}
 use Rattle.tt_base.specs.declared.fault.TtFault.{TtFault}
 use Rattle.tt_base.specs.declared.fault.TtFault.TheVariants as limit
@@ -16,7 +16,7 @@ use Rattle.tt_tables.specs.PackFault.{IsPackFault}
 use Rattle.tt_tables.specs.Stored.{packed}
 use Rattle.tt_tables.specs.Tables.{Tables}
 
--- No token stands at a place.
+-- No token is at an offset.
 pub stopped : (bytes : List ℕ) (it : Held) (tables : Tables) (before : ℕ) (fault : BytesFault) → held bytes ≡ Ok it → tables ≡ tables_in it
     → before + (length it.packed + length it.behind) ≡ length bytes → IsStop tables it.packed before fault → IsFaultOf bytes fault
 stopped bytes it tables before Memory holds same place stop = inl stop
@@ -37,18 +37,18 @@ of_none bytes it tables end tokens holds same place stand none =
     record { offset = length it.packed; why = inr (tokens, subst (λ t. Stand t it.packed tokens (length it.packed)) same stand, refl, none); place = omega (arith, place) } in
     inr (inr (it, holds, no_tree))
 
--- Tokens that are not packed, though memory is not refused, are those of no tree.
+-- If tokens are not packed and memory did not run out, they are those of no tree.
 pub none_packed : (tokens : List TokenTree) (fault : TtFault) → IsPackFault tokens fault → (fault ≡ limit.Memory → ⊥) → AreOfNone tokens
 none_packed tokens fault why other root is has = other (packs tokens root is has.limits fault why)
 
--- Nor are those of a tree that has no bytes.
+-- The same for tokens of a tree that has no bytes.
 pub none_written : (tokens : List TokenTree) (tree : Root) (fault : TtFault) → tokens ≡ flat_root tree → IsRefusal tree fault → (fault ≡ limit.Memory → ⊥) → AreOfNone tokens
 none_written tokens tree fault is (inl memory) other root same has = other memory
 none_written tokens tree fault is (inr many) other root same has =
     many.1 (subst (λ r. PieceFits (packed r).parts (packed r).symbols (packed r).bytes)
     (flat_root-injective root tree (sym same ∙ is)) has.fits)
 
--- A fault is want of memory, or it is not.
+-- A fault means that memory ran out, or it does not.
 pub is_want : (fault : BytesFault) → (fault ≡ Memory) ⊎ (fault ≡ Memory → ⊥)
 is_want Memory = inl refl
 is_want (TooShort at) = inr (λ e. cc e)

@@ -1,4 +1,4 @@
--- A token fits among those of open subtrees by its kind and its count alone.
+-- Only the kind and the count of a token decide whether it fits among those of open subtrees.
 use Rattle.std.proofs.Common.{◌≡◌, ℕ, zero, suc, ◌+◌, ◌-◌, ◌<◌, ◌≤◌, ◌⊎◌, inl, inr, Bool, true, false, ◌↔◌, List, [], ◌∷◌, Some, map, length, drop, slice_get, Result, Ok, Err, IfOk, refl, ap, sym, subst, ◌∙◌, arith}
 use Rattle.std.proofs.lemmas.List.{length-map, drop_all}
 use Rattle.std.proofs.lemmas.Option.{slice_get_within, get_or_from_slice_get}
@@ -20,7 +20,7 @@ use Rattle.tt_interned.specs.Names.{Names, AllName}
 use Rattle.tt_interned.proofs.Naming.{length-named}
 use Rattle.tt_tables.specs.Tables.{Tables}
 
--- One leaf for another.
+-- A leaf in the place of another.
 leaf_same : (a b : Leaf) (tokens : List TokenTree) (levels : List ℕ) → AreLevels (token.Leaf a ∷ tokens) levels → AreLevels (token.Leaf b ∷ tokens) levels
 leaf_same a b tokens [] is = absurd (cc is)
 leaf_same a b tokens (zero ∷ ns) is = (done_level (token.Leaf b ∷ tokens) ns).1 (leaf_same a b tokens ns ((done_level (token.Leaf a ∷ tokens) ns).0 is))
@@ -35,7 +35,7 @@ less_or (suc a) (suc b) = next (less_or a b)
     next (inl h) = inl (omega (arith, h))
     next (inr h) = inr (omega (arith, h))
 
--- One header for another of the same count.
+-- A header in the place of another with the same count.
 node_same : (s t : Subtree) → s.len ≡ t.len → (tokens : List TokenTree) (levels : List ℕ) → AreLevels (token.Subtree s ∷ tokens) levels → AreLevels (token.Subtree t ∷ tokens) levels
 node_same s t e tokens [] is = absurd (cc is)
 node_same s t e tokens (zero ∷ ns) is = (done_level (token.Subtree t ∷ tokens) ns).1 (node_same s t e tokens ns ((done_level (token.Subtree s ∷ tokens) ns).0 is))
@@ -47,13 +47,13 @@ node_same s t e tokens (suc n ∷ ns) is = by_order (less_or s.len n)
         (node_level t tokens n ns within).1 (subst (λ k. AreLevels tokens (k ∷ (n - k) ∷ ns)) e ((node_level s tokens n ns fits).0 is))
     by_order (inr long) = absurd (too_long s tokens n ns long is)
 
--- What one token does another does.
+-- If one token can take the place of another, both do the same.
 takes_same : (a b : TokenTree) (old new : List ℕ) (fits : Bool) → ((tokens : List TokenTree) (levels : List ℕ) → AreLevels (a ∷ tokens) levels → AreLevels (b ∷ tokens) levels)
     → ((tokens : List TokenTree) (levels : List ℕ) → AreLevels (b ∷ tokens) levels → AreLevels (a ∷ tokens) levels) → TakesToken old a new fits → TakesToken old b new fits
 takes_same a b old new true there back takes = λ tokens. (λ levels. (takes tokens).0 (back tokens old levels), λ levels. there tokens old ((takes tokens).1 levels))
 takes_same a b old new false there back takes = λ tokens levels. takes tokens (back tokens old levels)
 
--- A header that is named is taken as any of its count.
+-- A header does the same as any with its count.
 pub header_as : (tables : Tables) (entry : HeaderEntry) (it : TokenTree) (delimiter : Delimiter) (old new : List ℕ) (fits : Bool) → Names tables (interned.Header entry) (whole it)
     → TakesToken old (token.Subtree (record { delimiter = delimiter; len = entry.len })) new fits → TakesToken old it new fits
 header_as tables entry (token.Leaf it) delimiter old new fits named takes = absurd named
@@ -61,19 +61,19 @@ header_as tables entry (token.Subtree it) delimiter old new fits named takes =
     let any : Subtree = record { delimiter = delimiter; len = entry.len } in
     takes_same (token.Subtree any) (token.Subtree it) old new fits (node_same any it named.0.len) (node_same it any (sym named.0.len)) takes
 
--- A leaf that is named is taken as any.
+-- A leaf does the same as any other.
 pub leaf_as : (tables : Tables) (entry : LeafEntry) (it any : TokenTree) (old new : List ℕ) (fits : Bool) → Names tables (interned.Leaf entry) (whole it) → IsALeaf any
     → TakesToken old any new fits → TakesToken old it new fits
 leaf_as tables entry (token.Subtree it) any old new fits named is takes = absurd named
 leaf_as tables entry (token.Leaf it) any old new fits named (leaf, is) takes =
     takes_same (token.Leaf leaf) (token.Leaf it) old new fits (leaf_same leaf it) (leaf_same it leaf) (subst (λ t. TakesToken old t new fits) is takes)
 
--- Of an answer, what follows from what is known of it.
+-- What follows from a fact about a value holds for each success with that fact.
 pub if_ok : {X E : Type 0} {P Q : X → Type 0} → (r : Result X E) → ((x : X) → P x → Q x) → IfOk r P → IfOk r Q
 if_ok (Ok x) follows p = follows x p
 if_ok (Err e) follows p = p
 
--- The token that is named at a place.
+-- The token that an interned token at a place means.
 token_named : (tables : Tables) (tokens : List InternedToken) (list : List TokenTree) (i : ℕ) (t : InternedToken) → AllName tables tokens (map whole list) → slice_get tokens i ≡ Some t
     → (it : TokenTree) × (slice_get list i ≡ Some it) × Names tables t (whole it)
 token_named tables [] list i t named at = absurd (cc at)
@@ -83,29 +83,29 @@ token_named tables (s ∷ tokens) (it ∷ list) zero t named at =
     (it, refl, subst (λ x. Names tables x (whole it)) is named.0)
 token_named tables (s ∷ tokens) (it ∷ list) (suc i) t named at = token_named tables tokens list i t named.1 at
 
--- As many tokens are meant.
+-- There are as many tokens as interned ones.
 pub long_as : (tables : Tables) (tokens : List InternedToken) (list : List TokenTree) → AllName tables tokens (map whole list) → length tokens ≡ length list
 long_as tables tokens list named = length-named tables tokens (map whole list) named ∙ length-map list whole
 
--- the tokens that are meant are whole exactly where those from an index on make up the levels
+-- the tokens that these mean are whole exactly if those from an index on complete the levels
 abbrev pub AsksLevels : (tokens : List InternedToken) (index : ℕ) (levels : List ℕ) → Type 0
 AsksLevels tokens index levels =
     (tables : Tables) (list : List TokenTree) → AllName tables tokens (map whole list) → IsWhole list ↔ AreLevels (drop index list) levels
 
--- At the first one.
+-- The same at the first one.
 pub asks_first : (tokens : List InternedToken) (levels : List ℕ) → levels ≡ length tokens ∷ [] → AsksLevels tokens 0 levels
 asks_first tokens levels is tables list named =
     let one = one_level list in
     subst (λ ls. IsWhole list ↔ AreLevels list ls) (sym (is ∙ ap (λ n. n ∷ []) (long_as tables tokens list named))) (one.1, one.0)
 
--- Behind one that fits.
+-- The same after one that fits.
 pub asks_next : (tokens : List InternedToken) (index : ℕ) (t : InternedToken) (old new : List ℕ) → slice_get tokens index ≡ Some t → AsksLevels tokens index old
     → ((tables : Tables) (it : TokenTree) → Names tables t (whole it) → TakesToken old it new true) → AsksLevels tokens (index + 1) new
 asks_next tokens index t old new at asks takes tables list named =
     let (it, there, one) = token_named tables tokens list index t named at in
     walk_on list index it old new (slice_get_within list index it there) (sym (get_or_from_slice_get list index it it there)) (asks tables list named) (takes tables it one)
 
--- At the end.
+-- The same at the end.
 pub asks_last : (tokens : List InternedToken) (index : ℕ) (levels : List ℕ) → length tokens ≤ index → AsksLevels tokens index levels → AreLevels [] levels
     → (tables : Tables) (list : List TokenTree) → AllName tables tokens (map whole list) → IsWhole list
 asks_last tokens index levels ended asks done tables list named =

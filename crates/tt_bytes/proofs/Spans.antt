@@ -13,7 +13,7 @@ use Rattle.tt_tables.proofs.TokenTables.{part_sound}
 use Rattle.tt_tables.specs.TableOrder.{uses_of}
 use Rattle.tt_tables.specs.Uses.{same_part}
 
--- A list reaches to an index that is within it.
+-- A list has an item at each index less than its length.
 pub something_at : {X : Type 0} (xs : List X) (i : ℕ) → i < length xs → (x : X) × (slice_get xs i ≡ Some x)
 something_at [] i h = absurd (none h)
   where
@@ -22,7 +22,7 @@ something_at [] i h = absurd (none h)
 something_at (x ∷ xs) zero h = (x, refl)
 something_at (x ∷ xs) (suc i) h = something_at xs i (omega arith)
 
--- Numbers whose part is there, and whose end fits, name a span.
+-- Numbers whose part is in the table, and whose end fits, name a span.
 pub span_used : (parts : List SpanPart) (counts new : List ℕ) (numbers : SpanNumbers) (before : List SpanPart) → AreUsed parts counts before
     → numbers.start < 2 ^ 32 → numbers.start + numbers.length < 2 ^ 32 → IsOneMoreAt counts numbers.part new → UsesSpan parts numbers new before
 span_used parts counts new numbers before are start_fits end_fits (n, old, is) =

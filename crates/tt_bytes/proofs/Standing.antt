@@ -8,7 +8,7 @@ use Rattle.tt_codec.specs.declared.entry.Entry.{Entry}
 use Rattle.tt_codec.specs.declared.entry.Entry.TheVariants.{Leaf as of_leaf, Header as of_header}
 use Rattle.tt_tables.specs.Tables.{Tables}
 
--- A token in range that is named is the result.
+-- The result is the token in range that the numbers name.
 pub gives_named : (tables : Tables) (entry : Entry) (result : Option TokenTree) → GivesToken tables entry result → (it : TokenTree) → Names tables entry it
     → TokenInRange it → result ≡ Some it
 gives_named tables (of_leaf entry) result gives (token.Leaf it) named range = gives it named range

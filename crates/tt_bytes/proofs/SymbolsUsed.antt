@@ -15,7 +15,7 @@ use Rattle.tt_tables.proofs.TokenTables.{text_sound}
 use Rattle.tt_tables.specs.TableOrder.{uses_of}
 use Rattle.std.specs.List.{IsDistinct}
 
--- One that has a place.
+-- The symbol has a place.
 pub used_again : (table : List (List ℕ)) (index place : ℕ) (old new : SymbolUses) (before : List (List ℕ)) → HaveUses table old before
     → slice_get old.places.items index ≡ Some place → place < no_place → IsOneMoreAt old.numbers.items place new.numbers.items → new.places.items ≡ old.places.items → new.order.items ≡ old.order.items
     → UsesSymbol table index place old new before
@@ -39,7 +39,7 @@ used_again table index place old new before are noted small (n, number, is) same
       };
     }
 
--- One that has none yet.
+-- The symbol has no place yet.
 pub used_first : (table : List (List ℕ)) (index place : ℕ) (text : List ℕ) (old new : SymbolUses) (before : List (List ℕ)) → HaveUses table old before → slice_get table index ≡ Some text
     → slice_get old.places.items index ≡ Some no_place → place ≡ length old.order.items → place < no_place
     → new.places.items ≡ set old.places.items index place → new.order.items ≡ old.order.items ++ text ∷ [] → new.numbers.items ≡ old.numbers.items ++ 1 ∷ []

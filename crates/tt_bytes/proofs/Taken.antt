@@ -1,4 +1,4 @@
--- One more token that names values by places, and the list that is meant then.
+-- The list that interned tokens mean, with one more token.
 use Rattle.std.proofs.Common.{◌≡◌, ℕ, bytes_eq, List, [], ◌∷◌, ◌++◌, Some, length, map, slice_get, append_assoc, append-nil, refl, ap, sym, subst, ◌∙◌}
 use Rattle.std.proofs.lemmas.List.{map-append}
 use Rattle.std.specs.Char.{IsScalar}
@@ -32,7 +32,7 @@ use Rattle.tt_tables.specs.TableOrder.{different, uses_of}
 use Rattle.tt_tables.specs.Tables.{tables_from}
 use Rattle.tt_tables.specs.Uses.{same_part, token_parts, token_symbols, part_uses, symbol_uses}
 
--- What is there at a place is one value.
+-- There is only one value at a place.
 one_there : {X : Type 0} (xs : List X) (i : ℕ) (x y : X) → slice_get xs i ≡ Some x → slice_get xs i ≡ Some y → x ≡ y
 one_there xs i x y a b =
     let both : Some x ≡ Some y = sym a ∙ b in
@@ -57,7 +57,7 @@ taken tokens more parts counts counts_now order order_now numbers numbers_now li
   },
 )
 
--- A token with no symbol leaves these as they are.
+-- A token without a symbol leaves the symbols as they are.
 taken_plain : (tokens more : List InternedToken) (parts : List SpanPart) (counts counts_now : List ℕ) (order : List (List ℕ)) (numbers : List ℕ) (list : List TokenTree)
     (t : InternedToken) (it : TokenTree) → AreOf tokens parts counts order numbers list → more ≡ tokens ++ t ∷ [] → AreUsed parts counts_now (part_uses list ++ token_parts it)
     → token_symbols it ≡ [] → Names (tables_from parts order) t (whole it) → IsListOf more parts counts_now order numbers
@@ -68,7 +68,7 @@ taken_plain tokens more parts counts counts_now order numbers list t it are grow
     same : symbol_uses list ≡ symbol_uses list ++ token_symbols it
     same = sym (ap (λ l. symbol_uses list ++ l) none ∙ append-nil (symbol_uses list))
 
--- What parts are used.
+-- The uses of parts.
 pub parts_used : (tokens : List InternedToken) (parts : List SpanPart) (counts : List ℕ) (order : List (List ℕ)) (numbers : List ℕ) (list : List TokenTree)
     → AreOf tokens parts counts order numbers list → AreUsed parts counts (part_uses list)
 parts_used tokens parts counts order numbers list are = record { distinct = are.distinct; counted = are.parts_counted }
@@ -95,12 +95,12 @@ taken_header tokens more parts counts counts_mid counts_now order numbers entry 
     taken_plain tokens more parts counts counts_now order numbers list _ (token.Subtree it) are grown used refl
     (record { opening = opening.found order; closing = closing.found order; kind = refl; len = refl }, (opening.range, closing.range))
 
--- What symbols are used.
+-- The uses of symbols.
 symbols_used : (table : List (List ℕ)) (old : SymbolUses) (tokens : List InternedToken) (parts : List SpanPart) (counts : List ℕ) (list : List TokenTree) → IsDistinct bytes_eq table → length old.places.items ≡ length table
     → ArePlaced table old.places.items old.order.items → AreOf tokens parts counts old.order.items old.numbers.items list → HaveUses table old (symbol_uses list)
 symbols_used table old tokens parts counts list distinct long placed are = record { distinct = distinct; long = long; placed = placed; in_order = are.in_order; counted = are.symbols_counted }
 
--- the list that is meant now, and where symbols stand
+-- the tokens mean a list now, and each used symbol is at its place
 abbrev pub IsTaken : (more : List InternedToken) (parts : List SpanPart) (counts : List ℕ) (table : List (List ℕ)) (new : SymbolUses) → Type 0
 IsTaken more parts counts table new =
     IsListOf more parts counts new.order.items new.numbers.items × (length new.places.items ≡ length table) × ArePlaced table new.places.items new.order.items

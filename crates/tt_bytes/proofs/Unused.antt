@@ -12,7 +12,7 @@ no_number : {X : Type 0} (same : X → X → Bool) (values : List X) → replica
 no_number same [] = refl
 no_number same (v ∷ values) = ap (λ l. 0 ∷ l) (no_number same values)
 
--- No part is.
+-- No part is used.
 pub no_uses : (parts : List SpanPart) (len : ℕ) (numbers : List ℕ) → length parts ≡ len → IsDistinct same_part parts → numbers ≡ replicate len 0 → AreUsed parts numbers []
 no_uses parts len numbers long distinct are =
     record { distinct = distinct; counted = are ∙ ap (λ n. replicate n 0) (sym long) ∙ no_number same_part parts }

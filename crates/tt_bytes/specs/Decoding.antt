@@ -1,4 +1,4 @@
--- The tokens that stand in packed bytes, whatever these are.
+-- The tokens of packed bytes, which need not be those of a tree.
 use Rattle.std.specs.Prelude.{◌≡◌, ◌+◌, ◌<◌, ℕ, List, [], ◌∷◌, ◌++◌, drop, length, Option, Some}
 use Rattle.tt_base.specs.declared.token_tree.TokenTree.{TokenTree}
 use Rattle.tt_base.specs.Fits.{TokenInRange}
@@ -15,12 +15,12 @@ abbrev pub Names : Tables → Entry → TokenTree → Type 0
 Names tables (of_leaf entry) it = IsLeaf tables entry it
 Names tables (of_header entry) it = IsSubtree tables entry it
 
--- if a token in range is named, it is the result
+-- the result is the token in range that the numbers name, if they name one
 abbrev pub GivesToken : Tables → Entry → Option TokenTree → Type 0
 GivesToken tables (of_leaf entry) result = GivesLeaf tables entry result
 GivesToken tables (of_header entry) result = GivesSubtree tables entry result
 
--- the numbers of the token, which are in range, stand at an offset, and end at another
+-- the numbers of the token begin at an offset, are in range, and end at the offset of the next token
 pub record Stands (tables : Tables) (packed : List ℕ) (offset : ℕ) (it : TokenTree) (next : ℕ) : Type 0 where
   pub entry : Entry
   pub rest : List ℕ
@@ -30,24 +30,24 @@ pub record Stands (tables : Tables) (packed : List ℕ) (offset : ℕ) (it : Tok
   pub ends : next + length rest ≡ length packed
   pub some : offset < next
 
--- the tokens stand one after the other, from the first byte up to an offset
+-- these tokens follow one another from the first byte up to an offset
 pub data Stand (tables : Tables) (packed : List ℕ) : List TokenTree → (offset : ℕ) → Type 0 where
   none : Stand tables packed [] 0
   more : {tokens : List TokenTree} {offset next : ℕ} {it : TokenTree}
       → Stand tables packed tokens offset → Stands tables packed offset it next → Stand tables packed (tokens ++ it ∷ []) next
 
--- no token stands at an offset
+-- no token is at an offset
 abbrev pub StandsNone : Tables → (packed : List ℕ) → (offset : ℕ) → Type 0
 StandsNone tables packed offset = (it : TokenTree) (next : ℕ) → Stands tables packed offset it next → ⊥
 
--- tokens stand up to an offset before the end, and there none does
+-- tokens follow one another up to an offset before the end, and no token is at that offset
 pub record StopsAt (tables : Tables) (packed : List ℕ) (offset : ℕ) : Type 0 where
   pub tokens : List TokenTree
   pub stand : Stand tables packed tokens offset
   pub inside : offset < length packed
   pub none : StandsNone tables packed offset
 
--- why not all packed bytes are read, before which so many others stand: memory is refused, or no token stands there
+-- why not all packed bytes are read: no token is at that byte of the piece, which has `before` bytes before them; or memory runs out
 abbrev pub IsStop : Tables → (packed : List ℕ) → (before : ℕ) → BytesFault → Type 0
 IsStop tables packed before (NoTree at) = (offset : ℕ) × (at ≡ before + offset) × StopsAt tables packed offset
 IsStop tables packed before fault = fault ≡ Memory

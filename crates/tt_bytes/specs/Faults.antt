@@ -1,4 +1,4 @@
--- Why bytes are those of no tree, and at which of them that is seen.
+-- Why bytes are those of no tree, and the first byte that shows it.
 use Rattle.std.specs.Prelude.{◌≡◌, ◌≢◌, ◌⊎◌, ◌+◌, ◌==◌, ℕ, suc, List, [], ◌∷◌, length, if◌then◌else◌, Ok, Err}
 use Rattle.tt_base.specs.declared.token_tree.TokenTree.{TokenTree}
 use Rattle.tt_base.specs.Forest.{Root, flat_root}
@@ -14,29 +14,29 @@ use Rattle.tt_tables.specs.Tables.{Tables}
 abbrev pub tables_in : Held → Tables
 tables_in it = first_entries it.parts it.symbols
 
--- how many bytes two lists begin with alike
+-- how many first items the two lists have in common
 abbrev pub common_length : (one other : List ℕ) → ℕ
 common_length [] other = 0
 common_length (a ∷ one) [] = 0
 common_length (a ∷ one) (b ∷ other) = if a == b then suc (common_length one other) else 0
 
--- the tokens are those of no tree that has bytes
+-- no tree that has bytes has these tokens
 abbrev pub AreOfNone : List TokenTree → Type 0
 AreOfNone tokens = (root : Root) → tokens ≡ flat_root root → HasBytes root → ⊥
 
--- why no tree has what the bytes hold: tokens stand up to an offset where none stands, or up to the end, and are those of no tree
+-- why the bytes hold no tree: no token is at an offset before the end, or the tokens up to the end are those of no tree
 abbrev pub HasNoTree : (it : Held) → (offset : ℕ) → Type 0
 HasNoTree it offset =
     StopsAt (tables_in it) it.packed offset
     ⊎ ((tokens : List TokenTree) × Stand (tables_in it) it.packed tokens offset × (offset ≡ length it.packed) × AreOfNone tokens)
 
--- no tree has what the bytes hold, as shows at an offset of the packed ones
+-- the bytes hold no tree, which the packed bytes show at an offset
 pub record IsNoTree (all : ℕ) (it : Held) (at : ℕ) : Type 0 where
   pub offset : ℕ
   pub why : HasNoTree it offset
   pub place : at + (length it.packed + length it.behind) ≡ all + offset
 
--- the tokens are those of a tree whose bytes are the same up to there, and then others
+-- the tokens are those of a tree, but its bytes differ from the given ones, first at that byte
 pub record IsStoredOtherwise (bytes : List ℕ) (it : Held) (at : ℕ) : Type 0 where
   pub root : Root
   pub stand : Stand (tables_in it) it.packed (flat_root root) (length it.packed)
@@ -44,16 +44,16 @@ pub record IsStoredOtherwise (bytes : List ℕ) (it : Held) (at : ℕ) : Type 0 
   pub place : at ≡ common_length bytes (tree_bytes root)
   pub other : bytes ≢ tree_bytes root
 
--- why what the bytes hold is no tree's
+-- why the tokens of the bytes make no tree with these bytes
 abbrev pub IsTreeFault : (bytes : List ℕ) → Held → BytesFault → Type 0
 IsTreeFault bytes it (NoTree at) = IsNoTree (length bytes) it at
 IsTreeFault bytes it (StoredOtherwise at) = IsStoredOtherwise bytes it at
 IsTreeFault bytes it _ = ⊥
 
--- why the bytes are those of no tree: their front is wrong, or what they hold is; memory may be refused for any
+-- why the bytes are those of no tree: their front has a fault, or their tokens do; memory may run out for any bytes
 abbrev pub IsFaultOf : List ℕ → BytesFault → Type 0
 IsFaultOf bytes fault = (fault ≡ Memory) ⊎ ((held bytes ≡ Err fault) ⊎ ((it : Held) × (held bytes ≡ Ok it) × IsTreeFault bytes it fault))
 
--- the bytes are those of no tree, for that reason, or memory was refused
+-- the bytes are those of no tree for that reason, or memory ran out
 abbrev pub IsRefused : List ℕ → BytesFault → Type 0
 IsRefused bytes fault = IsFaultOf bytes fault × ((fault ≡ Memory) ⊎ AreBytesOfNone bytes)

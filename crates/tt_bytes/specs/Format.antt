@@ -12,29 +12,29 @@ use Rattle.tt_tables.specs.Stored.{packed, IsInRange, IsWithinLimits}
 unfoldable pub number_bytes : ℕ → List ℕ
 number_bytes n = to_le_bytes w32 n
 
--- a part: its file, its item and its context
+-- the bytes of a part: its file, its item and its context
 unfoldable pub part_bytes : SpanPart → List ℕ
 part_bytes part = number_bytes part.anchor.file_id.0 ++ number_bytes part.anchor.ast_id.0 ++ number_bytes part.ctx.0
 
--- a symbol: how many bytes its text has, and its text
+-- the bytes of a symbol: the number of bytes of its text, and its text
 abbrev pub symbol_bytes : List ℕ → List ℕ
 symbol_bytes text = number_bytes (length text) ++ text
 
--- parts one after the other
+-- the bytes of parts, one after the other
 abbrev pub parts_bytes : List SpanPart → List ℕ
 parts_bytes [] = []
 parts_bytes (part ∷ parts) = part_bytes part ++ parts_bytes parts
 
--- symbols one after the other
+-- the bytes of symbols, one after the other
 abbrev pub symbols_bytes : List (List ℕ) → List ℕ
 symbols_bytes [] = []
 symbols_bytes (text ∷ symbols) = symbol_bytes text ++ symbols_bytes symbols
 
--- what each piece begins with: the format and its version
+-- the first bytes of each piece: the format and its version
 abbrev pub mark : List ℕ
 mark = 116 ∷ 116 ∷ 1 ∷ 0 ∷ []
 
--- the mark, three counts, parts, symbols, and the packed bytes
+-- a piece: the mark, three counts, parts, symbols, and the packed bytes
 unfoldable pub piece : (parts : List SpanPart) (symbols : List (List ℕ)) (below : List ℕ) → List ℕ
 piece parts symbols below =
     mark ++ number_bytes (length parts) ++ number_bytes (length symbols) ++ number_bytes (length below)
@@ -55,7 +55,7 @@ pub record TextFits (text : List ℕ) : Type 0 where
   pub utf8 : IsUtf8 text
   pub short : length text < 2 ^ 32
 
--- four bytes have room for each number of a piece
+-- each number of a piece fits in four bytes
 pub record PieceFits (parts : List SpanPart) (symbols : List (List ℕ)) (below : List ℕ) : Type 0 where
   pub part_count : length parts < 2 ^ 32
   pub symbol_count : length symbols < 2 ^ 32
@@ -63,7 +63,7 @@ pub record PieceFits (parts : List SpanPart) (symbols : List (List ℕ)) (below 
   pub each_part : AllByRecursion PartFits parts
   pub each_text : AllByRecursion TextFits symbols
 
--- the tree has bytes: it can be stored, and four bytes have room for each number of its piece
+-- the tree has bytes: it can be stored, and each number of its piece fits in four bytes
 pub record HasBytes (root : Root) : Type 0 where
   pub range : IsInRange root
   pub limits : IsWithinLimits root
@@ -78,7 +78,7 @@ pub record AreBytesOf (root : Root) (all : List ℕ) : Type 0 where
 abbrev pub AreBytesOfNone : List ℕ → Type 0
 AreBytesOfNone all = (root : Root) → AreBytesOf root all → ⊥
 
--- why a tree is refused: memory is, or a count does not fit in four bytes
+-- why a tree has no bytes: memory runs out, or a count does not fit in four bytes
 abbrev pub IsRefusal : Root → TtFault → Type 0
 IsRefusal root fault =
     (fault ≡ Memory)

@@ -1,4 +1,4 @@
--- Tokens of which nothing but the kind is asked.
+-- Tokens of which only the kind counts.
 use Rattle.std.specs.Prelude.{◌≡◌}
 use Rattle.tt_base.specs.declared.leaf.Leaf.{Leaf}
 use Rattle.tt_base.specs.declared.token_tree.TokenTree.{TokenTree}

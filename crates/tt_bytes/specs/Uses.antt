@@ -1,4 +1,4 @@
--- How often values of a table are used, where uses come one after the other.
+-- The numbers of uses of a table's values, use by use.
 use Rattle.std.specs.List.{IsDistinct, list_any}
 use Rattle.std.specs.Prelude.{◌≡◌, ℕ, ◌+◌, ◌<◌, ◌≤◌, false, bytes_eq, List, [], ◌∷◌, ◌++◌, Some, length, map, set, slice_get}
 use Rattle.tt_base.specs.declared.span.Span.{Span}
@@ -12,37 +12,37 @@ use Rattle.tt_tables.specs.TableOrder.{different, uses_of}
 use Rattle.tt_tables.specs.Tables.{tables_from}
 use Rattle.tt_tables.specs.Uses.{same_part}
 
--- what stands for a place that no symbol has yet
+-- the mark of a symbol that has no place yet
 abbrev pub no_place : ℕ
 no_place = 4294967295
 
--- the number at an index has become one more
+-- the number at an index is one more
 abbrev pub IsOneMoreAt : (old : List ℕ) (index : ℕ) (new : List ℕ) → Type 0
 IsOneMoreAt old index new = (n : ℕ) × (slice_get old index ≡ Some n) × (new ≡ set old index (n + 1))
 
--- the parts differ, and each has its number of uses
+-- the parts are all different, and these are their numbers of uses
 pub record AreUsed (parts : List SpanPart) (numbers : List ℕ) (uses : List SpanPart) : Type 0 where
   pub distinct : IsDistinct same_part parts
   pub counted : numbers ≡ map (uses_of same_part uses) parts
 
--- the numbers name a span in range, whose part is used once more
+-- the numbers name a span in range, and its part has one more use
 pub record UsesSpan (parts : List SpanPart) (numbers : SpanNumbers) (counts : List ℕ) (before : List SpanPart) : Type 0 where
   pub span : Span
   pub found : (symbols : List (List ℕ)) → FindsSpan (tables_from parts symbols) numbers span
   pub range : SpanInRange span
   pub used : AreUsed parts counts (before ++ part_of span ∷ [])
 
--- each value that stands at a place stays there
+-- each value stays at its place
 abbrev pub Stay : {X : Type 0} → (old new : List X) → Type 0
 Stay {X} old new = (i : ℕ) (x : X) → slice_get old i ≡ Some x → slice_get new i ≡ Some x
 
--- each symbol of the table stands among those that are used at the place that is noted for it, or nowhere where none is
+-- each symbol of the table that has a place is at that place among the used symbols; the others are not used
 abbrev pub ArePlaced : (table : List (List ℕ)) (places : List ℕ) (order : List (List ℕ)) → Type 0
 ArePlaced table places order =
     (i n : ℕ) (text : List ℕ) → slice_get table i ≡ Some text → slice_get places i ≡ Some n
     → (n < no_place → slice_get order n ≡ Some text) × (no_place ≤ n → list_any (bytes_eq text) order ≡ false)
 
--- the table's symbols differ, and those that are used stand by first use, each with its number of uses
+-- the table's symbols are all different; the used ones are in the order of their first uses, each with its number of uses
 pub record HaveUses (table : List (List ℕ)) (it : SymbolUses) (uses : List (List ℕ)) : Type 0 where
   pub distinct : IsDistinct bytes_eq table
   pub long : length it.places.items ≡ length table
@@ -50,7 +50,7 @@ pub record HaveUses (table : List (List ℕ)) (it : SymbolUses) (uses : List (Li
   pub in_order : it.order.items ≡ different bytes_eq uses
   pub counted : it.numbers.items ≡ map (uses_of bytes_eq uses) it.order.items
 
--- the symbol at an index of the table is used once more, and stands at that place
+-- the symbol at an index of the table has one more use, and is at that place
 pub record UsesSymbol (table : List (List ℕ)) (index place : ℕ) (old new : SymbolUses) (before : List (List ℕ)) : Type 0 where
   pub text : List ℕ
   pub there : slice_get table index ≡ Some text

@@ -1,4 +1,4 @@
-//! Whether bytes are those of a tree, and up to where two lists of bytes are alike.
+//! Compares bytes with those of a tree, and finds the first byte at which two lists of bytes differ.
 ghost use Rattle.std.specs.List.{AllByRecursion};
 ghost use Rattle.std.specs.Prelude.{◌≡◌, ◌↔◌, ◌<◌, ◌^◌, length, IsTrue};
 ghost use Rattle.tt_bytes.specs.Behind.{IsBehind, CountsFit, counts_bytes, front_bytes, StoredFits};
@@ -9,14 +9,14 @@ ghost use Rattle.tt_tables.specs.Stored.{packed};
 use crate::write::MARK;
 use tt::{SpanPart, Symbol, TopSubtree};
 
-// The bytes behind a number, if they begin with it.
+// Returns the bytes after those of a number, if they begin with these.
 fn behind_number(number: u32, from: &[u8]) -> Option<&[u8]>
     ensures { IsBehind (number < 2 ^ 32) (number_bytes number) from.now result }
 {
     from.strip_prefix(&number.to_le_bytes())
 }
 
-// The bytes behind a count, if it fits in four and they begin with it.
+// Returns the bytes after those of a count, if it is below 2^32 and they begin with these.
 fn behind_count(count: usize, from: &[u8]) -> Option<&[u8]>
     ensures { IsBehind (count < 2 ^ 32) (number_bytes count) from.now result }
 {
@@ -26,7 +26,7 @@ fn behind_count(count: usize, from: &[u8]) -> Option<&[u8]>
     behind_number(number, from)
 }
 
-// The bytes behind a part, if they begin with it.
+// Returns the bytes after those of a part, if they begin with these.
 fn behind_part<'a>(part: &SpanPart, from: &'a [u8]) -> Option<&'a [u8]>
     ensures { IsBehind (PartFits part.now) (part_bytes part.now) from.now result }
 {
@@ -35,7 +35,7 @@ fn behind_part<'a>(part: &SpanPart, from: &'a [u8]) -> Option<&'a [u8]>
     behind_number(part.ctx.0, rest)
 }
 
-// The bytes behind parts, if they begin with them.
+// Returns the bytes after those of the parts, if they begin with these.
 fn behind_parts<'a>(parts: &[SpanPart], from: &'a [u8]) -> Option<&'a [u8]>
     ensures { IsBehind (AllByRecursion PartFits parts.now) (parts_bytes parts.now) from.now result }
 {
@@ -46,7 +46,7 @@ fn behind_parts<'a>(parts: &[SpanPart], from: &'a [u8]) -> Option<&'a [u8]>
     Some(rest)
 }
 
-// The bytes behind a symbol, if they begin with it.
+// Returns the bytes after those of a symbol, if they begin with these.
 fn behind_symbol<'a>(symbol: &Symbol, from: &'a [u8]) -> Option<&'a [u8]>
     ensures { IsBehind (TextFits symbol.now) (symbol_bytes symbol.now) from.now result }
 {
@@ -55,7 +55,7 @@ fn behind_symbol<'a>(symbol: &Symbol, from: &'a [u8]) -> Option<&'a [u8]>
     rest.strip_prefix(text)
 }
 
-// The bytes behind symbols, if they begin with them.
+// Returns the bytes after those of the symbols, if they begin with these.
 fn behind_symbols<'a>(symbols: &[Symbol], from: &'a [u8]) -> Option<&'a [u8]>
     ensures { IsBehind (AllByRecursion TextFits symbols.now) (symbols_bytes symbols.now) from.now result }
 {
@@ -66,7 +66,7 @@ fn behind_symbols<'a>(symbols: &[Symbol], from: &'a [u8]) -> Option<&'a [u8]>
     Some(rest)
 }
 
-// The bytes behind three counts, if they begin with them.
+// Returns the bytes after those of three counts, if they begin with these.
 fn behind_counts(parts: usize, symbols: usize, bytes: usize, from: &[u8]) -> Option<&[u8]>
     ensures { IsBehind (CountsFit parts symbols bytes) (counts_bytes parts symbols bytes) from.now result }
 {
@@ -75,7 +75,7 @@ fn behind_counts(parts: usize, symbols: usize, bytes: usize, from: &[u8]) -> Opt
     behind_count(bytes, rest)
 }
 
-// The bytes behind all that a piece of the tree has before its packed bytes, if they begin with that.
+// Returns the bytes after those that a piece of the tree has before its packed bytes, if they begin with these.
 fn behind_front<'a>(tree: &TopSubtree, from: &'a [u8]) -> Option<&'a [u8]>
     ensures { IsBehind (StoredFits (packed tree.now)) (front_bytes (packed tree.now)) from.now result }
 {
@@ -88,7 +88,7 @@ fn behind_front<'a>(tree: &TopSubtree, from: &'a [u8]) -> Option<&'a [u8]>
     behind_symbols(symbols, rest)
 }
 
-/// Whether these are the bytes of the tree.
+/// Returns whether these are the bytes of the tree.
 pub(crate) fn are_bytes_of(tree: &TopSubtree, bytes: &[u8]) -> bool
     ensures { IsTrue result ↔ AreBytesOf tree.now bytes.now }
 {
@@ -98,7 +98,7 @@ pub(crate) fn are_bytes_of(tree: &TopSubtree, bytes: &[u8]) -> bool
     }
 }
 
-/// How many bytes two lists begin with alike.
+/// Returns how many first bytes the two lists have in common.
 pub(crate) fn common_length(one: &[u8], other: &[u8]) -> usize
     ensures { result ≡ common_length one.now other.now }
 {

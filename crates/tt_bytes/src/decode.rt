@@ -1,4 +1,4 @@
-//! The tokens of packed bytes, whatever these are.
+//! Decodes the tokens of packed bytes, which need not be those of a tree.
 ghost use Rattle.std.specs.Prelude.{◌≡◌, ◌<◌, ◌≤◌, ◌+◌, ◌^◌, length, IfSome, MatchOption, MatchResult, Some};
 ghost use Rattle.tt_base.specs.Fits.{SpanInRange, TokenInRange};
 ghost use Rattle.tt_base.specs.Forest.{Forest, Root, end, only, flat_root};
@@ -14,7 +14,7 @@ use tt::{Leaf, Span, TokenTree};
 use tt_codec::Entry;
 use tt_tables::Tables;
 
-// Both ends of a span are in range, since its types keep that.
+// Shows that both ends of a span are in range, by their types.
 fn keep_span_in_range(span: &Span)
     ensures { SpanInRange span.now }
 {
@@ -22,7 +22,7 @@ fn keep_span_in_range(span: &Span)
     let _end = span.range.end().raw();
 }
 
-// So is all that the bytes of a token rest on.
+// Shows that all numbers that the bytes of a token need are in range.
 fn keep_in_range(token: &TokenTree)
     ensures { TokenInRange token.now }
 {
@@ -40,7 +40,7 @@ fn keep_in_range(token: &TokenTree)
     }
 }
 
-// The token that the numbers name.
+// Returns the token that the numbers name, or `None` if they name none.
 fn token_of(tables: Tables<'_>, entry: Entry) -> Option<TokenTree>
     ensures gives { GivesToken (tables_of tables.entry) entry result }
     ensures only { IfSome result (λ it. Names (tables_of tables.entry) entry it × TokenInRange it) }
@@ -53,7 +53,7 @@ fn token_of(tables: Tables<'_>, entry: Entry) -> Option<TokenTree>
     Some(token)
 }
 
-// The token that stands there, and where the next one does.
+// Returns the token at an offset and the offset of the next token, or `None` if no token is there.
 fn token_at(tables: Tables<'_>, packed: &[u8], offset: usize) -> Option<(TokenTree, usize)>
     ensures stands { MatchOption result (StandsNone (tables_of tables.entry) packed.now offset)
         (λ found. Stands (tables_of tables.entry) packed.now offset found.0 found.1) }
@@ -70,7 +70,8 @@ fn token_at(tables: Tables<'_>, packed: &[u8], offset: usize) -> Option<(TokenTr
     Some((token, packed.len() - rest.len()))
 }
 
-/// The tokens that stand in packed bytes one after the other. Before these bytes stand so many others.
+/// Returns the tokens of the packed bytes, one after the other. `before` is the number of bytes of the piece before them. Fails at the
+/// first byte at which no token begins (`NoTree`, with its place in the piece), or if memory runs out.
 pub(crate) fn tokens_of(
     alloc: Global,
     tables: Tables<'_>,

@@ -1,4 +1,4 @@
-//! Whether all values of a list differ.
+//! Whether the values of a list are all different.
 ghost use Rattle.std.specs.List.{IsDistinct, list_any};
 ghost use Rattle.std.specs.Prelude.{◌≡◌, ◌==◌, ◌↔◌, bytes_eq, map, IsTrue, IfOk};
 ghost use Rattle.tt_bytes.specs.Digest.{digest_of, short_digest};
@@ -8,10 +8,10 @@ use std::alloc::{AllocError, Global};
 use std::hash::Hash;
 use tt::Symbol;
 
-// Up to so many values are compared with each other; of more a set is made.
+// The largest number of values that are compared with each other; for more, a set is made.
 const FEW_VALUES: usize = 8;
 
-// Whether a value is among others. All of them are looked at, so that several are compared at a time.
+// Returns whether a value is among others. Looks at all of them, so that the machine can compare several at a time.
 fn is_among<T: Eq>(value: &T, others: &[T]) -> bool
     ensures { result ≡ list_any (λ other. T.eq other value.now) others.now }
 {
@@ -22,7 +22,7 @@ fn is_among<T: Eq>(value: &T, others: &[T]) -> bool
     found
 }
 
-// Whether few values differ: each is compared with all behind it.
+// Returns whether few values are all different. Compares each value with all after it.
 fn few_differ<T: Eq>(values: &[T]) -> bool
     requires { (x y : T) → T.eq x y ≡ T.eq y x }
     ensures { IsTrue result ↔ IsDistinct T.eq values.now }
@@ -37,7 +37,7 @@ fn few_differ<T: Eq>(values: &[T]) -> bool
     true
 }
 
-// Whether many values differ: each is new to a set.
+// Returns whether many values are all different. Adds each value to a set.
 fn many_differ<T: Eq + Hash + Clone + Drop>(alloc: Global, values: &[T]) -> Result<bool, AllocError>
     requires { (x y : T) → T.is_clone x y → y ≡ x }
     ensures { IfOk result (λ differ. IsTrue differ → IsDistinct T.eq values.now) }
@@ -51,7 +51,7 @@ fn many_differ<T: Eq + Hash + Clone + Drop>(alloc: Global, values: &[T]) -> Resu
     Ok(true)
 }
 
-/// Whether all values differ.
+/// Returns whether the values are all different. Fails only if memory runs out.
 pub(crate) fn all_differ<T: Eq + Hash + Clone + Drop>(
     alloc: Global,
     values: &[T],
@@ -66,10 +66,10 @@ pub(crate) fn all_differ<T: Eq + Hash + Clone + Drop>(
     many_differ(alloc, values)
 }
 
-// Up to so many symbols are told apart by numbers; of more a set is made.
+// The largest number of symbols whose digests are compared with each other; for more, a set is made.
 const SOME_SYMBOLS: usize = 96;
 
-// A number that equal texts share, of the bytes of a short one.
+// Returns the digest of a short text. Equal texts have the same digest.
 fn short_digest(text: &[u8]) -> u64
     ensures { result ≡ short_digest text.now }
 {
@@ -80,7 +80,7 @@ fn short_digest(text: &[u8]) -> u64
     digest
 }
 
-// A number that equal texts share. Most others differ in it.
+// Returns the digest of a text. Equal texts have the same digest, and most different texts have different ones.
 fn digest(text: &[u8]) -> u64
     ensures { result ≡ digest_of text.now }
 {
@@ -95,7 +95,7 @@ fn digest(text: &[u8]) -> u64
         .wrapping_add(u64::from_le_bytes(*last))
 }
 
-// The numbers of the symbols.
+// Returns the digests of the symbols.
 fn digests(alloc: Global, symbols: &[Symbol]) -> Result<Vec<u64>, AllocError>
     ensures { IfOk result (λ digests. digests.items ≡ map digest_of symbols.now) }
 {
@@ -106,7 +106,7 @@ fn digests(alloc: Global, symbols: &[Symbol]) -> Result<Vec<u64>, AllocError>
     Ok(digests)
 }
 
-// Whether the numbers of some symbols differ.
+// Returns whether the digests of some symbols are all different.
 fn digests_differ(alloc: Global, symbols: &[Symbol]) -> Result<bool, AllocError>
     ensures { IfOk result (λ differ. IsTrue differ ↔ IsDistinct ◌==◌ (map digest_of symbols.now)) }
 {
@@ -114,7 +114,7 @@ fn digests_differ(alloc: Global, symbols: &[Symbol]) -> Result<bool, AllocError>
     Ok(few_differ(&digests))
 }
 
-/// Whether all symbols differ.
+/// Returns whether the symbols are all different. Fails only if memory runs out.
 pub(crate) fn symbols_differ(alloc: Global, symbols: &[Symbol]) -> Result<bool, AllocError>
     ensures { IfOk result (λ differ. IsTrue differ → IsDistinct bytes_eq symbols.now) }
 {

@@ -2,25 +2,25 @@
 use std::alloc::{AllocError, AllocFailed};
 use thiserror::Error;
 
-/// Why bytes are those of no tree, and at which of them that is seen.
+/// Why bytes are those of no tree, and the place of the first byte that shows it, counted from 0.
 #[derive(Debug, Clone, Copy, PartialEq, Eq, Error)]
 pub enum BytesFault {
-    /// A growth was refused.
+    /// Memory ran out.
     #[error("out of memory")]
     Memory,
-    /// The bytes end where more have to come: at that number of bytes.
+    /// The bytes end at that number of bytes, and more are needed.
     #[error("too short at {0}")]
     TooShort(usize),
-    /// From that byte on they begin as another format, or another version of this one.
+    /// The byte at that place is not the one of this format and this version.
     #[error("another format at {0}")]
     OtherFormat(usize),
-    /// A symbol's text is UTF-8 only up to that byte.
+    /// The byte at that place is the first one of a symbol's text that is not UTF-8.
     #[error("no text at {0}")]
     NoText(usize),
-    /// No token stands at that byte; or the bytes end there, and their tokens make up no tree that has bytes.
+    /// No token begins at that byte; or the bytes end at that byte, and their tokens make up no tree that has bytes.
     #[error("no tree at {0}")]
     NoTree(usize),
-    /// The tokens make up a tree, but its bytes are others from that one on.
+    /// The tokens make up a tree, but the bytes of that tree differ from the given ones at that place.
     #[error("stored otherwise at {0}")]
     StoredOtherwise(usize),
 }

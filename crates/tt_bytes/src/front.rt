@@ -1,5 +1,4 @@
-//! What stands before the packed bytes: the mark, the parts and the symbols, which are seen to be there before they are
-//! taken.
+//! Reads what comes before the packed bytes: the mark, the parts and the symbols. Each read checks first that the bytes are there.
 ghost use Rattle.std.specs.Prelude.{◌≡◌, ◌⊎◌, ◌≤◌, length, Ok, Err, IfOk, MatchResult};
 ghost use Rattle.tt_bytes.specs.declared.fault.BytesFault.TheVariants.{Memory};
 ghost use Rattle.tt_bytes.specs.Format.{mark};
@@ -11,12 +10,12 @@ use crate::write::MARK;
 use std::alloc::Global;
 use tt::{SpanPart, Symbol};
 
-// There is room at once for so many symbols at most. A list of more grows, so that no large block is asked for before their own.
+// The largest number of symbols for which memory is taken at once. A longer list grows, so a large count alone takes no large block.
 const FEW_SYMBOLS: usize = 64;
-// A symbol takes so many bytes at least, those of its length.
+// The smallest number of bytes of a symbol: those of its length.
 const LEAST_SYMBOL_BYTES: usize = 4;
 
-// For how many symbols room is made at first, of so many that are told and as many bytes as are there.
+// Returns for how many symbols to take memory at first, by the count that the bytes give and the number of bytes.
 fn first_room(count: u32, bytes: usize) -> usize {
     let room = (count as usize).min(bytes / LEAST_SYMBOL_BYTES);
     if room > FEW_SYMBOLS {
@@ -25,7 +24,8 @@ fn first_room(count: u32, bytes: usize) -> usize {
     room
 }
 
-/// What stands behind the mark.
+/// Returns the bytes after the mark. Fails at the first byte that differs from the mark (`OtherFormat`), or if the bytes end before that
+/// (`TooShort`).
 pub(crate) fn behind_mark(bytes: &[u8]) -> Result<&[u8], BytesFault>
     ensures value { MatchResult result (λ behind. behind_mark 0 mark bytes.now ≡ Ok behind.now) (λ fault. behind_mark 0 mark bytes.now ≡ Err fault) }
     ensures len { IfOk result (λ behind. length behind.now ≤ length bytes.now) }
@@ -43,7 +43,8 @@ pub(crate) fn behind_mark(bytes: &[u8]) -> Result<&[u8], BytesFault>
     Ok(rest)
 }
 
-/// So many parts, and the bytes behind them. All bytes are `all`.
+/// Returns `count` parts, and the bytes after them. `all` is the number of bytes of the piece. Fails if the bytes end too soon
+/// (`TooShort`), or if memory runs out.
 pub(crate) fn split_parts(
     alloc: Global,
     all: usize,
@@ -66,7 +67,8 @@ pub(crate) fn split_parts(
     Ok((parts, rest))
 }
 
-// A symbol, and the bytes behind it.
+// Returns a symbol, and the bytes after it. Fails if the bytes end too soon (`TooShort`), if its text is not UTF-8 (`NoText`), or if
+// memory runs out.
 fn split_symbol(alloc: Global, all: usize, from: &[u8]) -> Result<(Symbol, &[u8]), BytesFault>
     requires { length from.now ≤ all }
     ensures value { MatchResult result (λ found. text_from all from.now ≡ Ok (found.0, found.1.now))
@@ -88,7 +90,8 @@ fn split_symbol(alloc: Global, all: usize, from: &[u8]) -> Result<(Symbol, &[u8]
     }
 }
 
-/// So many symbols, and the bytes behind them. All bytes are `all`.
+/// Returns `count` symbols, and the bytes after them. `all` is the number of bytes of the piece. Fails at the first symbol that is too
+/// short (`TooShort`) or not UTF-8 (`NoText`), or if memory runs out.
 pub(crate) fn split_symbols(
     alloc: Global,
     all: usize,

@@ -1,9 +1,9 @@
-//! Laws of the definitions that the contracts cite: each is the contract of a function that does nothing.
+//! Laws of the definitions that contracts cite. Each one is the contract of a function without a body.
 ghost use Rattle.std.specs.Prelude.{◌≡◌, ℕ, List};
 ghost use Rattle.tt_base.specs.Forest.{Root};
 ghost use Rattle.tt_bytes.specs.Format.{AreBytesOf};
 
-/// Bytes tell the tree whose they are, and a tree its bytes: so two trees are one exactly where their bytes are alike.
+/// Bytes belong to at most one tree, and a tree has only one list of bytes. So two trees are equal exactly if their bytes are equal.
 pub fn bytes_tell()
     ensures tree { (one other : Root) → (bytes : List ℕ) → AreBytesOf one bytes → AreBytesOf other bytes → one ≡ other }
     ensures bytes { (root : Root) → (one other : List ℕ) → AreBytesOf root one → AreBytesOf root other → one ≡ other }

@@ -1,11 +1,11 @@
-//! Values of a known number of bytes, read from the front of some.
+//! Reads values of a fixed number of bytes from the front of bytes.
 ghost use Rattle.std.specs.Prelude.{◌≤◌, length, IfSome};
 ghost use Rattle.tt_bytes.specs.Front.{part_at, counts_at};
 ghost use Rattle.tt_codec.specs.Read.{IsRead, word_at};
 
 use tt::{ErasedFileAstId, FileId, SpanAnchor, SpanPart, SyntaxContext};
 
-/// How many parts, symbols and packed bytes there are.
+/// The numbers of parts, symbols and packed bytes.
 #[derive(Clone, Copy)]
 pub(crate) struct Counts {
     pub(crate) parts: u32,
@@ -13,7 +13,7 @@ pub(crate) struct Counts {
     pub(crate) bytes: u32,
 }
 
-/// A number, and the bytes behind it.
+/// Returns a number, and the bytes after it, or `None` if there are too few bytes.
 pub(crate) fn split_number(from: &[u8]) -> Option<(u32, &[u8])>
     ensures value { IsRead (word_at from.now) result }
     ensures len { IfSome result (λ found. length found.1.now ≤ length from.now) }
@@ -22,7 +22,7 @@ pub(crate) fn split_number(from: &[u8]) -> Option<(u32, &[u8])>
     Some((u32::from_le_bytes(*bytes), rest))
 }
 
-/// A part, and the bytes behind it.
+/// Returns a part, and the bytes after it, or `None` if there are too few bytes.
 pub(crate) fn split_part(from: &[u8]) -> Option<(SpanPart, &[u8])>
     ensures value { IsRead (part_at from.now) result }
     ensures len { IfSome result (λ found. length found.1.now ≤ length from.now) }
@@ -41,7 +41,7 @@ pub(crate) fn split_part(from: &[u8]) -> Option<(SpanPart, &[u8])>
     Some((part, rest))
 }
 
-/// The three counts, and the bytes behind them.
+/// Returns the three counts, and the bytes after them, or `None` if there are too few bytes.
 pub(crate) fn split_counts(from: &[u8]) -> Option<(Counts, &[u8])>
     ensures value { IsRead (counts_at from.now) result }
     ensures len { IfSome result (λ found. length found.1.now ≤ length from.now) }

@@ -1,4 +1,4 @@
-//! What a piece of bytes holds.
+//! Reads a piece of bytes into its tables and its packed bytes.
 ghost use Rattle.std.specs.Prelude.{◌≡◌, ◌⊎◌, ◌+◌, ◌≤◌, length, Ok, Err, IfOk, MatchResult};
 ghost use Rattle.tt_bytes.specs.declared.fault.BytesFault.TheVariants.{Memory};
 ghost use Rattle.tt_bytes.specs.Behind.{IsMadeOf};
@@ -10,7 +10,7 @@ use crate::numbers::split_counts;
 use std::alloc::Global;
 use tt::{SpanPart, Symbol};
 
-/// What a piece of bytes holds, and what stands behind its end.
+/// The tables and packed bytes of a piece, and the bytes after its end.
 #[derive(Drop)]
 pub(crate) struct Piece<'a> {
     pub(crate) parts: Vec<SpanPart>,
@@ -20,7 +20,7 @@ pub(crate) struct Piece<'a> {
 }
 
 impl<'a> Piece<'a> {
-    /// What the bytes hold.
+    /// Returns what the bytes hold, or the first fault in them. Fails also if memory runs out.
     pub(crate) fn read(alloc: Global, bytes: &'a [u8]) -> Result<Piece<'a>, BytesFault>
         ensures value { MatchResult result (λ it. held bytes.now ≡ Ok (held_in it)) (λ fault. (fault ≡ Memory) ⊎ (held bytes.now ≡ Err fault)) }
         ensures whole { IfOk result (λ it. IsMadeOf (held_in it) bytes.now) }

@@ -1,5 +1,5 @@
-//! The tree of a piece, made by the places of values. It is taken only where its own bytes are those of the piece, so what is
-//! read of the piece before that has to be some tree, whichever.
+//! Reads the tree of a piece by the places of its values in the tables. The tree counts only if its own bytes are those of the piece, so
+//! the code before that check only has to return some tree.
 ghost use Rattle.std.specs.List.{IsDistinct};
 ghost use Rattle.std.specs.Prelude.{◌≡◌, ℕ, List, bytes_eq, IfOk, IfSome, IsTrue};
 ghost use Rattle.tt_base.specs.Forest.{Root};
@@ -18,12 +18,12 @@ use tt_codec::Entry;
 use tt_interned::CountedTokens;
 use tt_tables::Tables;
 
-// A token takes so many bytes at least.
+// The smallest number of bytes of a token.
 const LEAST_TOKEN_BYTES: usize = 5;
-// The last parts are those of the top.
+// The last parts are those of the top's two spans.
 const TOP_PARTS: usize = 2;
 
-// The header that packed bytes begin with, and the bytes behind it.
+// Returns the header at the front of the packed bytes, and the bytes after it.
 fn split_top<'a>(
     parts: &[SpanPart],
     symbols: &[Symbol],
@@ -38,7 +38,7 @@ fn split_top<'a>(
     }
 }
 
-// So many tokens that stand at the front of the bytes, up to one that does not fit.
+// Takes `count` tokens from the front of the bytes, or those before the first that does not fit.
 #[inline(never)]
 fn take_tokens<'a>(
     alloc: Global,
@@ -59,7 +59,7 @@ fn take_tokens<'a>(
     Ok(taking)
 }
 
-// The tree of the tokens under such a top, if they are those of a tree.
+// Returns the tree of the tokens under that top, if they are those of a tree.
 fn tree_of_tokens(
     alloc: Global,
     top: Delimiter,
@@ -78,7 +78,7 @@ fn tree_of_tokens(
     }
 }
 
-// The tree of packed bytes under these tables, if each table has different values, and what is read is a tree.
+// Returns the tree of packed bytes and these tables, if the values of each table are all different and the bytes are those of some tree.
 fn quick_tree(
     alloc: Global,
     parts: &[SpanPart],
@@ -103,7 +103,7 @@ fn quick_tree(
     tree_of_tokens(alloc, top.delimiter, &taking)
 }
 
-// Whether a piece holds what is stored for the tree, and nothing stands behind its end.
+// Returns whether the piece holds exactly what is stored for the tree, and no bytes follow its end.
 fn is_stored_in(tree: &TopSubtree, piece: &Piece<'_>) -> bool
     ensures is { IsTrue result → (bytes : List ℕ) → IsMadeOf (held_in piece.now) bytes → AreBytesOf tree.now bytes }
     ensures only { IsStoredIn tree.now (held_in piece.now) → IsTrue result }
@@ -117,7 +117,8 @@ fn is_stored_in(tree: &TopSubtree, piece: &Piece<'_>) -> bool
     tree.symbol_table() == piece.symbols.as_slice()
 }
 
-/// The tree of a piece, where these are its bytes. There may be none also where they are those of a tree.
+/// Returns the tree of a piece if its bytes are those of the piece. May return `None` for the bytes of a tree, and then the caller reads
+/// them token by token. Fails only if memory runs out.
 pub(crate) fn stored_tree(
     alloc: Global,
     piece: &Piece<'_>,

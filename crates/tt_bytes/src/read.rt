@@ -1,4 +1,4 @@
-//! From bytes to their tree.
+//! Reads bytes into their tree.
 ghost use Rattle.std.specs.Prelude.{◌≡◌, ◌⊎◌, IfOk, IfErr};
 ghost use Rattle.tt_base.specs.Forest.{Root};
 ghost use Rattle.tt_bytes.specs.declared.fault.BytesFault.TheVariants.{Memory, NoTree};
@@ -15,7 +15,7 @@ use std::alloc::Global;
 use tt::{TopSubtree, TtFault};
 use tt_tables::Tables;
 
-// Why tokens that were read up to the end are those of no tree that has bytes.
+// Returns why the tokens of all packed bytes are those of no tree that has bytes.
 fn fault_of(fault: TtFault, end: usize) -> BytesFault
     ensures memory { fault ≡ TtFault.Memory → result ≡ Memory }
     ensures other { (fault ≡ TtFault.Memory → ⊥) → result ≡ NoTree end }
@@ -26,7 +26,8 @@ fn fault_of(fault: TtFault, end: usize) -> BytesFault
     }
 }
 
-/// The tree of these bytes: the one whose bytes they are.
+/// Returns the tree of these bytes. It is the only tree with these bytes. Fails if they are the bytes of no tree, with the first byte
+/// that shows it, or if memory runs out.
 pub fn from_bytes(alloc: Global, bytes: &[u8]) -> Result<TopSubtree, BytesFault>
     ensures ok { IfOk result (λ tree. AreBytesOf tree bytes.now) }
     ensures only { IfOk result (λ tree. (other : Root) → AreBytesOf other bytes.now → other ≡ tree) }

@@ -1,4 +1,4 @@
-//! Tokens that are taken from packed bytes one after the other.
+//! Takes tokens from packed bytes, one after the other.
 ghost use Rattle.std.specs.Prelude.{◌≡◌, ℕ, List, Some, ◌++◌, ◌∷◌, [], false, bytes_eq, length, slice_get, IsTrue};
 ghost use Rattle.std.proofs.Props.{props};
 ghost use Rattle.std.specs.List.{IsDistinct};
@@ -14,16 +14,16 @@ use tt_codec::{HeaderEntry, LeafEntry, SpanNumbers, Visitor, visit_common_token,
 use tt_interned::{CountedTokens, InternedToken};
 use tt_tables::Tables;
 
-/// Tokens with how often each value of the tables is used. Unless one did not fit, they mean a list.
+/// Tokens, and the number of uses of each value of the tables. Unless a token did not fit, they mean a list.
 #[derive(Drop)]
 pub(crate) struct Taking<'a> {
     tables: Tables<'a>,
     pub(crate) tokens: Vec<InternedToken>,
     pub(crate) part_uses: Vec<usize>,
     pub(crate) symbols: SymbolUses,
-    /// What stands behind the tokens.
+    /// The bytes after the tokens.
     pub(crate) rest: &'a [u8],
-    /// Whether one did not fit.
+    /// Whether a token did not fit.
     pub(crate) failed: bool,
     pub ghost list: { failed ≡ false → IsListOf tokens.items tables.parts.now part_uses.items symbols.order.items symbols.numbers.items } by { λ a b i e. IsListOf-prop tokens.items tables.parts.now part_uses.items symbols.order.items symbols.numbers.items (a e) (b e) i },
     pub ghost long: { failed ≡ false → length symbols.places.items ≡ length tables.symbols.now },
@@ -31,7 +31,7 @@ pub(crate) struct Taking<'a> {
     pub ghost distinct: { IsDistinct bytes_eq tables.symbols.now } by { Prim.hlevel props },
 }
 
-// Appends a token, if there is room.
+// Appends a token. Returns whether there was room.
 #[inline(always)]
 fn put(tokens: &mut Vec<InternedToken>, token: InternedToken) -> bool
     ensures { IsTrue result → tokens.new.items ≡ tokens.old.items ++ token ∷ [] }
@@ -43,7 +43,7 @@ fn put(tokens: &mut Vec<InternedToken>, token: InternedToken) -> bool
     true
 }
 
-// Whether a literal may have such a suffix. One with no suffix may have any text.
+// Returns whether a literal may have that suffix. Any text may have an empty suffix.
 #[inline(always)]
 fn is_cut(tables: Tables<'_>, symbol: u32, kind: LitKind, suffix_len: u8, span: SpanNumbers) -> bool
     ensures { IsTrue result → (text : List ℕ) → slice_get tables.entry.symbols.now symbol ≡ Some text → CutsText text suffix_len }
@@ -59,7 +59,7 @@ impl<'a> Taking<'a> {
     ghost use Rattle.tt_interned.specs.ListOf.{list_of};
     ghost use Rattle.tt_tables.specs.Uses.{same_part};
 
-    /// No tokens, with room for so many. The values of each table differ.
+    /// Returns an empty list, with room for `count` tokens. The values of each table are all different. Fails only if memory runs out.
     pub(crate) fn new(
         alloc: Global,
         tables: Tables<'a>,
@@ -79,13 +79,13 @@ impl<'a> Taking<'a> {
         })
     }
 
-    // Takes the next token, whatever its form is.
+    // Takes the next token in any format.
     #[inline(never)]
     fn take_any(&mut self, from: &'a [u8]) {
         visit_token(self, from);
     }
 
-    /// Takes the next token, if one stands there.
+    /// Takes the next token. Sets `failed` if no token is there, or if it does not fit.
     #[inline(always)]
     pub(crate) fn take_next(&mut self) {
         let from = self.rest;
@@ -94,7 +94,7 @@ impl<'a> Taking<'a> {
         }
     }
 
-    /// The tokens with the values that they name, unless one did not fit.
+    /// Returns the tokens with the values that they name. No token failed to fit: `failed` is false.
     pub(crate) fn counted(&self) -> CountedTokens<'_>
         requires { self.now.failed ≡ false }
         ensures { AreOf self.now.tokens.items self.now.tables.parts.now self.now.part_uses.items self.now.symbols.order.items self.now.symbols.numbers.items (list_of result) }

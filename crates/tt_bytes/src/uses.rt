@@ -1,4 +1,4 @@
-//! How often values of tables are used, as tokens that use them come one after the other.
+//! Counts the uses of values of tables, token by token.
 ghost use Rattle.std.specs.List.{IsDistinct};
 ghost use Rattle.std.specs.Prelude.{◌≡◌, ℕ, List, [], Some, bytes_eq, length, slice_get, IsTrue, IfSome, IfOk};
 ghost use Rattle.tt_base.specs.declared.span.SpanPart.{SpanPart as Part};
@@ -9,13 +9,13 @@ use std::alloc::{AllocError, Global};
 use tt::Symbol;
 use tt_codec::SpanNumbers;
 
-// What stands for a place that no symbol has yet.
+// Marks a symbol that has no place yet.
 const NO_PLACE: u32 = u32::MAX;
 
-/// The symbols of a table that are used, by first use. A symbol that is used stands at a place of its own.
+/// The symbols of a table that are used, in the order of their first uses. Each used symbol has a place of its own.
 #[derive(Drop)]
 pub(crate) struct SymbolUses {
-    /// By index in the table: the place, or `NO_PLACE`.
+    /// By index in the table: the symbol's place, or `NO_PLACE`.
     pub(crate) places: Vec<u32>,
     /// By place: the symbol.
     pub(crate) order: Vec<Symbol>,
@@ -23,7 +23,7 @@ pub(crate) struct SymbolUses {
     pub(crate) numbers: Vec<usize>,
 }
 
-// One more use of the value at an index, if it can be counted.
+// Adds one use of the value at an index. Returns false, and changes nothing, if there is no such index or the count is too large.
 #[inline(always)]
 fn add_use(numbers: &mut Vec<usize>, index: usize) -> bool
     ensures { IsTrue result → IsOneMoreAt numbers.old.items index numbers.new.items }
@@ -38,14 +38,14 @@ fn add_use(numbers: &mut Vec<usize>, index: usize) -> bool
     true
 }
 
-/// No uses of so many parts.
+/// Returns no uses for `len` parts. Fails only if memory runs out.
 pub(crate) fn no_part_uses(alloc: Global, len: usize) -> Result<Vec<usize>, AllocError>
     ensures { (parts : List Part) → length parts ≡ len → IsDistinct same_part parts → IfOk result (λ numbers. AreUsed parts numbers.items []) }
 {
     Vec::from_elem(alloc, 0, len)
 }
 
-/// One more use of the part of a span, if the numbers name one.
+/// Adds one use of the part of a span. Returns false, and changes nothing, if the numbers name no span or the use cannot be counted.
 #[inline(always)]
 pub(crate) fn use_span(counts: &mut Vec<usize>, numbers: SpanNumbers) -> bool
     ensures { (parts before : List Part) → AreUsed parts counts.old.items before → IsTrue result → UsesSpan parts numbers counts.new.items before }
@@ -57,7 +57,7 @@ pub(crate) fn use_span(counts: &mut Vec<usize>, numbers: SpanNumbers) -> bool
 }
 
 impl SymbolUses {
-    /// No uses of a table of so many symbols.
+    /// Returns no uses for a table of `len` symbols. Fails only if memory runs out.
     pub(crate) fn new(alloc: Global, len: usize) -> Result<SymbolUses, AllocError>
         ensures { (table : List (List ℕ)) → length table ≡ len → IsDistinct bytes_eq table → IfOk result (λ it. HaveUses table it []) }
     {
@@ -68,7 +68,8 @@ impl SymbolUses {
         })
     }
 
-    // The first use of the symbol at an index, which has no place yet.
+    // Adds the first use of the symbol at an index, which has no place yet. Returns its new place, or `None` if there is no such symbol
+    // or no room.
     #[inline(never)]
     fn use_first(&mut self, table: &[Symbol], index: usize) -> Option<u32>
         requires { slice_get self.old.places.items index ≡ Some no_place }
@@ -90,8 +91,8 @@ impl SymbolUses {
         Some(place as u32)
     }
 
-    /// One more use of the symbol at an index of the table, and the place where it stands among those that are used;
-    /// nothing where the table is not as long.
+    /// Adds one use of the symbol at an index of the table. Returns the symbol's place among the used symbols, or `None` if the table is
+    /// too short or the use cannot be counted.
     #[inline(always)]
     pub(crate) fn place_of(&mut self, table: &[Symbol], symbol: u32) -> Option<u32>
         ensures { (before : List (List ℕ)) → HaveUses table.now self.old before → IfSome result (λ place. UsesSymbol table.now symbol place self.old self.new before) }

@@ -1,4 +1,4 @@
-//! Whether tokens in numbers are those of some trees.
+//! Whether interned tokens are those of some trees.
 ghost use Rattle.std.specs.Prelude.{List, map, IsTrue, IfOk};
 ghost use Rattle.tt_base.specs.declared.token_tree.TokenTree.{TokenTree as Token};
 ghost use Rattle.tt_base.specs.Forest.{IsWhole};
@@ -13,7 +13,7 @@ use tt::{Delimiter, Leaf, Punct, Spacing, Subtree, TokenTree};
 use tt_base::Levels;
 use tt_interned::InternedToken;
 
-// Takes a token, whatever values it names, and answers whether it fits.
+// Takes a token, whatever values it names. Returns whether it fits.
 #[inline(always)]
 fn take(
     levels: &mut Levels,
@@ -33,7 +33,7 @@ fn take(
     }
 }
 
-/// Whether the tokens, whatever values they name, are those of some trees.
+/// Returns whether the tokens, whatever values they name, are those of some trees. Fails only if memory runs out.
 pub(crate) fn are_whole(
     alloc: Global,
     delimiter: Delimiter,

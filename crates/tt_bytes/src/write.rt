@@ -1,4 +1,4 @@
-//! From a tree to its bytes.
+//! Writes the bytes of a tree.
 ghost use Rattle.std.specs.List.{AllByRecursion};
 ghost use Rattle.std.specs.Prelude.{◌≡◌, ◌⊎◌, ◌<◌, ◌≤◌, ◌^◌, ◌++◌, length, IfOk, IfErr, OnOk, OnErr};
 ghost use Rattle.tt_base.specs.declared.fault.TtFault.TheVariants.{Memory, TooManyBytes};
@@ -8,10 +8,10 @@ ghost use Rattle.tt_bytes.specs.Format.{number_bytes, part_bytes, parts_bytes, s
 use std::alloc::Global;
 use tt::{SpanPart, Symbol, TopSubtree, TtFault};
 
-/// What each piece begins with: the format and its version.
+/// The first bytes of each piece: the format and its version.
 pub(crate) const MARK: [u8; 4] = [0x74, 0x74, 1, 0];
 
-// Puts a number behind the bytes.
+// Appends the four bytes of a number, the lowest first.
 #[tactic(auto, unfolding(crate::specs::Format::number_bytes))]
 fn put_number(bytes: &mut Vec<u8>, number: u32) -> Result<(), TtFault>
     ensures ok { OnOk result (bytes.new.items ≡ bytes.old.items ++ number_bytes number) }
@@ -21,7 +21,7 @@ fn put_number(bytes: &mut Vec<u8>, number: u32) -> Result<(), TtFault>
     Ok(())
 }
 
-// Puts a count behind the bytes, if it fits in four.
+// Appends the four bytes of a count. Fails with `TooManyBytes` if it is 2^32 or more.
 fn put_count(bytes: &mut Vec<u8>, count: usize) -> Result<(), TtFault>
     ensures ok { OnOk result (bytes.new.items ≡ bytes.old.items ++ number_bytes count) }
     ensures fits { OnOk result (count < 2 ^ 32) }
@@ -33,7 +33,7 @@ fn put_count(bytes: &mut Vec<u8>, count: usize) -> Result<(), TtFault>
     put_number(bytes, number)
 }
 
-// Puts a part behind the bytes.
+// Appends the bytes of a part.
 #[tactic(auto, unfolding(crate::specs::Format::part_bytes))]
 fn put_part(bytes: &mut Vec<u8>, part: &SpanPart) -> Result<(), TtFault>
     ensures ok { OnOk result (bytes.new.items ≡ bytes.old.items ++ part_bytes part.now) }
@@ -48,7 +48,7 @@ fn put_part(bytes: &mut Vec<u8>, part: &SpanPart) -> Result<(), TtFault>
     put_number(bytes, ctx)
 }
 
-// Puts parts behind the bytes.
+// Appends the bytes of parts.
 fn put_parts(bytes: &mut Vec<u8>, parts: &[SpanPart]) -> Result<(), TtFault>
     ensures ok { OnOk result (bytes.new.items ≡ bytes.old.items ++ parts_bytes parts.now) }
     ensures fits { OnOk result (AllByRecursion PartFits parts.now) }
@@ -60,7 +60,7 @@ fn put_parts(bytes: &mut Vec<u8>, parts: &[SpanPart]) -> Result<(), TtFault>
     Ok(())
 }
 
-// Puts a symbol behind the bytes.
+// Appends the bytes of a symbol.
 fn put_symbol(bytes: &mut Vec<u8>, symbol: &Symbol) -> Result<(), TtFault>
     ensures ok { OnOk result (bytes.new.items ≡ bytes.old.items ++ symbol_bytes symbol.now) }
     ensures fits { OnOk result (TextFits symbol.now) }
@@ -72,7 +72,7 @@ fn put_symbol(bytes: &mut Vec<u8>, symbol: &Symbol) -> Result<(), TtFault>
     Ok(())
 }
 
-// Puts symbols behind the bytes.
+// Appends the bytes of symbols.
 fn put_symbols(bytes: &mut Vec<u8>, symbols: &[Symbol]) -> Result<(), TtFault>
     ensures ok { OnOk result (bytes.new.items ≡ bytes.old.items ++ symbols_bytes symbols.now) }
     ensures fits { OnOk result (AllByRecursion TextFits symbols.now) }
@@ -84,8 +84,7 @@ fn put_symbols(bytes: &mut Vec<u8>, symbols: &[Symbol]) -> Result<(), TtFault>
     Ok(())
 }
 
-/// The bytes of a tree. A tree is refused where memory is, and, as `TooManyBytes`, where a count of the piece does
-/// not fit in four bytes.
+/// Returns the bytes of a tree. Fails if a count of the piece is 2^32 or more (`TooManyBytes`), or if memory runs out.
 pub fn to_bytes(alloc: Global, tree: &TopSubtree) -> Result<Vec<u8>, TtFault>
     ensures ok { IfOk result (λ bytes. AreBytesOf tree.now bytes.items) }
     ensures only { IfOk result (λ bytes. (other : Root) → AreBytesOf other bytes.items → other ≡ tree.now) }

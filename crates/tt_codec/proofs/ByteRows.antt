@@ -1,4 +1,4 @@
--- What the definitions of bytes compute, beside bytes that were worked out by hand.
+-- The bytes of the definitions. The expected ones were worked out by hand.
 use Rattle.std.proofs.Common.{◌≡◌, ℕ, true, false, codes, refl}
 use Rattle.tt_base.specs.declared.ident.IdentIsRaw.TheVariants.{Yes}
 use Rattle.tt_base.specs.declared.literal.LitKind.TheVariants as lit

@@ -17,11 +17,11 @@ use Rattle.tt_codec.specs.SpanNumbers.{SpanFits, word, span_bytes}
 use Rattle.tt_codec.proofs.HeaderReading.{by_form, token_read, entry_after_span, header_again}
 use Rattle.tt_codec.proofs.LeafReading.{behind_span, leaf_at, leaf_after_span, extra_bound, leaf_again}
 
--- behind a span with these extra bits, the bytes are read as a leaf
+-- after a span with these extra bits, the bytes are read as a leaf
 abbrev AsLeaf : (extra : ℕ) → SpanNumbers → List ℕ → Type 0
 AsLeaf extra at tail = entry_behind_span extra at tail ≡ as_entry (behind_span extra at tail)
 
--- the low bits of the byte behind the span are those of a leaf
+-- the low bits of the byte after the span are those of a leaf
 leaf_control : (control low : ℕ) (at : SpanNumbers) (tail : List ℕ) → control % 8 ≡ low
     → by_form low (control / 8) control at tail ≡ as_entry (plain_at control at tail) → AsLeaf 0 at (control ∷ tail)
 leaf_control control low at tail e h =

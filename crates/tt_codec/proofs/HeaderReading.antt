@@ -18,7 +18,7 @@ use Rattle.tt_codec.specs.SpanNumbers.{SpanFits, word, span_bytes}
 use Rattle.tt_codec.proofs.ReferenceReading.{half_at-half}
 use Rattle.tt_codec.proofs.SpanReading.{word_at-word, span_again}
 
--- a token whose byte behind the span has these low and high bits
+-- a token whose byte after the span has these low and high bits
 abbrev pub by_form : (low high control : ℕ) → SpanNumbers → List ℕ → Read Entry
 by_form low high control numbers rest =
     if low == 0 then format_1_at high numbers rest
@@ -27,11 +27,11 @@ by_form low high control numbers rest =
     else if low == 5 then format_4_at high numbers rest
     else as_entry (plain_at control numbers rest)
 
--- a token, and the bytes behind it
+-- a token, and the bytes after it
 abbrev pub token_read : Entry → List ℕ → Read Entry
 token_read it rest = Some (it, rest)
 
--- Behind the span, what its extra bits ask for is read.
+-- After the span, the form by its extra bits is read.
 pub entry_after_span : (heavy : Bool) (extra : ℕ) (at : SpanNumbers) (tail : List ℕ) → extra < 4 → SpanFits at
     → entry_at (span_bytes heavy extra at ++ tail) ≡ entry_behind_span extra at tail
 unfolding entry_at
@@ -45,12 +45,12 @@ kind_again Bracket = refl
 kind_again Invisible = refl
 kind_again InvisibleOpaque = refl
 
--- what is read behind a kind
+-- what is read after a kind
 kind_then : {Y : Type 0} (number : ℕ) (kind : DelimiterKind) (next : DelimiterKind → Option Y) → number ≡ delimiter_number kind
     → (delimiter_kind_from number >>= next) ≡ next kind
 kind_then number kind next e = ap (λ n. delimiter_kind_from n >>= next) e ∙ ap (λ r. r >>= next) (kind_again kind)
 
--- An offset that four bytes can say is found.
+-- An offset that four bytes can hold is found.
 pub start_behind_is : (start distance close : ℕ) → start + distance ≡ close → close < 2 ^ 32 → start_behind start distance ≡ Some close
 unfolding start_behind
 start_behind_is start distance close e fits = by_test (nat_lt (start + distance) (2 ^ 32)) refl
@@ -59,7 +59,7 @@ start_behind_is start distance close e fits = by_test (nat_lt (start + distance)
     by_test true f = ap Some e
     by_test false f = absurd (omega (arith, ltb-false (start + distance) (2 ^ 32) f))
 
--- what is read behind the numbers of the close
+-- what is read after the numbers of the close span
 close_then : {Y : Type 0} (start distance close : ℕ) (next : ℕ → Option Y) → start + distance ≡ close → close < 2 ^ 32
     → (start_behind start distance >>= next) ≡ next close
 close_then start distance close next e fits = ap (λ r. r >>= next) (start_behind_is start distance close e fits)
@@ -279,7 +279,7 @@ format_3_again it rest fits e =
     bytes_again : both / 16 ≡ it.child_bytes
     bytes_again = omega (arith, facts.3)
 
--- The fourth format is read again, also where the longest form of both spans was demanded.
+-- The fourth format is read again, also with both spans in their longest form.
 pub format_4_again : (heavy : Bool) (it : HeaderEntry) (rest : List ℕ) → HeaderFits it → entry_at (format_4 heavy it ++ rest) ≡ token_read (of_header it) rest
 format_4_again heavy it rest fits =
     ap entry_at regrouped

@@ -1,4 +1,4 @@
--- What the definitions of headers compute, beside bytes that were worked out by hand.
+-- The bytes of headers. The expected ones were worked out by hand.
 use Rattle.std.proofs.Common.{◌≡◌, ℕ, codes, refl}
 use Rattle.tt_base.specs.declared.delimiter.DelimiterKind.{DelimiterKind}
 use Rattle.tt_base.specs.declared.delimiter.DelimiterKind.TheVariants.{Parenthesis, Brace, InvisibleOpaque}
@@ -12,7 +12,7 @@ use Rattle.tt_base.proofs.Samples.{hex}
 abbrev round : DelimiterKind → (opening closing : SpanNumbers) → (len child_bytes : ℕ) → HeaderEntry
 round kind opening closing len child_bytes = record { opening = opening; closing = closing; kind = kind; len = len; child_bytes = child_bytes }
 
--- a parenthesis that holds nothing
+-- parentheses without tokens inside
 abbrev empty : (opening closing : SpanNumbers) → HeaderEntry
 empty opening closing = round Parenthesis opening closing 0 0
 

@@ -21,7 +21,7 @@ use Rattle.tt_codec.specs.Read.{Read, ◌>>=◌, byte_at}
 use Rattle.tt_codec.proofs.ReferenceReading.{bit_0, bit_1, reference_again}
 use Rattle.tt_codec.proofs.SpanReading.{word_at-word, span_again}
 
--- a leaf, of which the span has been read
+-- a leaf, after its span is read
 abbrev pub behind_span : (extra : ℕ) → SpanNumbers → List ℕ → Read LeafEntry
 behind_span extra numbers bytes =
     if extra == 0 then (byte_at bytes >>= λ control. plain_at control.0 numbers control.1)
@@ -34,7 +34,7 @@ leaf_at bytes = span_at bytes >>= λ span. behind_span span.0.extra span.0.numbe
 abbrev pub entered : LeafEntry → List ℕ → Read LeafEntry
 entered e rest = Some (e, rest)
 
--- Behind the span, what its extra bits ask for is read.
+-- After the span, the form by its extra bits is read.
 pub leaf_after_span : (extra : ℕ) (at : SpanNumbers) (tail : List ℕ) → extra < 4 → SpanFits at → leaf_at (span_bytes false extra at ++ tail) ≡ behind_span extra at tail
 unfolding leaf_at
 leaf_after_span extra at tail he fits = ap (λ r. r >>= λ s. behind_span s.0.extra s.0.numbers s.1) (span_again false extra at tail he fits)
@@ -98,14 +98,14 @@ ident_again symbol raw at rest h fits =
     ∙ ap (λ r. r >>= λ r. Some (ident r.0.index (raw_from r.0.tag) at, r.1)) (reference_again symbol (raw_number raw) rest h (raw_bound raw))
     ∙ ap (λ r. entered (ident symbol r at) rest) (raw_again raw)
 
--- a leaf whose byte behind the span has these low bits
+-- a leaf whose byte after the span has these low bits
 abbrev by_low : (low control : ℕ) → SpanNumbers → List ℕ → Read LeafEntry
 by_low low control numbers rest =
     if low == 6 then other_punct_at (control / 8) numbers rest
     else if low == 7 then long_literal_at (control / 8) numbers rest
     else (short_kind_from (control % 16) >>= λ kind. literal_at kind (control / 16) numbers rest)
 
--- a short form is one byte: the number of the kind, and the suffix above its four bits
+-- a short form is one byte: the number of the kind, and the suffix length above its four bits
 short_again : (number low : ℕ) (suffix_len : ℕ) (at : SpanNumbers) (tail : List ℕ) → number % 8 ≡ low
     → behind_span 0 at ((number + suffix_len * 16) ∷ tail) ≡ by_low low (number + suffix_len * 16) at tail
 short_again number low suffix_len at tail e = ap (λ bits. by_low bits (number + suffix_len * 16) at tail) low_bits
@@ -113,7 +113,7 @@ short_again number low suffix_len at tail e = ap (λ bits. by_low bits (number +
     low_bits : (number + suffix_len * 16) % 8 ≡ low
     low_bits = omega arith
 
--- what is read of that byte
+-- the leaf by that byte
 short_kind : (number : ℕ) (kind : LitKind) (suffix_len : ℕ) (at : SpanNumbers) (tail : List ℕ) → number < 16 → short_kind_from number ≡ Some kind
     → (short_kind_from ((number + suffix_len * 16) % 16) >>= λ kind. literal_at kind ((number + suffix_len * 16) / 16) at tail) ≡ literal_at kind suffix_len at tail
 short_kind number kind suffix_len at tail small e =

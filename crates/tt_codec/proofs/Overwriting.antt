@@ -1,10 +1,10 @@
--- Bytes written over others, one piece behind another.
+-- Bytes written over others, one piece after the other.
 use Rattle.std.proofs.Common.{◌≡◌, ℕ, suc, ◌+◌, ◌<◌, ◌≤◌, List, [], ◌∷◌, ◌++◌, set, get_or, drop-cons, length, take, drop, length-append, append_assoc, add_assoc, ap, ap₂, sym, ◌∙◌, arith}
 use Rattle.std.proofs.Math.Seq.{take-append_seam, drop-append-add, set-append_seam}
 use Rattle.std.proofs.lemmas.List.{drop-drop, length-take-le}
 use Rattle.tt_codec.specs.Overwriting.{overwritten}
 
--- All up to an offset is new already, and a piece more is.
+-- All bytes up to an offset are new, and one more piece becomes new.
 pub overwritten_next : (first new old : List ℕ) (offset : ℕ) → offset ≡ length first
     → overwritten offset new (first ++ drop offset old) ≡ first ++ new ++ drop (offset + length new) old
 overwritten_next first new old offset long =
@@ -23,7 +23,7 @@ overwritten_twice offset a b old inside =
     ∙ ap₂ ◌++◌ (append_assoc (take offset old) a b)
     (ap (λ n. drop n old) (add_assoc offset (length a) (length b) ∙ ap (λ n. offset + n) (sym (length-append a b))))
 
--- The same of one byte.
+-- The same for one byte.
 pub set_next : (first old : List ℕ) (offset byte : ℕ) → offset ≡ length first → offset < length old
     → set (first ++ drop offset old) offset byte ≡ first ++ byte ∷ [] ++ drop (offset + 1) old
 set_next first old offset byte long inside =

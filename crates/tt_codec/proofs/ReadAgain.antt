@@ -1,4 +1,4 @@
--- A reader that goes by the definitions gives back what was written, whatever follows it.
+-- A reader by the definitions returns what was written, whatever follows it.
 use Rattle.std.proofs.Common.{ℕ, List, Option, Some, None, ap, sym, ◌∙◌}
 use Rattle.std.specs.Borrow.{Bor}
 use Rattle.tt_codec.specs.Entry.{entry_at, EntriesAgain}

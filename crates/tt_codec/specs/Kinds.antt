@@ -1,4 +1,4 @@
--- The numbers of kinds, and the kinds of numbers.
+-- The numbers of kinds, and back.
 use Rattle.std.specs.Prelude.{ℕ, ◌==◌, if◌then◌else◌, Option, Some, None}
 use Rattle.tt_base.specs.declared.delimiter.DelimiterKind.TheVariants.{Parenthesis, Brace, Bracket, Invisible, InvisibleOpaque}
 use Rattle.tt_base.specs.declared.delimiter.DelimiterKind.{DelimiterKind}
@@ -17,7 +17,7 @@ delimiter_number Bracket = 2
 delimiter_number Invisible = 3
 delimiter_number InvisibleOpaque = 4
 
--- the kind of delimiter of a number
+-- the kind of delimiter with that number
 abbrev pub delimiter_kind_from : ℕ → Option DelimiterKind
 delimiter_kind_from number =
     if number == 0 then Some Parenthesis else if number == 1 then Some Brace
@@ -30,17 +30,17 @@ spacing_number Alone = 0
 spacing_number Joint = 1
 spacing_number JointHidden = 2
 
--- the spacing of a number
+-- the spacing with that number
 abbrev pub spacing_from : ℕ → Option Spacing
 spacing_from number =
     if number == 0 then Some Alone else if number == 1 then Some Joint else if number == 2 then Some JointHidden else None
 
--- the number of a rawness
+-- 1 for a raw ident, otherwise 0
 abbrev pub raw_number : IdentIsRaw → ℕ
 raw_number No = 0
 raw_number Yes = 1
 
--- the rawness of a number
+-- raw for any number but 0
 abbrev pub raw_from : ℕ → IdentIsRaw
 raw_from number = if number == 0 then No else Yes
 
@@ -58,34 +58,34 @@ kind_number lit.CStr = 8
 kind_number (lit.CStrRaw count) = 9
 kind_number (lit.Err unit) = 10
 
--- the hashes of a raw kind
+-- the number of hashes of a raw kind
 abbrev pub hash_count : LitKind → Option ℕ
 hash_count (lit.StrRaw count) = Some count
 hash_count (lit.ByteStrRaw count) = Some count
 hash_count (lit.CStrRaw count) = Some count
 hash_count _ = None
 
--- the kind of literal of a number, of those that are not raw
+-- the kind of literal with that number, if it is not a raw one
 abbrev pub plain_kind_from : ℕ → Option LitKind
 plain_kind_from number =
     if number == 0 then Some lit.Byte else if number == 1 then Some lit.Char else if number == 2 then Some lit.Integer
     else if number == 3 then Some lit.Float else if number == 4 then Some lit.Str else if number == 6 then Some lit.ByteStr
     else if number == 8 then Some lit.CStr else if number == 10 then Some (lit.Err tt) else None
 
--- the raw kind of a number, with so many hashes
+-- the raw kind with that number, and with `count` hashes
 abbrev pub raw_kind_from : (number count : ℕ) → Option LitKind
 raw_kind_from number count =
     if number == 5 then Some (lit.StrRaw count) else if number == 7 then Some (lit.ByteStrRaw count)
     else if number == 9 then Some (lit.CStrRaw count) else None
 
--- the number of a kind of literal in the short form, which has four
+-- the number of a kind of literal in the short form; only four kinds have one
 abbrev pub short_number : LitKind → Option ℕ
 short_number lit.Str = Some 3
 short_number (lit.StrRaw count) = if count == 0 then Some 4 else if count == 1 then Some 11 else None
 short_number lit.Integer = Some 12
 short_number _ = None
 
--- the kind of literal of a number in the short form
+-- the kind of literal with that number in the short form
 abbrev pub short_kind_from : ℕ → Option LitKind
 short_kind_from number =
     if number == 3 then Some lit.Str else if number == 4 then Some (lit.StrRaw 0)

@@ -1,4 +1,4 @@
--- A token in numbers, and its bytes, written and read.
+-- Tokens in numbers, and their bytes.
 pub mod Entry
 pub mod Header
 pub mod Kinds

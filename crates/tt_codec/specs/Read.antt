@@ -1,4 +1,4 @@
--- Reading from the front of some bytes: a value, and the bytes behind it. Numbers are read back from their bytes.
+-- Reads a value at the front of bytes, and the bytes after it. Numbers are read back from their bytes.
 use Rattle.std.specs.Borrow.{Bor}
 use Rattle.std.specs.Char.{IsScalar}
 use Rattle.std.specs.Int.{w16, w32, to_le_bytes, from_le_bytes}
@@ -6,7 +6,7 @@ use Rattle.std.specs.Prelude.{ℕ, ◌<◌, ◌^◌, List, [], ◌∷◌, ◌≡
 use Rattle.std.proofs.lemmas.Nat.{from_le_bytes-to_le_bytes_2, from_le_bytes-to_le_bytes_4}
 use Rattle.std.proofs.Math.Utf8.{scalar_fits}
 
--- a value and the bytes behind it, or none where the bytes are no such value
+-- a value and the bytes after it, or none if the bytes do not begin with such a value
 abbrev pub Read : Type 0 → Type 0
 Read X = Option (X × List ℕ)
 
@@ -16,7 +16,7 @@ abbrev pub ◌>>=◌ : {X Y : Type 0} → Option X → (X → Option Y) → Opti
 None >>= f = None
 (Some x) >>= f = f x
 
--- what a visitor is after the visit of what was read: as `makes` says where a value was read, and else as it was
+-- the visitor after a read: as `makes` says if a value was read, otherwise unchanged
 abbrev pub IsMade : {X Self : Type 0} → (makes : Self → X → List ℕ → Self → Type 0) → (old : Self) → Read X → (new : Self) → Type 0
 IsMade makes old None new = new ≡ old
 IsMade makes old (Some found) new = makes old found.0 found.1 new
@@ -36,22 +36,22 @@ abbrev pub word_at : List ℕ → Read ℕ
 word_at (a ∷ b ∷ c ∷ d ∷ rest) = Some (from_le_bytes w32 (a ∷ b ∷ c ∷ d ∷ []), rest)
 word_at _ = None
 
--- what the code read: the same value, and the same bytes behind it
+-- the code read the same value, and the same bytes after it
 abbrev pub IsRead : {X : Type 0} → Read X → Option (X × Bor (List ℕ)) → Type 0
 IsRead read result = MatchOption result (read ≡ None) (λ found. read ≡ Some (found.0, found.1.now))
 
--- a byte is the only one of its bytes
+-- One byte is read back as its number.
 pub byte_again : (n : ℕ) → n < 2 ^ 8 → slice_index (n ∷ []) 0 ≡ n
 byte_again n h = refl
 
--- two bytes spell what they were made of
+-- Two bytes are read back as their number.
 pub half_again : (n : ℕ) → n < 2 ^ 16 → from_le_bytes w16 (to_le_bytes w16 n) ≡ n
 half_again n h = from_le_bytes-to_le_bytes_2 n h
 
--- so do four
+-- Four bytes are read back as their number.
 pub word_again : (n : ℕ) → n < 2 ^ 32 → from_le_bytes w32 (to_le_bytes w32 n) ≡ n
 word_again n h = from_le_bytes-to_le_bytes_4 n h
 
--- so do the four of a character
+-- The four bytes of a character are read back as its number.
 pub char_again : (n : ℕ) → IsScalar n → from_le_bytes w32 (to_le_bytes w32 n) ≡ n
 char_again n h = from_le_bytes-to_le_bytes_4 n (scalar_fits n h)

@@ -1,33 +1,33 @@
-//! Numbers that take a fixed number of bytes, lowest byte first.
+//! Numbers with a fixed number of bytes, the lowest byte first.
 ghost use Rattle.std.specs.Char.{IsScalar};
 ghost use Rattle.std.specs.Int.{w16, w32, to_le_bytes, from_le_bytes};
 ghost use Rattle.std.specs.Prelude.{◌≡◌, ◌<◌, ◌^◌, ℕ, List, [], ◌∷◌, length, slice_index};
 ghost use Rattle.tt_codec.specs.Read.{byte_again, half_again, word_again, char_again};
 
-/// A number that is stored in a fixed number of bytes, lowest byte first.
+/// A number that is stored in a fixed number of bytes, the lowest byte first.
 pub trait Encodable: Copy {
-    /// How many bytes a value takes.
+    /// The number of bytes of a value.
     const SIZE: usize;
 
     ghost SIZE: { ℕ };
 
-    /// Which numbers are values.
+    /// The numbers that are values.
     ghost IsValue: { Self → Type 0 };
 
     /// The bytes of a value.
     ghost bytes_of: { Self → List ℕ };
 
-    /// The value that bytes spell.
+    /// The value with these bytes.
     ghost value_of: { List ℕ → Self };
 
-    /// Fills the slice with the value's bytes. Its length has to be `SIZE`.
+    /// Fills the slice with the value's bytes. The slice has the length `SIZE`.
     fn write(self, into: &mut [u8])
         requires { length into.old ≡ SIZE }
         ensures bytes { into.new ≡ bytes_of self }
         ensures value { IsValue self };
 
-    /// The value whose bytes these are. The length has to be `SIZE`, and the bytes have to be those of a value: of `u8`, `u16`
-    /// and `u32` all are, and of `char` those of a number that `char::from_u32` takes.
+    /// Returns the value with these bytes. Their number is `SIZE`, and they are the bytes of a value: any bytes for `u8`, `u16` and
+    /// `u32`; for `char` those of a number for which `char::from_u32` returns `Some`.
     fn read(from: &[u8]) -> Self
         requires size { length from.now ≡ SIZE }
         requires written { (value : Self) × IsValue value × (from.now ≡ bytes_of value) }

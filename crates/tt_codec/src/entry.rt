@@ -1,4 +1,4 @@
-//! A token in numbers: a leaf or a header.
+//! Tokens in numbers: leaves and headers.
 ghost use Rattle.std.specs.Prelude.{◌≡◌, ◌≤◌, ◌+◌, ◌++◌};
 ghost use Rattle.tt_back_buf.specs.Bytes.{bytes_of, room_of};
 ghost use Rattle.tt_codec.specs.Entry.{EntryFits, entry_bytes, most_entry_bytes};
@@ -7,30 +7,30 @@ use crate::span::SpanNumbers;
 use tt_back_buf::BackBuf;
 use tt_base::{DelimiterKind, IdentIsRaw, LitKind, Spacing};
 
-/// A leaf in numbers, as it is stored: its symbol is an index in a table, and where it stands comes last.
+/// A leaf in numbers. Its symbol is an index in a table.
 #[derive(Debug, Clone, Copy, PartialEq)]
 pub enum LeafEntry {
-    /// The character and its spacing.
+    /// The character, its spacing, and the span.
     Punct(char, Spacing, SpanNumbers),
-    /// The symbol, and whether it is raw.
+    /// The symbol, whether it is raw, and the span.
     Ident(u32, IdentIsRaw, SpanNumbers),
-    /// The symbol, the kind, and how many bytes of the symbol are the suffix.
+    /// The symbol, the kind, the number of bytes of the symbol that are the suffix, and the span.
     Literal(u32, LitKind, u8, SpanNumbers),
 }
 
-/// A header in numbers, as it is stored.
+/// A header in numbers.
 #[derive(Debug, Clone, Copy, PartialEq)]
 pub struct HeaderEntry {
     pub opening: SpanNumbers,
     pub closing: SpanNumbers,
     pub kind: DelimiterKind,
-    /// How many tokens follow that belong to it, at any depth.
+    /// The number of tokens below the header, at any depth.
     pub len: u32,
-    /// In how many bytes these are stored.
+    /// The number of bytes of these tokens.
     pub child_bytes: u32,
 }
 
-/// A token in numbers, as it is stored.
+/// A token in numbers.
 #[derive(Debug, Clone, Copy, PartialEq)]
 pub enum Entry {
     Leaf(LeafEntry),
@@ -38,10 +38,9 @@ pub enum Entry {
 }
 
 impl Entry {
-    /// Puts the token's bytes before the others. Its indices of parts have to be below 2^28, that of its symbol below 2^29, and
-    /// each span has to end below 2^32, as `Tables::entry` gives them;
-    /// there has to be room for 33 bytes, as `BackBuf::with_room` asks for it. In the place of the call, so that the kind of
-    /// a token is not asked again where it was just put in numbers.
+    /// Puts the token's bytes before the others. The indices of its parts are less than 2^28, that of its symbol is less than 2^29, and
+    /// each span ends below 2^32, as in the result of `Tables::entry`. There is room for 33 bytes; `BackBuf::with_room` makes room. This
+    /// is inline, so that code that has just made the numbers of a token does not test its kind again.
     #[inline(always)]
     pub fn write(self, into: &mut BackBuf)
         requires fits { EntryFits self }

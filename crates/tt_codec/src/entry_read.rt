@@ -1,4 +1,4 @@
-//! Which leaf or header some bytes begin with (docs/FORMATS.md, "Bytes of a leaf" and "Bytes of a header").
+//! Reads the leaf or header at the front of bytes (docs/FORMATS.md, "Bytes of a leaf" and "Bytes of a header").
 ghost use Rattle.std.specs.Prelude.{◌≡◌, Some, None, IsTrue, false};
 ghost use Rattle.tt_codec.specs.Entry.{as_entry, plain_entry_at, entry_behind_span, is_common_behind, is_common_at, entry_at, EntriesAgain};
 ghost use Rattle.tt_codec.specs.Header.{IsHeaderRead};
@@ -20,18 +20,18 @@ use crate::span::{SpanNumbers, Spanned};
 use crate::words::split_byte;
 use tt_base::{IdentIsRaw, LitKind, Spacing};
 
-/// What is done with a token's numbers, there where its form has just been read: so what is made of them goes through
-/// no value that all forms share, and is written once.
+/// What to do with a token's numbers. The reader calls it for each form of token as soon as it has read that form. So the numbers go
+/// through no value that all forms share.
 pub trait Visitor<'a> {
     ghost use Rattle.std.specs.Prelude.{List, ℕ};
     ghost use Rattle.tt_codec.specs.declared.entry.Entry.{Entry};
     ghost use Rattle.tt_codec.specs.declared.entry.Entry.TheVariants as stored;
     ghost use Rattle.tt_codec.specs.declared.entry.LeafEntry.TheVariants as leaf;
 
-    /// What becomes of the visitor at a token in numbers, with these bytes behind it.
+    /// The state of the visitor after a token in numbers, if these bytes follow the token.
     ghost makes: { Self → Entry → List ℕ → Self → Type 0 };
 
-    /// Visits an ident: its symbol by its index, whether it is raw, and its span.
+    /// Visits an ident: the index of its symbol, whether it is raw, and its span.
     fn visit_ident(&mut self, symbol: u32, is_raw: IdentIsRaw, span: SpanNumbers, rest: &'a [u8])
         ensures { makes self.old (stored.Leaf (leaf.Ident symbol is_raw span)) rest.now self.new };
 
@@ -39,7 +39,7 @@ pub trait Visitor<'a> {
     fn visit_punct(&mut self, char: char, spacing: Spacing, span: SpanNumbers, rest: &'a [u8])
         ensures { makes self.old (stored.Leaf (leaf.Punct char spacing span)) rest.now self.new };
 
-    /// Visits a literal: its symbol by its index, its kind, how many bytes of the symbol are the suffix, and its span.
+    /// Visits a literal: the index of its symbol, its kind, the number of bytes of the symbol that are the suffix, and its span.
     fn visit_literal(
         &mut self,
         symbol: u32,
@@ -55,7 +55,7 @@ pub trait Visitor<'a> {
         ensures { makes self.old (stored.Header header) rest.now self.new };
 }
 
-// Visits a header that was read, if one was.
+// Visits a header, if one was read.
 #[inline(always)]
 fn visit_header<'a, V: Visitor<'a>>(visitor: &mut V, read: Option<(HeaderEntry, &'a [u8])>)
     ensures { (it : Read StoredEntry) → IsHeaderRead it read.entry → IsMade V.makes visitor.old it visitor.new }
@@ -66,7 +66,7 @@ fn visit_header<'a, V: Visitor<'a>>(visitor: &mut V, read: Option<(HeaderEntry, 
     }
 }
 
-// A literal, of which all but the reference has been read.
+// Visits a literal, after all but the reference is read.
 #[inline(always)]
 fn visit_literal<'a, V: Visitor<'a>>(
     visitor: &mut V,
@@ -83,7 +83,7 @@ fn visit_literal<'a, V: Visitor<'a>>(
     }
 }
 
-// A punct that is not ASCII, of which the first byte has been read. It is rare.
+// Visits a punct that is not ASCII, after its first byte is read. Such a punct is rare.
 #[inline(never)]
 fn visit_other_punct<'a, V: Visitor<'a>>(
     visitor: &mut V,
@@ -100,7 +100,7 @@ fn visit_other_punct<'a, V: Visitor<'a>>(
     }
 }
 
-// A literal of the long form, of which the first byte has been read. It is rare.
+// Visits a literal of the long form, after its first byte is read. Such a literal is rare.
 #[inline(never)]
 fn visit_long_literal<'a, V: Visitor<'a>>(
     visitor: &mut V,
@@ -117,7 +117,7 @@ fn visit_long_literal<'a, V: Visitor<'a>>(
     }
 }
 
-// A literal of the short form, of which the first byte has been read.
+// Visits a literal of the short form, after its first byte is read.
 #[inline(always)]
 fn visit_short_literal<'a, V: Visitor<'a>>(
     visitor: &mut V,
@@ -132,7 +132,7 @@ fn visit_short_literal<'a, V: Visitor<'a>>(
     }
 }
 
-// An ident, of which the span has been read.
+// Visits an ident, after its span is read.
 #[inline(always)]
 fn visit_ident<'a, V: Visitor<'a>>(visitor: &mut V, span: SpanNumbers, from: &'a [u8])
     ensures { IsMade V.makes visitor.old (as_entry (ident_at span from.now)) visitor.new }
@@ -145,7 +145,7 @@ fn visit_ident<'a, V: Visitor<'a>>(visitor: &mut V, span: SpanNumbers, from: &'a
     }
 }
 
-// An ASCII punct, of which the span has been read. `hidden` is 1 where it is joint hidden.
+// Visits an ASCII punct, after its span is read. `hidden` is 1 if it is joint hidden.
 #[inline(always)]
 fn visit_ascii_punct<'a, V: Visitor<'a>>(
     visitor: &mut V,
@@ -163,7 +163,7 @@ fn visit_ascii_punct<'a, V: Visitor<'a>>(
     }
 }
 
-// A token whose span has no extra bits, of which the byte behind the span has been read.
+// Visits a token whose span has no extra bits, after the span and the byte after it are read.
 #[inline(always)]
 fn visit_plain<'a, V: Visitor<'a>>(visitor: &mut V, span: SpanNumbers, control: u8, from: &'a [u8])
     ensures { IsMade V.makes visitor.old (plain_entry_at control span from.now) visitor.new }
@@ -180,7 +180,7 @@ fn visit_plain<'a, V: Visitor<'a>>(visitor: &mut V, span: SpanNumbers, control: 
     }
 }
 
-// An ident or an ASCII punct, of which the span has been read.
+// Visits an ident or an ASCII punct, after its span is read.
 #[inline(always)]
 fn visit_marked<'a, V: Visitor<'a>>(visitor: &mut V, span: Spanned, from: &'a [u8])
     ensures { IsMade V.makes visitor.old (as_entry (marked_at span.extra span.numbers from.now)) visitor.new }
@@ -192,7 +192,7 @@ fn visit_marked<'a, V: Visitor<'a>>(visitor: &mut V, span: Spanned, from: &'a [u
     visit_ascii_punct(visitor, span.numbers, span.extra >> 1, from)
 }
 
-// A token, of which the span has been read.
+// Visits a token, after its span is read.
 #[inline(always)]
 fn visit_behind<'a, V: Visitor<'a>>(visitor: &mut V, span: Spanned, from: &'a [u8])
     ensures { IsMade V.makes visitor.old (entry_behind_span span.extra span.numbers from.now) visitor.new }
@@ -206,8 +206,8 @@ fn visit_behind<'a, V: Visitor<'a>>(visitor: &mut V, span: Spanned, from: &'a [u
     visit_marked(visitor, span, from);
 }
 
-// Visits a token whose span has no extra bits, if it is a header of the first or the fourth format or a literal of the short
-// form, and tells whether it is.
+// Visits a token whose span has no extra bits, if it is a header of the first or the fourth format or a literal of the short form.
+// Returns whether it is.
 #[inline(always)]
 fn visit_common_plain<'a, V: Visitor<'a>>(
     visitor: &mut V,
@@ -230,9 +230,9 @@ fn visit_common_plain<'a, V: Visitor<'a>>(
     true
 }
 
-/// Visits the token that the bytes begin with, if it has one of the forms that most tokens have, and tells whether it has: an
-/// ident, an ASCII punct, a header of the first or the fourth format, or a literal of the short form. So it suits a caller that
-/// has no call for each token. It takes nearly as much code as the compiler puts in the place of a call.
+/// Visits the token at the front of the bytes if it has one of the common forms: an ident, an ASCII punct, a header of the first or the
+/// fourth format, or a literal of the short form. Returns whether it has. A caller that makes no call for each token can use it. It has
+/// nearly as much code as the compiler accepts inline.
 #[inline(always)]
 #[tactic(auto, unfolding(crate::specs::Entry::entry_at, crate::specs::Entry::is_common_at))]
 pub fn visit_common_token<'a, V: Visitor<'a>>(visitor: &mut V, from: &'a [u8]) -> bool
@@ -250,7 +250,7 @@ pub fn visit_common_token<'a, V: Visitor<'a>>(visitor: &mut V, from: &'a [u8]) -
     true
 }
 
-/// Visits the token that the bytes begin with, if they begin with one.
+/// Visits the token at the front of the bytes, if a token is there.
 #[inline(always)]
 #[tactic(auto, unfolding(crate::specs::Entry::entry_at))]
 pub fn visit_token<'a, V: Visitor<'a>>(visitor: &mut V, from: &'a [u8])
@@ -261,7 +261,7 @@ pub fn visit_token<'a, V: Visitor<'a>>(visitor: &mut V, from: &'a [u8])
     }
 }
 
-// Keeps the numbers as they are, with the bytes behind them.
+// Keeps the numbers, and the bytes after the token.
 #[derive(Drop)]
 struct Numbers<'a> {
     entry: Option<Entry>,
@@ -300,7 +300,7 @@ impl<'a> Visitor<'a> for Numbers<'a> {
 }
 
 impl Entry {
-    // The token that the bytes begin with, and the bytes behind it.
+    // Returns the token at the front of the bytes, and the bytes after it.
     fn split(from: &[u8]) -> Option<(Entry, &[u8])>
         ensures { IsRead (entry_at from.now) result }
     {
@@ -313,7 +313,7 @@ impl Entry {
         Some((entry, numbers.rest))
     }
 
-    /// The token that the bytes begin with, and the bytes behind it.
+    /// Returns the token at the front of the bytes, and the bytes after it, or `None` if no token is there.
     pub fn read(from: &[u8]) -> Option<(Entry, &[u8])>
         ensures value { IsRead (entry_at from.now) result }
         ensures again { EntriesAgain from.now result }

@@ -1,4 +1,4 @@
-//! Headers below the top, read in each of their four formats (docs/FORMATS.md, "Bytes of a header").
+//! Reads headers below the top in each of their four formats (docs/FORMATS.md, "Bytes of a header").
 ghost use Rattle.std.specs.Prelude.{◌≡◌, ◌<◌, ◌^◌};
 ghost use Rattle.tt_codec.specs.Header.{IsHeaderRead, start_behind, format_1_at, format_2_at, format_3_at, format_4_at};
 
@@ -8,7 +8,7 @@ use crate::kinds::delimiter_kind_from;
 use crate::span::{SpanNumbers, Spanned};
 use crate::words::{split_byte, split_half, split_word};
 
-// The offset so far behind a start, where four bytes can say it.
+// Returns the offset that is `distance` after a start, if four bytes can hold it.
 #[tactic(auto, unfolding(crate::specs::Header::start_behind))]
 fn start_behind(start: u32, distance: u64) -> Option<u32>
     requires { distance < 2 ^ 63 }
@@ -17,7 +17,7 @@ fn start_behind(start: u32, distance: u64) -> Option<u32>
     u32::try_from(start as u64 + distance).ok()
 }
 
-/// A header of the first format, of which the span and one byte have been read: that byte's high bits are given.
+/// Reads a header of the first format, after its span and one byte are read. `high` has the high bits of that byte.
 #[inline(always)]
 pub(crate) fn read_format_1(
     opening: SpanNumbers,
@@ -48,7 +48,7 @@ pub(crate) fn read_format_1(
     Some((header, rest))
 }
 
-/// The same of the second format.
+/// The same for the second format.
 #[inline(always)]
 pub(crate) fn read_format_2(
     opening: SpanNumbers,
@@ -71,7 +71,7 @@ pub(crate) fn read_format_2(
     Some((header, rest))
 }
 
-/// The same of the third format.
+/// The same for the third format.
 #[inline(always)]
 pub(crate) fn read_format_3(
     opening: SpanNumbers,
@@ -99,7 +99,7 @@ pub(crate) fn read_format_3(
     Some((header, rest))
 }
 
-/// The same of the fourth format.
+/// The same for the fourth format.
 #[inline(always)]
 pub(crate) fn read_format_4(
     opening: SpanNumbers,

@@ -1,4 +1,4 @@
-//! Headers, written in the first of four formats whose condition holds (docs/FORMATS.md, "Bytes of a header").
+//! Writes a header in the first of four formats that can hold it (docs/FORMATS.md, "Bytes of a header").
 ghost use Rattle.std.specs.Prelude.{◌≡◌, ◌≤◌, ◌<◌, ◌^◌, ◌+◌, ◌*◌, ◌++◌, IsTrue};
 ghost use Rattle.tt_back_buf.specs.Bytes.{bytes_of, room_of};
 ghost use Rattle.tt_base.specs.declared.token_tree.TokenTree.TheVariants as token;
@@ -16,20 +16,21 @@ use crate::span::SpanNumbers;
 use tt_back_buf::BackBuf;
 use tt_base::{DelimiterKind, Subtree};
 
-// The count, the bytes of a small header and the distance of the third format take a byte each.
+// The largest count, the largest number of bytes of a small header, and the largest distance in the third format: each has one byte.
 const MOST_IN_BYTE: u32 = u8::MAX as u32;
-// The distance of the first format has its low bits in the span, and the others behind the kind.
+// The largest distance in the first format. The span has its low bits, and the bits after the kind have the others.
 const FORMAT_1_DISTANCE: u32 = (1 << (LOW_DISTANCE_BITS + HIGH_BITS)) - 1;
-// Those low bits.
+// The mask of those low bits.
 const LOW_DISTANCE_MASK: u32 = (1 << LOW_DISTANCE_BITS) - 1;
-// The distance of the second format stands behind the kind.
+// The largest distance in the second format. The bits after the kind have it.
 const FORMAT_2_DISTANCE: u32 = HIGH_MASK as u32;
-// The number of bytes in the third format fills two bytes, together with bits of the close's part.
+// The largest number of bytes in the third format. It fills two bytes, together with bits of the index of the close part.
 const FORMAT_3_BYTES: u32 = (1 << (16 - PART_BITS)) - 1;
-// The close's part has its low bits behind the kind there, and the others in front of that number.
+// The largest index of the close part in the third format. The bits after the kind have its low bits, and the others come before the
+// number of bytes.
 const FORMAT_3_PART: u32 = (1 << (HIGH_BITS + PART_BITS)) - 1;
 
-// The byte behind the open span: the form, the kind, and what the form has its high bits for.
+// Returns the byte after the open span: the form, the kind, and the high bits of that format.
 pub(crate) fn control(form: u8, kind: DelimiterKind, high: u8) -> u8
     requires form { form < 8 }
     requires high { delimiter_number kind + high * 4 < 32 }
@@ -39,7 +40,8 @@ pub(crate) fn control(form: u8, kind: DelimiterKind, high: u8) -> u8
 }
 
 impl HeaderEntry {
-    /// The top's header, whose two parts have the two indices from `part` on, both below 2^28, and which holds so many bytes.
+    /// Returns the top's header in numbers. Its two parts have the indices `part` and `part + 1`, both less than 2^28. The tokens below
+    /// it take `child_bytes` bytes.
     pub fn of_top(part: u32, top: Subtree, child_bytes: u32) -> HeaderEntry
         requires { part + 1 < 2 ^ 28 }
         ensures value { result ≡ top_entry part top.delimiter top.len child_bytes }
@@ -55,21 +57,21 @@ impl HeaderEntry {
         }
     }
 
-    // Whether it closes where it opens or behind that, and at most so far behind.
+    // Returns whether the close span starts at most `most` bytes after the start of the open span, and not before it.
     fn is_within(self, most: u32) -> bool
         ensures { result ≡ is_within self most }
     {
         self.opening.start <= self.closing.start && self.closing.start - self.opening.start <= most
     }
 
-    // Whether its count takes one byte, and its kind two bits.
+    // Returns whether one byte can hold the count, and two bits the kind.
     fn is_short(self) -> bool
         ensures { result ≡ is_short self }
     {
         self.len <= MOST_IN_BYTE && delimiter_number(self.kind) <= KIND_MASK
     }
 
-    // Whether it is short, both delimiters are of one part, and the number of bytes is small.
+    // Returns whether the header is short, both spans have one part, and the number of bytes is small.
     fn is_small(self) -> bool
         ensures { result ≡ is_small self }
     {
@@ -78,7 +80,7 @@ impl HeaderEntry {
             && self.child_bytes <= MOST_IN_BYTE
     }
 
-    // Whether the first format can say it.
+    // Returns whether the first format can hold the header.
     fn has_format_1(self) -> bool
         ensures { result ≡ has_format_1 self }
     {
@@ -88,7 +90,7 @@ impl HeaderEntry {
             && self.is_within(FORMAT_1_DISTANCE)
     }
 
-    // Whether the second format can say it.
+    // Returns whether the second format can hold the header.
     fn has_format_2(self) -> bool
         ensures { result ≡ has_format_2 self }
     {
@@ -97,7 +99,7 @@ impl HeaderEntry {
             && self.is_within(FORMAT_2_DISTANCE)
     }
 
-    // Whether the third format can say it.
+    // Returns whether the third format can hold the header.
     fn has_format_3(self) -> bool
         ensures { result ≡ has_format_3 self }
     {
@@ -108,7 +110,7 @@ impl HeaderEntry {
             && self.closing.part <= FORMAT_3_PART
     }
 
-    // Puts the first format before the bytes.
+    // Puts the header before the bytes in the first format.
     fn write_format_1(self, into: &mut BackBuf)
         requires fits { HeaderFits self }
         requires format { IsTrue (has_format_1 self) }
@@ -128,7 +130,7 @@ impl HeaderEntry {
         span.write(into, PLAIN, false)
     }
 
-    // Puts the second format before the bytes.
+    // Puts the header before the bytes in the second format.
     fn write_format_2(self, into: &mut BackBuf)
         requires fits { HeaderFits self }
         requires format { IsTrue (has_format_2 self) }
@@ -143,7 +145,7 @@ impl HeaderEntry {
         self.opening.write(into, PLAIN, false)
     }
 
-    // Puts the third format before the bytes.
+    // Puts the header before the bytes in the third format.
     fn write_format_3(self, into: &mut BackBuf)
         requires fits { HeaderFits self }
         requires format { IsTrue (has_format_3 self) }
@@ -160,8 +162,8 @@ impl HeaderEntry {
         self.opening.write(into, PLAIN, false)
     }
 
-    /// Puts the fourth format before the bytes, with both spans in three words where `heavy` demands them. The indices of its
-    /// parts have to be below 2^28, its spans have to end below 2^32, and there has to be room for 33 bytes, as `BackBuf::with_room` asks for it.
+    /// Puts the header before the bytes in the fourth format. `heavy` demands three words for both spans. The indices of its parts are
+    /// less than 2^28, and its spans end below 2^32. There is room for 33 bytes; `BackBuf::with_room` makes room.
     pub fn write_in_full(self, into: &mut BackBuf, heavy: bool)
         requires fits { HeaderFits self }
         requires room { 33 ≤ room_of into.old }
@@ -175,7 +177,7 @@ impl HeaderEntry {
         self.opening.write(into, PLAIN, heavy)
     }
 
-    /// Puts the header's bytes before the others, in the first format that can say it.
+    /// Puts the header before the bytes in the first format that can hold it.
     #[tactic(auto, unfolding(crate::specs::Header::header_bytes))]
     #[inline(always)]
     pub(crate) fn write(self, into: &mut BackBuf)

@@ -1,10 +1,10 @@
-//! The numbers of kinds, and the kinds of numbers (docs/FORMATS.md).
+//! The numbers of kinds, and back (docs/FORMATS.md).
 ghost use Rattle.std.specs.Prelude.{◌≡◌, ◌<◌, ◌≤◌, IfSome};
 ghost use Rattle.tt_codec.specs.Kinds.{delimiter_number, delimiter_kind_from, spacing_number, spacing_from, raw_number, raw_from, kind_number, hash_count, plain_kind_from, raw_kind_from, short_number, short_kind_from};
 
 use tt_base::{DelimiterKind, IdentIsRaw, LitKind, Spacing};
 
-/// The number of a kind of delimiter.
+/// Returns the number of a kind of delimiter.
 pub(crate) fn delimiter_number(kind: DelimiterKind) -> u8
     ensures value { result ≡ delimiter_number kind }
     ensures bound { result < 5 }
@@ -12,7 +12,7 @@ pub(crate) fn delimiter_number(kind: DelimiterKind) -> u8
     kind as u8
 }
 
-/// The kind of delimiter of a number.
+/// Returns the kind of delimiter with that number.
 pub(crate) fn delimiter_kind_from(number: u8) -> Option<DelimiterKind>
     ensures { result ≡ delimiter_kind_from number }
 {
@@ -26,7 +26,7 @@ pub(crate) fn delimiter_kind_from(number: u8) -> Option<DelimiterKind>
     }
 }
 
-/// The number of a spacing.
+/// Returns the number of a spacing.
 pub(crate) fn spacing_number(spacing: Spacing) -> u8
     ensures value { result ≡ spacing_number spacing }
     ensures bound { result < 3 }
@@ -34,7 +34,7 @@ pub(crate) fn spacing_number(spacing: Spacing) -> u8
     spacing as u8
 }
 
-/// The spacing of a number.
+/// Returns the spacing with that number.
 pub(crate) fn spacing_from(number: u8) -> Option<Spacing>
     ensures { result ≡ spacing_from number }
 {
@@ -46,7 +46,7 @@ pub(crate) fn spacing_from(number: u8) -> Option<Spacing>
     }
 }
 
-/// The number of a rawness.
+/// Returns 1 for a raw ident, otherwise 0.
 pub(crate) fn raw_number(is_raw: IdentIsRaw) -> u32
     ensures value { result ≡ raw_number is_raw }
     ensures bound { result < 2 }
@@ -54,7 +54,7 @@ pub(crate) fn raw_number(is_raw: IdentIsRaw) -> u32
     is_raw as u32
 }
 
-/// The rawness of a number.
+/// Returns raw for 1, otherwise not raw.
 pub(crate) fn raw_from(number: u32) -> IdentIsRaw
     ensures { result ≡ raw_from number }
 {
@@ -64,7 +64,7 @@ pub(crate) fn raw_from(number: u32) -> IdentIsRaw
     }
 }
 
-/// The number of a kind of literal.
+/// Returns the number of a kind of literal.
 pub(crate) fn kind_number(kind: LitKind) -> u8
     ensures value { result ≡ kind_number kind }
     ensures bound { result ≤ 10 }
@@ -84,7 +84,7 @@ pub(crate) fn kind_number(kind: LitKind) -> u8
     }
 }
 
-/// The hashes of a raw kind.
+/// Returns the number of hashes of a raw kind, or `None` for another kind.
 pub(crate) fn hash_count(kind: LitKind) -> Option<u8>
     ensures { result ≡ hash_count kind }
 {
@@ -96,7 +96,7 @@ pub(crate) fn hash_count(kind: LitKind) -> Option<u8>
     }
 }
 
-/// The kind of literal of a number, of those that are not raw.
+/// Returns the kind of literal with that number, if it is not a raw one.
 pub(crate) fn plain_kind_from(number: u8) -> Option<LitKind>
     ensures { result ≡ plain_kind_from number }
 {
@@ -113,7 +113,7 @@ pub(crate) fn plain_kind_from(number: u8) -> Option<LitKind>
     }
 }
 
-/// The raw kind of a number, with so many hashes.
+/// Returns the raw kind with that number, and with `count` hashes.
 pub(crate) fn raw_kind_from(number: u8, count: u8) -> Option<LitKind>
     ensures { result ≡ raw_kind_from number count }
 {
@@ -125,7 +125,7 @@ pub(crate) fn raw_kind_from(number: u8, count: u8) -> Option<LitKind>
     }
 }
 
-/// The number of a kind of literal in the short form, which has four.
+/// Returns the number of a kind of literal in the short form. Only four kinds have one.
 pub(crate) fn short_number(kind: LitKind) -> Option<u8>
     ensures value { result ≡ short_number kind }
     ensures bound { IfSome result (λ number. number ≤ 12) }
@@ -139,7 +139,7 @@ pub(crate) fn short_number(kind: LitKind) -> Option<u8>
     }
 }
 
-/// The kind of literal of a number in the short form.
+/// Returns the kind of literal with that number in the short form.
 pub(crate) fn short_kind_from(number: u8) -> Option<LitKind>
     ensures { result ≡ short_kind_from number }
 {

@@ -1,4 +1,4 @@
-//! Leaves, read (docs/FORMATS.md, "Bytes of a leaf").
+//! Reads leaves (docs/FORMATS.md, "Bytes of a leaf").
 ghost use Rattle.std.specs.Prelude.{◌≡◌};
 ghost use Rattle.tt_codec.specs.Read.{IsRead};
 ghost use Rattle.tt_codec.specs.Leaf.{kind_at, char_at, ascii_spacing};
@@ -7,7 +7,7 @@ use crate::kinds::{plain_kind_from, raw_kind_from};
 use crate::words::{split_byte, split_word};
 use tt_base::{LitKind, Spacing};
 
-/// The kind of a number, with its hashes behind it where it is raw.
+/// Returns the kind with that number, and the bytes after it. The number of hashes of a raw kind is the next byte.
 pub(crate) fn read_kind(number: u8, from: &[u8]) -> Option<(LitKind, &[u8])>
     ensures { IsRead (kind_at number from.now) result }
 {
@@ -19,7 +19,7 @@ pub(crate) fn read_kind(number: u8, from: &[u8]) -> Option<(LitKind, &[u8])>
     Some((kind, rest))
 }
 
-/// A character of four bytes.
+/// Returns the character of the next four bytes, and the bytes after it.
 pub(crate) fn read_char(from: &[u8]) -> Option<(char, &[u8])>
     ensures { IsRead (char_at from.now) result }
 {
@@ -28,7 +28,7 @@ pub(crate) fn read_char(from: &[u8]) -> Option<(char, &[u8])>
     Some((char, rest))
 }
 
-/// The spacing of an ASCII punct. `hidden` is 1 where it is joint hidden, and else the lowest bit of the byte tells.
+/// Returns the spacing of an ASCII punct: joint hidden if `hidden` is 1, otherwise alone or joint by the lowest bit of the byte.
 #[inline(always)]
 pub(crate) fn ascii_spacing(hidden: u32, byte: u8) -> Spacing
     ensures { result ≡ ascii_spacing hidden byte }

@@ -1,4 +1,4 @@
-//! Leaves, written (docs/FORMATS.md, "Bytes of a leaf").
+//! Writes leaves (docs/FORMATS.md, "Bytes of a leaf").
 ghost use Rattle.std.specs.Prelude.{◌≡◌, ◌≤◌, ◌+◌, ◌<◌, ◌^◌, ◌++◌, false};
 ghost use Rattle.tt_back_buf.specs.Bytes.{bytes_of, room_of};
 ghost use Rattle.tt_codec.specs.Kinds.{raw_number};
@@ -17,7 +17,7 @@ use crate::span::SpanNumbers;
 use tt_back_buf::BackBuf;
 use tt_base::{IdentIsRaw, LitKind, Spacing};
 
-// Puts the long form of a kind and a suffix length before the bytes.
+// Puts a kind and a suffix length before the bytes, in the long form.
 fn write_long_form(into: &mut BackBuf, kind: LitKind, suffix_len: u8)
     requires room { 3 ≤ room_of into.old }
     ensures bytes { bytes_of into.new ≡ long_form kind suffix_len ++ bytes_of into.old }
@@ -30,7 +30,7 @@ fn write_long_form(into: &mut BackBuf, kind: LitKind, suffix_len: u8)
     into.put_byte(LONG_LITERAL | kind_number(kind) << FORM_BITS)
 }
 
-// Puts a kind and a suffix length before the bytes.
+// Puts a kind and a suffix length before the bytes, in the first form that can hold them.
 #[tactic(auto, unfolding(crate::specs::Leaf::literal_form))]
 fn write_form(into: &mut BackBuf, kind: LitKind, suffix_len: u8)
     requires room { 3 ≤ room_of into.old }

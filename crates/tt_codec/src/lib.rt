@@ -1,6 +1,4 @@
-//! A token in numbers, and its bytes, written and read (docs/FORMATS.md).
-//!
-//! It knows nothing of tables or trees: parts and symbols are indices here.
+//! Tokens in numbers, and their bytes (docs/FORMATS.md). This crate needs no tables and no trees: a part or a symbol is an index here.
 #![tactic(auto)]
 
 mod encodable;

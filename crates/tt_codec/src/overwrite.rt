@@ -1,4 +1,4 @@
-//! The top header, written over the bytes of another.
+//! Writes the top's header over the bytes of another one.
 ghost use Rattle.std.specs.Int.{w32, to_le_bytes};
 ghost use Rattle.std.specs.Prelude.{◌≡◌, ◌+◌, ◌<◌, ◌≤◌, ◌^◌, ◌++◌, length, drop, true};
 ghost use Rattle.tt_codec.specs.Header.{HeaderFits, format_4};
@@ -10,16 +10,16 @@ use crate::form::FORMAT_4;
 use crate::header_write::control;
 use crate::span::SpanNumbers;
 
-// A span in three words takes so many bytes, and behind the open span stands the kind.
+// The place of the kind. It follows the open span, which takes 12 bytes in three words.
 const KIND_AT: usize = 12;
-// Behind the kind stands the close span.
+// The place of the close span.
 const CLOSE_AT: usize = 13;
-// Then the count of tokens.
+// The place of the count of tokens.
 const LEN_AT: usize = 25;
-// Last is the number of bytes.
+// The place of the number of bytes.
 const CHILD_BYTES_AT: usize = 29;
 
-// Puts a number over the four bytes at an offset.
+// Writes a number over the four bytes at an offset.
 fn overwrite_word(bytes: &mut [u8], offset: usize, word: u32)
     requires { offset + 4 ≤ length bytes.old }
     ensures { bytes.new ≡ overwritten offset (to_le_bytes w32 word) bytes.old }
@@ -28,7 +28,7 @@ fn overwrite_word(bytes: &mut [u8], offset: usize, word: u32)
 }
 
 impl SpanNumbers {
-    // Puts the span in three words over the bytes at an offset.
+    // Writes the span in three words over the bytes at an offset.
     fn overwrite(self, bytes: &mut [u8], offset: usize)
         requires part { self.part < 2 ^ 28 }
         requires room { offset + 12 ≤ length bytes.old }
@@ -42,8 +42,8 @@ impl SpanNumbers {
 }
 
 impl HeaderEntry {
-    /// Puts the header in full, with both spans in three words, over the first 33 bytes, of which there have to be so many. The
-    /// indices of its parts have to be below 2^28, and its spans have to end below 2^32.
+    /// Writes the header over the first 33 bytes, in its longest format with both spans in three words. There are at least 33 bytes. The
+    /// indices of its parts are less than 2^28, and its spans end below 2^32.
     pub fn overwrite(self, bytes: &mut [u8])
         requires fits { HeaderFits self }
         requires room { 33 ≤ length bytes.old }

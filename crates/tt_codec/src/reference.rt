@@ -1,4 +1,4 @@
-//! References to symbols, written and read (docs/FORMATS.md, "Bytes of a reference").
+//! References to symbols (docs/FORMATS.md, "Bytes of a reference").
 ghost use Rattle.std.specs.Prelude.{◌≡◌, ◌≤◌, ◌+◌, ◌<◌, ◌^◌, ◌++◌};
 ghost use Rattle.tt_back_buf.specs.Bytes.{bytes_of, room_of};
 ghost use Rattle.tt_codec.specs.Reference.{reference_bytes, after_one_byte, after_two_bytes, reference_at, ReferencesAgain};
@@ -7,27 +7,27 @@ ghost use Rattle.tt_codec.specs.Read.{IsRead};
 use crate::words::{split_byte, split_half};
 use tt_back_buf::BackBuf;
 
-/// How many symbols there are at most: four bytes have room for 29 bits of an index.
+/// The largest number of symbols: four bytes have room for an index of 29 bits.
 pub const MOST_SYMBOLS: usize = 1 << 29;
 
-// Behind the tag, a bit of the first byte says whether another byte follows.
+// The place of the bit of the first byte that says whether another byte follows. The tag is before it.
 const MORE_AT: u32 = 1;
-// Last are low bits of the index.
+// The place of the low bits of the index, which come last.
 const FIRST_AT: u32 = 2;
-// Their number.
+// The number of these bits.
 const FIRST_BITS: u32 = 6;
-// Their mask.
+// The mask of these bits.
 const FIRST_MASK: u32 = (1 << FIRST_BITS) - 1;
-// Behind a bit that says whether two more bytes follow, the second byte has the next bits of the index.
+// The place of the next bits of the index in the second byte. Before them is the bit that says whether two more bytes follow.
 const SECOND_AT: u32 = 1;
-// Their number.
+// The number of these bits.
 const SECOND_BITS: u32 = 7;
-// Their mask.
+// The mask of these bits.
 const SECOND_MASK: u32 = (1 << SECOND_BITS) - 1;
-// The first two bytes have so many. The two bytes behind them have 16 more.
+// The number of index bits in the first two bytes. The two bytes after them have 16 more.
 const BOTH_BITS: u32 = FIRST_BITS + SECOND_BITS;
 
-/// A symbol by its index in a table, with one tag bit.
+/// A symbol, as its index in a table, with one tag bit.
 #[derive(Debug, Clone, Copy, PartialEq)]
 pub struct Reference {
     pub index: u32,
@@ -35,8 +35,8 @@ pub struct Reference {
 }
 
 impl Reference {
-    /// Puts the reference's bytes before the others. The index has to be below 2^29 and the tag 0 or 1, and there has to be room
-    /// for four bytes, as `BackBuf::with_room` asks for it.
+    /// Puts the reference's bytes before the others. The index is less than 2^29, and the tag is 0 or 1. There is room for four bytes;
+    /// `BackBuf::with_room` makes room.
     #[tactic(auto, unfolding(crate::specs::Reference::reference_bytes))]
     pub fn write(self, into: &mut BackBuf)
         requires index { self.index < 2 ^ 29 }
@@ -58,7 +58,7 @@ impl Reference {
         into.put_byte((self.tag | 1 << MORE_AT | (self.index & FIRST_MASK) << FIRST_AT) as u8)
     }
 
-    // The reference, of which two bytes have been read.
+    // Returns the reference and the bytes after it, after two bytes are read.
     fn after_two_bytes(first: u8, second: u8, rest: &[u8]) -> Option<(Reference, &[u8])>
         ensures { IsRead (after_two_bytes first second rest.now) result }
     {
@@ -72,7 +72,7 @@ impl Reference {
         Some((Reference { index, tag }, rest))
     }
 
-    // The reference, of which one byte has been read.
+    // Returns the reference and the bytes after it, after one byte is read.
     #[inline(always)]
     fn after_one_byte(first: u8, rest: &[u8]) -> Option<(Reference, &[u8])>
         ensures { IsRead (after_one_byte first rest.now) result }
@@ -86,7 +86,7 @@ impl Reference {
         Reference::after_two_bytes(first, second, rest)
     }
 
-    // The reference that the bytes begin with, and the bytes behind it.
+    // Returns the reference at the front of the bytes, and the bytes after it.
     #[inline(always)]
     #[tactic(auto, unfolding(crate::specs::Reference::reference_at))]
     fn split(from: &[u8]) -> Option<(Reference, &[u8])>
@@ -96,7 +96,7 @@ impl Reference {
         Reference::after_one_byte(first, rest)
     }
 
-    /// The reference that the bytes begin with, and the bytes behind it.
+    /// Returns the reference at the front of the bytes, and the bytes after it, or `None` if the bytes end too soon.
     #[inline(always)]
     pub(crate) fn read(from: &[u8]) -> Option<(Reference, &[u8])>
         ensures value { IsRead (reference_at from.now) result }

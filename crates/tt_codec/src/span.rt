@@ -1,4 +1,4 @@
-//! The numbers of a span, written and read in one, two or three words (docs/FORMATS.md, "Bytes of a span").
+//! The numbers of a span, in one, two or three words (docs/FORMATS.md, "Bytes of a span").
 ghost use Rattle.std.specs.Prelude.{◌≡◌, ◌≤◌, ◌+◌, ◌<◌, ◌^◌, ◌++◌, IsTrue};
 ghost use Rattle.tt_back_buf.specs.Bytes.{bytes_of, room_of};
 ghost use Rattle.tt_base.specs.Fits.{SpanInRange};
@@ -9,57 +9,57 @@ use crate::words::split_word;
 use tt_back_buf::BackBuf;
 use tt_base::Span;
 
-/// How many parts there are at most: three words have room for 28 bits of an index.
+/// The largest number of parts: three words have room for an index of 28 bits.
 pub const MOST_PARTS: usize = 1 << 28;
 
-// The first word has the extra bits in front.
+// The mask of the extra bits, which are the lowest bits of the first word.
 const EXTRA_MASK: u32 = 0b11;
-// Behind them are low bits of the part.
+// The place of the low bits of the part in the first word.
 const PART_AT: u32 = 2;
-// Their number. What they leave over is the part's rest.
+// The number of these bits. The other bits of the part are its rest.
 const PART_BITS: u32 = 4;
-// Their mask.
+// The mask of these bits.
 const PART_MASK: u32 = (1 << PART_BITS) - 1;
-// Then come low bits of the length.
+// The place of the low bits of the length.
 const LENGTH_AT: u32 = PART_AT + PART_BITS;
-// Their number. What they leave over is the length's rest.
+// The number of these bits. The other bits of the length are its rest.
 const LENGTH_BITS: u32 = 8;
-// Their mask.
+// The mask of these bits.
 const LENGTH_MASK: u32 = (1 << LENGTH_BITS) - 1;
-// Then one bit says whether another word follows.
+// The place of the bit that says whether another word follows.
 const MORE_AT: u32 = LENGTH_AT + LENGTH_BITS;
-// Last are low bits of the start.
+// The place of the low bits of the start, which come last.
 const START_AT: u32 = MORE_AT + 1;
-// Their number, which fills the word. What they leave over is the start's rest.
+// The number of these bits, which fill the word. The other bits of the start are its rest.
 const START_BITS: u32 = 32 - START_AT;
-// Their mask.
+// The mask of these bits.
 const START_MASK: u32 = (1 << START_BITS) - 1;
 
-// The second of two words has a bit that is 0, and behind it the part's rest.
+// The place of the part's rest in the second of two words. Before it is a bit that is 0.
 const MIDDLE_PART_AT: u32 = 1;
-// The largest that has room there: it has 11 bits.
+// The largest rest of a part in two words: 11 bits.
 const MIDDLE_PART_MASK: u32 = (1 << 11) - 1;
-// Then comes the length's rest.
+// The place of the length's rest.
 const MIDDLE_LENGTH_AT: u32 = 12;
-// The largest that has room there: it has 10 bits.
+// The largest rest of a length in two words: 10 bits.
 const MIDDLE_LENGTH_MASK: u32 = (1 << 10) - 1;
-// Last is the start's rest.
+// The place of the start's rest, which comes last.
 const MIDDLE_START_AT: u32 = 22;
-// The largest that has room there: it has 10 bits.
+// The largest rest of a start in two words: 10 bits.
 const MIDDLE_START_MASK: u32 = (1 << 10) - 1;
 
-// As one number the rests have first that of the part, and then that of the length.
+// The place of the length's rest in the one number that three words have for all rests. The part's rest is before it.
 const RESTS_LENGTH_AT: u32 = 24;
-// Last is that of the start.
+// The place of the start's rest in that number, which comes last.
 const RESTS_START_AT: u32 = 48;
-// The mask of each of these two. A part has 4 + 24 bits, and a length 8 + 24.
+// The mask of the part's rest and of the length's. A part has 4 + 24 bits, and a length has 8 + 24.
 const REST_MASK: u64 = (1 << 24) - 1;
-// The last of three words has so many low bits of that number. The second has a bit that is 1, and the others behind it.
+// The number of low bits of that number in the last of three words. The second word has a bit that is 1, and after it the other bits.
 const WORD_BITS: u32 = 32;
-// Their mask.
+// The mask of these low bits.
 const WORD_MASK: u64 = (1 << WORD_BITS) - 1;
 
-/// A span in numbers: the index of its part, its start, and its length.
+/// A span in numbers: the index of its part, its start in bytes, and its length in bytes.
 #[derive(Debug, Clone, Copy, PartialEq)]
 pub struct SpanNumbers {
     pub part: u32,
@@ -67,7 +67,7 @@ pub struct SpanNumbers {
     pub length: u32,
 }
 
-/// The numbers of a span, and the two extra bits that are stored beside them.
+/// The numbers of a span, with the two extra bits that are stored beside them.
 #[derive(Debug, Clone, Copy, PartialEq)]
 pub(crate) struct Spanned {
     pub(crate) extra: u32,
@@ -75,7 +75,7 @@ pub(crate) struct Spanned {
 }
 
 impl SpanNumbers {
-    /// The numbers of a span whose part has that index, which has to be below 2^28.
+    /// Returns the numbers of a span. The index of its part is `part`, which is less than 2^28.
     pub fn of_span(part: u32, span: &Span) -> SpanNumbers
         requires { part < 2 ^ 28 }
         ensures value { result ≡ span_numbers part span.now }
@@ -91,7 +91,7 @@ impl SpanNumbers {
         }
     }
 
-    // The first word, with the bit that says whether more follows.
+    // Returns the first word. Its bit `more` says whether another word follows.
     fn first_word(self, extra: u32, more: u32) -> u32
         requires extra { extra < 4 }
         requires more { more < 2 }
@@ -104,7 +104,7 @@ impl SpanNumbers {
             | (self.start & START_MASK) << START_AT
     }
 
-    // The second word of two.
+    // Returns the second of two words.
     fn middle_word(self) -> u32
         requires part { part_rest self < 2048 }
         requires length { length_rest self < 1024 }
@@ -116,7 +116,7 @@ impl SpanNumbers {
             | (self.start >> START_BITS) << MIDDLE_START_AT
     }
 
-    // What the first word leaves over, as one number.
+    // Returns all rests as one number.
     fn rests(self) -> u64
         requires { self.part < 2 ^ 28 }
         ensures value { result ≡ rests self }
@@ -127,7 +127,7 @@ impl SpanNumbers {
             | ((self.start >> START_BITS) as u64) << RESTS_START_AT
     }
 
-    // Whether the first word leaves nothing over.
+    // Returns whether all rests are 0.
     fn fits_one_word(self) -> bool
         ensures { result ≡ fits_one_word self }
     {
@@ -136,7 +136,7 @@ impl SpanNumbers {
             && self.start >> START_BITS == 0
     }
 
-    // Whether one more word can hold what the first leaves over.
+    // Returns whether one more word can hold the rests.
     fn fits_two_words(self) -> bool
         ensures { result ≡ fits_two_words self }
     {
@@ -145,7 +145,7 @@ impl SpanNumbers {
             && self.start >> START_BITS <= MIDDLE_START_MASK
     }
 
-    // Puts two words before the bytes.
+    // Puts the span before the bytes, in two words.
     #[inline(always)]
     fn write_middle(self, into: &mut BackBuf, extra: u32)
         requires extra { extra < 4 }
@@ -158,7 +158,7 @@ impl SpanNumbers {
         into.put_word(self.first_word(extra, 1))
     }
 
-    /// The span in three words, the first in front.
+    /// Returns the span in three words, the first one first.
     #[inline(always)]
     pub(crate) fn heavy_words(self, extra: u32) -> (u32, u32, u32)
         requires part { self.part < 2 ^ 28 }
@@ -171,7 +171,7 @@ impl SpanNumbers {
         (self.first_word(extra, 1), second, third)
     }
 
-    // Puts three words before the bytes.
+    // Puts the span before the bytes, in three words.
     #[inline(never)]
     fn write_heavy(self, into: &mut BackBuf, extra: u32)
         requires part { self.part < 2 ^ 28 }
@@ -186,9 +186,9 @@ impl SpanNumbers {
         into.put_word(first)
     }
 
-    /// Puts the bytes of the span before the others, in three words where `heavy` demands them.
-    /// The index of the part has to be below 2^28 and the extra bits below 4, and there has to be room for 12 bytes, as
-    /// `BackBuf::with_room` asks for it. Most spans take one word or two, so these are put in place, and three by a call.
+    /// Puts the span before the bytes. `heavy` demands three words. The index of the part is less than 2^28, and the extra bits are less
+    /// than 4. There is room for 12 bytes; `BackBuf::with_room` makes room. Most spans take one word or two, so the code for these is
+    /// inline, and that for three words is a call.
     #[inline(always)]
     #[tactic(auto, unfolding(crate::specs::SpanNumbers::span_bytes))]
     pub fn write(self, into: &mut BackBuf, extra: u32, heavy: bool)
@@ -212,7 +212,7 @@ impl SpanNumbers {
 }
 
 impl Spanned {
-    // The span of a first word and the three rests.
+    // Returns the span of a first word and the three rests.
     fn from_rests(first: u32, part_rest: u32, length_rest: u32, start_rest: u32) -> Spanned
         requires part { part_rest < 2 ^ 24 }
         requires length { length_rest < 2 ^ 24 }
@@ -230,7 +230,7 @@ impl Spanned {
         }
     }
 
-    // The span of a first word and what is left of all three.
+    // Returns the span of a first word and of all rests as one number.
     fn from_one_rest(first: u32, rests: u64) -> Spanned
         requires { rests < 2 ^ 63 }
         ensures { result ≡ from_rests first rests }
@@ -241,7 +241,7 @@ impl Spanned {
         Spanned::from_rests(first, part_rest, length_rest, start_rest)
     }
 
-    // The span, of which two words have been read.
+    // Returns the span and the bytes after it, after two words are read.
     fn after_two_words(first: u32, second: u32, rest: &[u8]) -> Option<(Spanned, &[u8])>
         ensures { IsRead (after_two_words first second rest.now) result }
     {
@@ -257,7 +257,7 @@ impl Spanned {
         Some((Spanned::from_one_rest(first, rests), rest))
     }
 
-    // The span, of which one word has been read.
+    // Returns the span and the bytes after it, after one word is read.
     #[inline(always)]
     fn after_one_word(first: u32, rest: &[u8]) -> Option<(Spanned, &[u8])>
         ensures { IsRead (after_one_word first rest.now) result }
@@ -269,7 +269,7 @@ impl Spanned {
         Spanned::after_two_words(first, second, rest)
     }
 
-    // The span that the bytes begin with, and the bytes behind it.
+    // Returns the span at the front of the bytes, and the bytes after it.
     #[inline(always)]
     #[tactic(auto, unfolding(crate::specs::SpanNumbers::span_at))]
     fn split(from: &[u8]) -> Option<(Spanned, &[u8])>
@@ -279,7 +279,7 @@ impl Spanned {
         Spanned::after_one_word(first, rest)
     }
 
-    /// The span that the bytes begin with, and the bytes behind it.
+    /// Returns the span at the front of the bytes, and the bytes after it, or `None` if the bytes end too soon.
     #[inline(always)]
     pub(crate) fn read(from: &[u8]) -> Option<(Spanned, &[u8])>
         ensures value { IsRead (span_at from.now) result }

@@ -1,8 +1,8 @@
-//! Numbers at the front of bytes, each read at once.
+//! Numbers at the front of bytes.
 ghost use Rattle.std.specs.Prelude.{◌≡◌, Some, None, MatchOption};
 ghost use Rattle.tt_codec.specs.Read.{byte_at, half_at, word_at};
 
-/// The first byte, and the bytes behind it.
+/// Returns the first byte, and the bytes after it, or `None` if there is none.
 pub(crate) fn split_byte(from: &[u8]) -> Option<(u8, &[u8])>
     ensures { MatchOption result (byte_at from.now ≡ None) (λ read. byte_at from.now ≡ Some (read.0, read.1.now)) }
 {
@@ -12,7 +12,7 @@ pub(crate) fn split_byte(from: &[u8]) -> Option<(u8, &[u8])>
     }
 }
 
-/// The number in the first two bytes, and the bytes behind it.
+/// Returns the number in the first two bytes, and the bytes after it, or `None` if there are fewer.
 pub(crate) fn split_half(from: &[u8]) -> Option<(u16, &[u8])>
     ensures { MatchOption result (half_at from.now ≡ None) (λ read. half_at from.now ≡ Some (read.0, read.1.now)) }
 {
@@ -20,7 +20,7 @@ pub(crate) fn split_half(from: &[u8]) -> Option<(u16, &[u8])>
     Some((u16::from_le_bytes(*bytes), rest))
 }
 
-/// The number in the first four bytes, and the bytes behind it.
+/// Returns the number in the first four bytes, and the bytes after it, or `None` if there are fewer.
 pub(crate) fn split_word(from: &[u8]) -> Option<(u32, &[u8])>
     ensures { MatchOption result (word_at from.now ≡ None) (λ read. word_at from.now ≡ Some (read.0, read.1.now)) }
 {

@@ -1,4 +1,4 @@
--- What is held, where tokens come, change and go.
+-- What is held after a token is appended, changed or removed.
 use Rattle.std.proofs.Common.{◌≡◌, ℕ, zero, suc, ◌+◌, ◌<◌, ◌≤◌, ◌⊎◌, inl, inr, Bool, true, false, cond, bytes_eq, List, [], ◌∷◌, ◌++◌, Some, None, length, take, drop, set, slice_get, refl, ap, sym, subst, ◌∙◌, arith, length-append}
 use Rattle.std.proofs.lemmas.List.{length-set}
 use Rattle.std.specs.Cmp.{IsEquivalence}
@@ -30,9 +30,9 @@ use Rattle.tt_tables.specs.Uses.{same_part}
 abbrev pub Grows : {X : Type 0} → (old now : List (X × ℕ)) → Type 0
 Grows {X} old now = (i : ℕ) (x : X) → slice_get (keys_of old) i ≡ Some x → slice_get (keys_of now) i ≡ Some x
 
--- `same` tells whether two values are equal
+-- `same` is whether two values are equal
 module _ {X : Type 0} (same : X → X → Bool) (laws : IsEquivalence same) (sound : (x y : X) → same x y ≡ true → x ≡ y) where
-  -- An entry of no uses behind all others changes no number.
+  -- A new last entry without uses changes no number.
   number_behind : (entries : List (X × ℕ)) (x y : X) → number_in same (entries ++ (x, 0) ∷ []) y ≡ number_in same entries y
   number_behind [] x y = by_test (same y x)
     where
@@ -65,14 +65,14 @@ module _ {X : Type 0} (same : X → X → Bool) (laws : IsEquivalence same) (sou
       by_test true e = ap (λ l. slice_get l i) e ∙ at
       by_test false e = ap (λ l. slice_get l i) e ∙ keeps_front (keys_of entries) (x ∷ []) i y at
 
-  -- One of no uses changes no number at all.
+  -- This adds no use of any value.
   pub more_with : (entries : List (X × ℕ)) (x : X) → CountsMore same [] entries (with_entry same entries x)
   more_with entries x y = omega (arith, number_with entries x y, none)
     where
       none : uses_of same [] y ≡ 0
       none = refl
 
-  -- A value that gets an entry, and then a use.
+  -- A value that gets an entry, and then one use, has one use more.
   pub counted_once : (old mid now : List (X × ℕ)) (x : X) → mid ≡ with_entry same old x → CountsMore same (x ∷ []) mid now → keys_of now ≡ keys_of mid
       → Grows old now × CountsMore same (x ∷ []) old now
   counted_once old mid now x e more keys = (
@@ -80,7 +80,7 @@ module _ {X : Type 0} (same : X → X → Bool) (laws : IsEquivalence same) (sou
     λ y. omega (arith, more y, ap (λ entries. number_in same entries y) e, number_with old x y),
   )
 
-  -- A value of some uses stands in front of those that are cut off.
+  -- A value with uses keeps its place if the last entries without uses are cut off.
   pub kept_by_cut : (uses : List X) (entries cut : List (X × ℕ)) (i : ℕ) (x : X) → IsDistinct same (keys_of entries) → CountsUses same uses entries → IsCut entries cut
       → 0 < uses_of same uses x → slice_get (keys_of entries) i ≡ Some x → slice_get (keys_of cut) i ≡ Some x
   kept_by_cut uses entries cut i x distinct right is some at =
@@ -121,7 +121,7 @@ module _ {X : Type 0} (same : X → X → Bool) (laws : IsEquivalence same) (sou
           let uses_are : number_in same entries x ≡ number = number_at same laws entries i x number distinct (entry_at entries i x number at beside) in
           absurd (omega (arith, none, uses_are, right x, some))
 
--- What is used keeps its places, where values of some uses do.
+-- The used values keep their places, if all values with uses do.
 keep_used : (tables now : Tables) (held : List HeldToken)
     → ((i : ℕ) (x : SpanPart) → 0 < uses_of same_part (parts_in held) x → slice_get tables.parts i ≡ Some x → slice_get now.parts i ≡ Some x)
     → ((i : ℕ) (x : List ℕ) → 0 < uses_of bytes_eq (symbols_in held) x → slice_get tables.symbols i ≡ Some x → slice_get now.symbols i ≡ Some x) → KeepAll tables now held
@@ -134,9 +134,9 @@ keep_used tables now (h ∷ held) parts symbols = (
       (λ i x some at. symbols i x (omega (arith, uses-append bytes_eq (counted_symbols h) (symbols_in held) x, some)) at),
 )
 
--- ---- what is held
+-- ---- tokens held
 
--- Entries of no uses change nothing.
+-- Entries without uses do not change what is held.
 pub held_still : (tokens : List InternedToken) (parts now : List (SpanPart × ℕ)) (symbols : List (List ℕ × ℕ)) (held : List HeldToken) → AreHeld tokens parts symbols held
     → Grows parts now → CountsMore same_part [] parts now → AreHeld tokens now symbols held
 held_still tokens parts now symbols held are grows more =
@@ -151,7 +151,7 @@ held_still tokens parts now symbols held are grows more =
     none : (x : SpanPart) → uses_of same_part [] x ≡ 0
     none x = refl
 
--- One token more.
+-- One more token is appended.
 pub held_pushed : (tokens : List InternedToken) (parts parts_now : List (SpanPart × ℕ)) (symbols symbols_now : List (List ℕ × ℕ)) (held : List HeldToken) (t : InternedToken) (h : HeldToken)
     → AreHeld tokens parts symbols held → length held < 4294967296
     → Grows parts parts_now → CountsMore same_part (counted_parts h) parts parts_now
@@ -167,7 +167,7 @@ held_pushed tokens parts parts_now symbols symbols_now held t h are few part_gro
       few = omega (arith, few, length-append held (h ∷ []));
     }
 
--- Another token at a place, which has the same symbols, and more uses of parts.
+-- A token takes the place of another with the same symbols and fewer parts.
 pub held_set : (tokens : List InternedToken) (parts now : List (SpanPart × ℕ)) (symbols : List (List ℕ × ℕ)) (held : List HeldToken) (i : ℕ) (t : InternedToken) (old new : HeldToken) (more : List SpanPart)
     → AreHeld tokens parts symbols held → slice_get held i ≡ Some old → Grows parts now → CountsMore same_part more parts now
     → ((x : SpanPart) → uses_of same_part (counted_parts new) x ≡ uses_of same_part (counted_parts old) x + uses_of same_part more x)
@@ -198,7 +198,7 @@ length-remove [] (suc i) = omega arith
 length-remove (x ∷ xs) zero = omega arith
 length-remove (x ∷ xs) (suc i) = omega (arith, length-remove xs i)
 
--- A token of no symbols goes, and its uses of parts.
+-- A token without symbols is removed, and its uses of parts with it.
 pub held_removed : (tokens : List InternedToken) (parts now : List (SpanPart × ℕ)) (symbols : List (List ℕ × ℕ)) (held : List HeldToken) (i : ℕ) (old : HeldToken)
     → AreHeld tokens parts symbols held → slice_get held i ≡ Some old → counted_symbols old ≡ [] → keys_of now ≡ keys_of parts → CountsMore same_part (counted_parts old) now parts
     → AreHeld (remove tokens i) now symbols (remove held i)
@@ -214,7 +214,7 @@ held_removed tokens parts now symbols held i old are at none keys fewer =
     same : symbols_in (remove held i) ≡ symbols_in held
     same = same_uses_removed counted_symbols held i old at none
 
--- All tokens from a place on go, and their uses, and the entries of no uses behind all others.
+-- All tokens from a place on are removed, and with them their uses and the last entries without uses.
 pub held_cut : (tokens : List InternedToken) (parts parts_mid parts_now : List (SpanPart × ℕ)) (symbols symbols_mid symbols_now : List (List ℕ × ℕ)) (held : List HeldToken) (n : ℕ)
     → AreHeld tokens parts symbols held
     → IsDistinct same_part (keys_of parts) → keys_of parts_mid ≡ keys_of parts → CountsMore same_part (parts_in (drop n held)) parts_mid parts

@@ -1,4 +1,4 @@
--- What is held, where a call of the code appends a token, or closes or changes one.
+-- What is held after the code appends, closes or changes a token.
 use Rattle.std.proofs.Common.{◌≡◌, ℕ, ◌+◌, ◌^◌, ◌<◌, Bool, bytes_eq, List, [], ◌∷◌, ◌++◌, Some, length, set, slice_get, refl, ap, sym, subst, ◌∙◌, arith, append-nil}
 use Rattle.std.proofs.lemmas.List.{set-get_or}
 use Rattle.std.proofs.lemmas.Option.{get_or_from_slice_get}
@@ -45,7 +45,7 @@ use Rattle.tt_tables.specs.TableOrder.{different, uses_of}
 use Rattle.tt_tables.specs.Tables.{Tables}
 use Rattle.tt_tables.specs.Uses.{same_part}
 
--- What is seen is what is held.
+-- What the model shows is what is held.
 pub seen : (tokens : List InternedToken) (parts : List (SpanPart × ℕ)) (symbols : List (List ℕ × ℕ)) (has : HasHeld tokens parts symbols) (held : List HeldToken) → has.0 ≡ held → AreHeld tokens parts symbols held
 seen tokens parts symbols has held e = subst (AreHeld tokens parts symbols) e has.1
 
@@ -63,7 +63,7 @@ pub same_held : (tokens now : List InternedToken) (parts parts_now : List (SpanP
 same_held tokens now parts parts_now symbols symbols_now held is e₁ e₂ e₃ =
     subst (λ t. AreHeld t parts_now symbols_now held) (sym e₁) (subst (λ p. AreHeld tokens p symbols_now held) (sym e₂) (subst (λ s. AreHeld tokens parts s held) (sym e₃) is))
 
--- A part that has an entry without uses, and no token yet.
+-- A part gets an entry without uses before its token.
 pub part_noted : (tokens now : List InternedToken) (parts parts_now : List (SpanPart × ℕ)) (symbols symbols_now : List (List ℕ × ℕ)) (held : List HeldToken) (part : SpanPart)
     → AreHeld tokens parts symbols held → now ≡ tokens → parts_now ≡ with_entry same_part parts part → symbols_now ≡ symbols → AreHeld now parts_now symbols_now held
 part_noted tokens now parts parts_now symbols symbols_now held part is e₁ e₂ e₃ =
@@ -118,13 +118,13 @@ pub record IsPlaced (parts : List (SpanPart × ℕ)) (numbers : SpanNumbers) (sp
   pub is : numbers ≡ span_numbers numbers.part span
   pub range : SpanInRange span
 
--- They find the span where its part keeps its place.
+-- They name the span, if its part keeps its place.
 finds : (tables : Tables) (parts : List (SpanPart × ℕ)) (numbers : SpanNumbers) (span : Span) → IsPlaced parts numbers span
     → ((i : ℕ) (x : SpanPart) → slice_get (keys_of parts) i ≡ Some x → slice_get tables.parts i ≡ Some x) → FindsSpan tables numbers span
 finds tables parts numbers span placed keeps =
     record { part = keeps numbers.part (part_of span) placed.place; start = ap (λ n. n.start) placed.is; length = ap (λ n. n.length) placed.is }
 
--- a value got an entry, and then one use more
+-- a value gets an entry, and then one use
 pub record IsUsed {X : Type 0} (same : X → X → Bool) (old mid now : List (X × ℕ)) (x : X) : Type 0 where
   pub entry : mid ≡ with_entry same old x
   pub more : CountsMore same (x ∷ []) mid now
@@ -145,7 +145,7 @@ none_more same counts x = omega (arith, none)
     none : uses_of same [] x ≡ 0
     none = refl
 
--- A part that got an entry keeps its place where another gets one.
+-- A part with an entry keeps its place when another part gets an entry.
 pub place_later : (mid now : List (SpanPart × ℕ)) (other part : SpanPart) (i : ℕ) → now ≡ with_entry same_part mid other → slice_get (keys_of mid) i ≡ Some part → slice_get (keys_of now) i ≡ Some part
 place_later mid now other part i e at = ap (λ entries. slice_get (keys_of entries) i) e ∙ grows_with same_part part_eq.lawful.laws part_sound mid other i part at
 
@@ -170,7 +170,7 @@ punct_held tokens now parts mid parts_now symbols held it numbers is few used pl
     one_part tokens now parts mid parts_now symbols held (part_of it.span) _ (whole (token.Leaf (leaf.Punct it))) is few used grown refl refl
     ((finds (tables_of parts_now symbols) mid numbers it.span placed (stays_at mid parts_now used.keys), refl, refl), range)
 
--- The header of a subtree that is opened.
+-- The header of an open subtree.
 pub opened_held : (tokens now : List InternedToken) (parts mid parts_now : List (SpanPart × ℕ)) (symbols : List (List ℕ × ℕ)) (held : List HeldToken) (kind : DelimiterKind) (open_span : Span) (numbers : SpanNumbers)
     → AreHeld tokens parts symbols held → length held < 4294967296 → IsUsed same_part parts mid parts_now (part_of open_span) → IsPlaced mid numbers open_span
     → now ≡ tokens ++ interned.Open kind numbers ∷ [] → AreHeld now parts_now symbols (held ++ opened kind open_span ∷ [])
@@ -295,7 +295,7 @@ closed_held tokens now parts mid parts_now symbols held place kind open_span clo
 
 -- ---- the last token
 
--- A token that becomes alone means that token, alone.
+-- A token that becomes alone means its old token, alone.
 pub alone_named : (tables : Tables) (t : InternedToken) (it : TokenTree) → Names tables t (whole it) → Names tables (interned_alone t) (whole (token_alone it))
 alone_named tables (interned.Leaf (punct char spacing numbers)) (token.Leaf (leaf.Punct it)) named = ((named.0.0, named.0.1, refl), named.1)
 alone_named tables (interned.Leaf (punct char spacing numbers)) (token.Leaf (leaf.Ident it)) named = absurd named.0
@@ -311,7 +311,7 @@ alone_named tables (interned.Open kind numbers) it named = absurd named
 alone_named tables (interned.Header entry) (token.Leaf it) named = absurd named
 alone_named tables (interned.Header entry) (token.Subtree it) named = named
 
--- An open header stays one.
+-- An open header stays open.
 alone_open : (tables : Tables) (t : InternedToken) (kind : DelimiterKind) (open_span : Span) → Names tables t (opened kind open_span) → Names tables (interned_alone t) (opened kind open_span)
 alone_open tables (interned.Leaf (punct char spacing numbers)) kind open_span named = absurd named
 alone_open tables (interned.Leaf (ident symbol raw numbers)) kind open_span named = absurd named
@@ -319,7 +319,7 @@ alone_open tables (interned.Leaf (literal symbol k suffix_len numbers)) kind ope
 alone_open tables (interned.Open k numbers) kind open_span named = named
 alone_open tables (interned.Header entry) kind open_span named = absurd named
 
--- a token, alone if it is a punct; an open header stays
+-- the token, alone if it is a punct; an open header stays
 abbrev pub held_alone : HeldToken → HeldToken
 held_alone (whole it) = whole (token_alone it)
 held_alone (opened kind open_span) = opened kind open_span
@@ -358,7 +358,7 @@ alone_held tokens now parts symbols held place t is at changed =
     none : (x : SpanPart) → uses_of same_part [] x ≡ 0
     none x = refl
 
--- Nothing changes where no whole token stands at the place.
+-- Nothing changes if no whole token is at the place.
 pub none_alone : (held : List HeldToken) (place : ℕ) (h : HeldToken) → slice_get held place ≡ Some h → NoWholeAt held place → set held place (held_alone h) ≡ held
 none_alone held place (whole it) at none = absurd (none it at)
 none_alone held place (opened kind open_span) at none =

@@ -1,4 +1,4 @@
--- What holds of the entries of every interner.
+-- What holds for the entries of every interner.
 use Rattle.std.specs.List.{IsDistinct}
 use Rattle.std.specs.Map.{keys_of}
 use Rattle.std.specs.declared.cmp.PartialEq.{Ghosts as Equality}

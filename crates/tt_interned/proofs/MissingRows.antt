@@ -1,4 +1,4 @@
--- What stands at a place of a list in which headers may be open, and what does not, row by row.
+-- What is at a place of a list that may have open headers, and what is not, row by row.
 use Rattle.std.proofs.Common.{[], ◌∷◌, refl}
 use Rattle.tt_base.specs.declared.delimiter.DelimiterKind.{DelimiterKind}
 use Rattle.tt_base.specs.declared.delimiter.Subtree.{Subtree}
@@ -9,7 +9,7 @@ use Rattle.tt_interned.specs.Held.{whole, opened}
 use Rattle.tt_interned.specs.Missing.{NoOpenAt, NoHeaderAt, NoWholeAt}
 
 module _ (it : Leaf) (header : Subtree) (kind : DelimiterKind) (span : Span) where
-  -- Behind the last token there is nothing.
+  -- No token is after the last one.
   nothing_behind : NoOpenAt (opened kind span ∷ []) 1 × NoHeaderAt (whole (token.Subtree header) ∷ []) 1 × NoWholeAt (whole (token.Leaf it) ∷ []) 1
   nothing_behind = (λ k s at. cc at, λ h at. cc at, λ t at. cc at)
 

@@ -1,4 +1,4 @@
--- Tokens go on to mean the same where the values that they name keep their places.
+-- Tokens keep their meaning if the values that they name keep their places.
 use Rattle.std.proofs.Common.{◌≡◌, ℕ, zero, suc, List, [], ◌∷◌, ◌++◌, inl, inr, Some, length, take, set, slice_get, refl, subst, arith}
 use Rattle.tt_base.specs.declared.leaf.Leaf.{Leaf}
 use Rattle.tt_base.specs.declared.leaf.Leaf.TheVariants as leaf
@@ -24,7 +24,7 @@ use Rattle.tt_tables.specs.Uses.{leaf_symbols, token_parts}
 abbrev pub Keep : {X : Type 0} → (old now used : List X) → Type 0
 Keep {X} old now used = (i : ℕ) (x : X) → Member x used → slice_get old i ≡ Some x → slice_get now i ≡ Some x
 
--- A list that grows at its end keeps all.
+-- A list that grows at its end keeps all its values at their places.
 pub keeps_front : {X : Type 0} (old more : List X) (i : ℕ) (x : X) → slice_get old i ≡ Some x → slice_get (old ++ more) i ≡ Some x
 keeps_front [] more i x at = absurd (cc at)
 keeps_front (y ∷ old) more zero x at = at
@@ -50,7 +50,7 @@ leaf_stays tables now (ident symbol raw numbers) (leaf.Literal it) parts symbols
 leaf_stays tables now (literal symbol kind suffix_len numbers) (leaf.Punct it) parts symbols found = absurd found
 leaf_stays tables now (literal symbol kind suffix_len numbers) (leaf.Ident it) parts symbols found = absurd found
 
--- A token whose values keep their places.
+-- A token whose values keep their places keeps its meaning.
 pub name_stays : (tables now : Tables) (it : InternedToken) (held : HeldToken) → Keep tables.parts now.parts (counted_parts held) → Keep tables.symbols now.symbols (counted_symbols held)
     → Names tables it held → Names now it held
 name_stays tables now (interned.Leaf entry) (whole (token.Leaf it)) parts symbols named = (leaf_stays tables now entry it parts symbols named.0, named.1)
@@ -84,20 +84,20 @@ all_stay tables now [] (h ∷ held) keep named = absurd named
 all_stay tables now (t ∷ tokens) [] keep named = absurd named
 all_stay tables now (t ∷ tokens) (h ∷ held) keep named = (name_stays tables now t h keep.0 keep.1 named.0, all_stay tables now tokens held keep.2 named.1)
 
--- Where all values keep their places, so do these.
+-- If all values keep their places, the values of these tokens do.
 pub keep_all : (tables now : Tables) → ((i : ℕ) (x : SpanPart) → slice_get tables.parts i ≡ Some x → slice_get now.parts i ≡ Some x)
     → ((i : ℕ) (x : List ℕ) → slice_get tables.symbols i ≡ Some x → slice_get now.symbols i ≡ Some x) → (held : List HeldToken) → KeepAll tables now held
 keep_all tables now parts symbols [] = tt
 keep_all tables now parts symbols (h ∷ held) = (λ i x member at. parts i x at, λ i x member at. symbols i x at, keep_all tables now parts symbols held)
 
--- As many tokens are held.
+-- There are as many tokens as tokens held.
 pub length-named : (tables : Tables) (tokens : List InternedToken) (held : List HeldToken) → AllName tables tokens held → length tokens ≡ length held
 length-named tables [] [] named = refl
 length-named tables [] (h ∷ held) named = absurd named
 length-named tables (t ∷ tokens) [] named = absurd named
 length-named tables (t ∷ tokens) (h ∷ held) named = omega (arith, length-named tables tokens held named.1)
 
--- One token more.
+-- The same with one more token.
 pub named-push : (tables : Tables) (tokens : List InternedToken) (held : List HeldToken) (t : InternedToken) (h : HeldToken) → AllName tables tokens held → Names tables t h
     → AllName tables (tokens ++ t ∷ []) (held ++ h ∷ [])
 named-push tables [] [] t h named one = (one, tt)
@@ -105,7 +105,7 @@ named-push tables [] (g ∷ held) t h named one = absurd named
 named-push tables (s ∷ tokens) [] t h named one = absurd named
 named-push tables (s ∷ tokens) (g ∷ held) t h named one = (named.0, named-push tables tokens held t h named.1 one)
 
--- Another token at a place.
+-- The same with another token at a place.
 pub named-set : (tables : Tables) (tokens : List InternedToken) (held : List HeldToken) (i : ℕ) (t : InternedToken) (h : HeldToken) → AllName tables tokens held → Names tables t h
     → AllName tables (set tokens i t) (set held i h)
 named-set tables [] [] i t h named one = named
@@ -114,7 +114,7 @@ named-set tables (s ∷ tokens) [] i t h named one = absurd named
 named-set tables (s ∷ tokens) (g ∷ held) zero t h named one = (one, named.1)
 named-set tables (s ∷ tokens) (g ∷ held) (suc i) t h named one = (named.0, named-set tables tokens held i t h named.1 one)
 
--- The first so many.
+-- The same for the first n tokens.
 pub named-take : (tables : Tables) (tokens : List InternedToken) (held : List HeldToken) (n : ℕ) → AllName tables tokens held → AllName tables (take n tokens) (take n held)
 named-take tables tokens held zero named = tt
 named-take tables [] [] (suc n) named = tt
@@ -122,7 +122,7 @@ named-take tables [] (h ∷ held) (suc n) named = absurd named
 named-take tables (t ∷ tokens) [] (suc n) named = absurd named
 named-take tables (t ∷ tokens) (h ∷ held) (suc n) named = (named.0, named-take tables tokens held n named.1)
 
--- What stands at a place.
+-- The token at a place means the one held there.
 pub named_at : (tables : Tables) (tokens : List InternedToken) (held : List HeldToken) (i : ℕ) (t : InternedToken) → AllName tables tokens held → slice_get tokens i ≡ Some t
     → (h : HeldToken) × (slice_get held i ≡ Some h) × Names tables t h
 named_at tables [] held i t named at = absurd (cc at)

@@ -1,4 +1,4 @@
--- The header of tokens that are those of one node, and what stands behind it.
+-- The tokens of one node: its header, and the tokens after it.
 use Rattle.std.proofs.Common.{◌≡◌, ℕ, zero, suc, ◌-◌, ◌≤◌, false, Some, List, [], ◌∷◌, map, set, get_or, take, drop, length, bytes_eq, slice_get, refl, ap, ap₂, sym, subst, ◌∙◌, arith}
 use Rattle.std.specs.List.{AllByRecursion, IsDistinct}
 use Rattle.std.proofs.lemmas.List.{take_all}
@@ -30,7 +30,7 @@ use Rattle.tt_interned.specs.OneNode.{IsOneNode, BeginsWith, IsSpanAt, HasUseAt}
 
 -- ---- one use less
 
--- A part that differs from the one that stands first has no more uses by it.
+-- One more use of a part adds no use of other parts.
 apart_uses : (part : SpanPart) (others parts : List SpanPart) → AllByRecursion (λ x. same_part part x ≡ false) parts
     → map (uses_of same_part (part ∷ others)) parts ≡ map (uses_of same_part others) parts
 apart_uses part others [] apart = refl
@@ -60,7 +60,7 @@ taken (x ∷ parts) (suc place) part others n m distinct there read less = ap₂
     first : uses_of same_part (part ∷ others) x ≡ uses_of same_part others x
     first = omega (arith, uses-cons same_part part others x, ap one_if (all_at_place (λ z. same_part x z ≡ false) parts place part distinct.0 there))
 
--- There is a number at the place, and it is above 0.
+-- The number at the place exists, and is above 0.
 use_there : (parts : List SpanPart) (place : ℕ) (part : SpanPart) (others : List SpanPart) → slice_get parts place ≡ Some part
     → (n : ℕ) × (slice_get (map (uses_of same_part (part ∷ others)) parts) place ≡ Some (suc n))
 use_there [] place part others there = absurd (cc there)
@@ -73,21 +73,21 @@ use_there (x ∷ parts) zero part others there = (uses_of same_part others x, ap
     number = omega (arith, uses-cons same_part part others x, ap one_if (ap (λ z. same_part z part) is ∙ part_eq.lawful.laws.refl part))
 use_there (x ∷ parts) (suc place) part others there = use_there parts place part others there
 
--- So is the number of the uses that are noted.
+-- The same for the number among the counted uses.
 pub has_use : (parts : List SpanPart) (place : ℕ) (others : List SpanPart) (numbers : List ℕ) → HasUseAt parts place others numbers
     → (n : ℕ) × (slice_get numbers place ≡ Some (suc n))
 has_use parts place others numbers has =
     let (n, at) = use_there parts place has.part others has.there in
     (n, ap (λ l. slice_get l place) has.counted ∙ at)
 
--- It is read there.
+-- This number is the one that is read there.
 pub use_read : (parts : List SpanPart) (place : ℕ) (others : List SpanPart) (numbers : List ℕ) (m d : ℕ) → HasUseAt parts place others numbers → m ≡ get_or numbers place d
     → 1 ≤ m
 use_read parts place others numbers m d has read =
     let (n, at) = has_use parts place others numbers has in
     omega (arith, read, get_or_from_slice_get numbers place (suc n) d at)
 
--- With one less there the numbers are those of the others.
+-- With one less at the place the numbers are those of the other uses.
 pub use_taken : (parts : List SpanPart) (place : ℕ) (others : List SpanPart) (numbers : List ℕ) (m d : ℕ) → HasUseAt parts place others numbers → m ≡ get_or numbers place d
     → set numbers place (m - 1) ≡ map (uses_of same_part others) parts
 use_taken parts place others numbers m d has read =
@@ -95,9 +95,9 @@ use_taken parts place others numbers m d has read =
     let number : m ≡ suc n = read ∙ get_or_from_slice_get numbers place (suc n) d (ap (λ l. slice_get l place) has.counted ∙ at) in
     ap (λ l. set l place (m - 1)) has.counted ∙ taken parts place has.part others (suc n) (m - 1) has.distinct has.there at (ap (λ k. k - 1) number)
 
--- ---- the header and the tokens behind it
+-- ---- the header and the tokens after it
 
--- what is named where a header stands first
+-- the meaning of tokens that begin with a header
 pub record NamesNode (tables : Tables) (tokens : List InternedToken) (top : Subtree) (rest : List TokenTree) : Type 0 where
   pub entry : HeaderEntry
   pub below : List InternedToken
@@ -115,7 +115,7 @@ node_named tables (interned.Open kind numbers ∷ below) top rest named = absurd
 node_named tables (interned.Header entry ∷ below) top rest named =
     record { entry = entry; below = below; begins = refl; header = named.0.0; range = named.0.1; named = named.1 }
 
--- Another that stands first names it too.
+-- Any other token at the front names it too.
 header_named : (tables : Tables) (tokens : List InternedToken) (top : Subtree) (rest : List TokenTree) (entry : HeaderEntry) → NamesNode tables tokens top rest
     → BeginsWith tokens entry → FindsSubtree tables entry top
 header_named tables tokens top rest entry node first = subst (λ e. FindsSubtree tables e top) same node.header
@@ -141,7 +141,7 @@ module _ (it : CountedTokens) (one : IsOneNode (list_of it)) where
   list_is : list_of it ≡ token.Subtree one.top ∷ drop 1 (list_of it)
   list_is = one.list ∙ ap (λ l. token.Subtree one.top ∷ l) rest_is
 
-  -- The tokens behind the header mean what is behind it.
+  -- The tokens after the header mean the list after it.
   pub rest_of : (below : List InternedToken) (numbers : List ℕ) → below ≡ drop 1 it.tokens.now
       → numbers ≡ map (uses_of same_part (part_uses (drop 1 (list_of it)))) it.parts.now
       → AreOf below it.parts.now numbers it.symbols.now it.symbol_uses.now (drop 1 (list_of it))
@@ -159,14 +159,14 @@ module _ (it : CountedTokens) (one : IsOneNode (list_of it)) where
     named : FindsSubtree (tables_from it.parts.now it.symbols.now) entry one.top
     named = header_named (tables_from it.parts.now it.symbols.now) it.tokens.now one.top one.rest entry named_node first
 
-    -- Its spans are found.
+    -- The numbers name the header's spans.
     pub opening_at : IsSpanAt it.parts.now entry.opening one.top.delimiter.open_span
     opening_at = (it.symbols.now, named.opening, named_node.range.0)
 
     pub closing_at : IsSpanAt it.parts.now entry.closing one.top.delimiter.close
     closing_at = (it.symbols.now, named.closing, named_node.range.1)
 
-    -- A top of what is found is the header.
+    -- A header with these spans is the first one.
     pub top_is : (opening closing : Span) → opening ≡ one.top.delimiter.open_span → closing ≡ one.top.delimiter.close
         → list_of it ≡ header (delimiter entry.kind opening closing) (length (drop 1 (list_of it))) ∷ drop 1 (list_of it)
     top_is opening closing open_is close_is =
@@ -178,7 +178,7 @@ module _ (it : CountedTokens) (one : IsOneNode (list_of it)) where
         long : one.top.len ≡ length (drop 1 (list_of it))
         long = one.counted ∙ ap length rest_is
 
-    -- The uses of the header's two parts, and the others.
+    -- The uses are those of the header's two parts, and the others.
     pub opening_use : (numbers : List ℕ) → numbers ≡ it.part_uses.now
         → HasUseAt it.parts.now entry.opening.part (part_of one.top.delimiter.close ∷ part_uses (drop 1 (list_of it))) numbers
     opening_use numbers is = record {
@@ -192,7 +192,7 @@ module _ (it : CountedTokens) (one : IsOneNode (list_of it)) where
         → HasUseAt it.parts.now entry.closing.part (part_uses (drop 1 (list_of it))) numbers
     closing_use numbers counted = record { part = part_of one.top.delimiter.close; there = named.closing.part; distinct = it.list.1.distinct; counted = counted }
 
--- All behind the first.
+-- All items after the first.
 pub all_behind : {X : Type 0} (l : List X) → take (length l - 1) (drop 1 l) ≡ drop 1 l
 all_behind [] = take_all 0 [] (omega arith)
 all_behind (x ∷ l) = take_all (length (x ∷ l) - 1) l (omega arith)

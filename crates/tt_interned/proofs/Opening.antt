@@ -1,4 +1,4 @@
--- Where headers are open in a list, and what stands there.
+-- The places of the open headers of a list, and the tokens there.
 use Rattle.std.proofs.Common.{◌≡◌, ℕ, zero, suc, ◌+◌, ◌<◌, ◌≤◌, List, [], ◌∷◌, ◌++◌, Some, length, map, take, drop, set, slice_get, refl, ap, ap₂, sym, ◌∙◌, arith}
 use Rattle.std.specs.List.{AllByRecursion, remove}
 use Rattle.tt_base.specs.declared.delimiter.DelimiterKind.{DelimiterKind}
@@ -6,20 +6,20 @@ use Rattle.tt_base.specs.declared.span.Span.{Span}
 use Rattle.tt_base.specs.declared.token_tree.TokenTree.{TokenTree}
 use Rattle.tt_interned.specs.Held.{HeldToken, whole, opened, as_token, open_places}
 
--- A whole token more.
+-- One more whole token opens no header.
 pub open_places-whole : (first : ℕ) (held : List HeldToken) (it : TokenTree) → open_places first (held ++ whole it ∷ []) ≡ open_places first held
 open_places-whole first [] it = refl
 open_places-whole first (whole x ∷ held) it = open_places-whole (suc first) held it
 open_places-whole first (opened kind open_span ∷ held) it = ap (λ l. first ∷ l) (open_places-whole (suc first) held it)
 
--- More of them.
+-- More whole tokens open no header.
 pub open_places-wholes : (first : ℕ) (held : List HeldToken) (tokens : List TokenTree) → open_places first (held ++ map whole tokens) ≡ open_places first held
 open_places-wholes first [] [] = refl
 open_places-wholes first [] (t ∷ tokens) = open_places-wholes (suc first) [] tokens
 open_places-wholes first (whole x ∷ held) tokens = open_places-wholes (suc first) held tokens
 open_places-wholes first (opened kind open_span ∷ held) tokens = ap (λ l. first ∷ l) (open_places-wholes (suc first) held tokens)
 
--- An open header more.
+-- One more open header comes last.
 pub open_places-opened : (first : ℕ) (held : List HeldToken) (kind : DelimiterKind) (open_span : Span)
     → open_places first (held ++ opened kind open_span ∷ []) ≡ open_places first held ++ (first + length held) ∷ []
 open_places-opened first [] kind open_span = ap (λ n. n ∷ []) (omega arith)
@@ -42,7 +42,7 @@ all_from first (opened kind open_span ∷ held) = (omega arith, later (open_plac
     later [] all = tt
     later (p ∷ places) all = (omega (arith, all.0), later places all.1)
 
--- The innermost open header is one, and where it is given all, the others stay open.
+-- the header is the innermost open one; if it becomes whole, the others stay open
 pub record IsInnermost (first : ℕ) (held : List HeldToken) (outer : List ℕ) (i : ℕ) : Type 0 where
   pub kind : DelimiterKind
   pub open_span : Span
@@ -81,7 +81,7 @@ innermost_open first (opened k s ∷ held) (o ∷ outer) (suc i) place e at =
     let same : first ≡ o = cc e in
     record { kind = rest.kind; open_span = rest.open_span; there = rest.there; closed = λ it. ap₂ ◌∷◌ same (rest.closed it) }
 
--- The first so many tokens have the open headers that stand before their end.
+-- The first n tokens have the open headers that come before their end.
 pub open_places-take : (first : ℕ) (held : List HeldToken) (n end depth : ℕ) → end ≡ first + n
     → AllByRecursion (λ place. place < end) (take depth (open_places first held)) → AllByRecursion (λ place. end ≤ place) (drop depth (open_places first held))
     → open_places first (take n held) ≡ take depth (open_places first held)
@@ -98,7 +98,7 @@ open_places-take first (opened k s ∷ held) (suc n) end zero e before behind = 
 open_places-take first (opened k s ∷ held) (suc n) end (suc depth) e before behind =
     ap (λ l. first ∷ l) (open_places-take (suc first) held n end depth (omega (arith, e)) before.1 behind)
 
--- A whole token behind all open headers goes.
+-- Without a whole token after all open headers, the same headers are open.
 pub open_places-remove : (first : ℕ) (held : List HeldToken) (i place : ℕ) (it : TokenTree) → slice_get held i ≡ Some (whole it) → place ≡ first + i
     → AllByRecursion (λ p. p < place) (open_places first held) → open_places first (remove held i) ≡ open_places first held
 open_places-remove first [] i place it at e before = absurd (cc at)
@@ -120,7 +120,7 @@ open_places-remove first (whole x ∷ held) (suc i) place it at e before = open_
 open_places-remove first (opened k s ∷ held) (suc i) place it at e before =
     ap (λ l. first ∷ l) (open_places-remove (suc first) held i place it at (omega (arith, e)) before.1)
 
--- A token at a place where no header is open is whole.
+-- A token after all open headers is whole.
 pub whole_at : (first : ℕ) (held : List HeldToken) (i place : ℕ) (h : HeldToken) → slice_get held i ≡ Some h → place ≡ first + i → AllByRecursion (λ p. p < place) (open_places first held)
     → slice_get held i ≡ Some (whole (as_token h))
 whole_at first [] i place h at e before = absurd (cc at)
@@ -131,13 +131,13 @@ whole_at first (opened k s ∷ held) zero place h at e before = absurd (omega (a
 whole_at first (whole x ∷ held) (suc i) place h at e before = whole_at (suc first) held i place h at (omega (arith, e)) before
 whole_at first (opened k s ∷ held) (suc i) place h at e before = whole_at (suc first) held i place h at (omega (arith, e)) before.1
 
--- Where no header is open, all tokens are whole.
+-- If no header is open, all tokens are whole.
 pub all_whole : (first : ℕ) (held : List HeldToken) → open_places first held ≡ [] → held ≡ map whole (map as_token held)
 all_whole first [] e = refl
 all_whole first (whole x ∷ held) e = ap (λ l. whole x ∷ l) (all_whole (suc first) held e)
 all_whole first (opened k s ∷ held) e = absurd (cc e)
 
--- Another whole token in the place of one.
+-- With another whole token in the place of one, the same headers are open.
 pub open_places-set : (first : ℕ) (held : List HeldToken) (i : ℕ) (old new : TokenTree) → slice_get held i ≡ Some (whole old) → open_places first (set held i (whole new)) ≡ open_places first held
 open_places-set first [] i old new at = absurd (cc at)
 open_places-set first (whole x ∷ held) zero old new at = refl

@@ -1,4 +1,4 @@
--- Values that stand in the order of their first uses, where one use more comes, or all from a place on go.
+-- Values in the order of their first uses, after one more use, and after all uses from a place on are removed.
 use Rattle.std.proofs.Common.{◌≡◌, ℕ, zero, suc, ◌<◌, ◌≤◌, ◌⊎◌, inl, inr, Bool, true, false, cond, ◌||◌, List, [], ◌∷◌, ◌++◌, Some, length, take, drop, slice_get, refl, ap, ap₂, sym, subst, ◌∙◌, arith, append_assoc, append-nil}
 use Rattle.std.proofs.lemmas.Map.Entries.{length-keys_of}
 use Rattle.std.proofs.lemmas.Option.{slice_get_within}
@@ -12,18 +12,18 @@ use Rattle.tt_tables.proofs.Different.{different-snoc, any-different, not_used, 
 use Rattle.tt_tables.specs.Counts.{CountsUses}
 use Rattle.tt_tables.specs.TableOrder.{different, uses_of}
 
--- Keys of lists behind each other.
+-- The keys of two lists, one after the other.
 pub keys_joined : {X : Type 0} (xs ys : List (X × ℕ)) → keys_of (xs ++ ys) ≡ keys_of xs ++ keys_of ys
 keys_joined [] ys = refl
 keys_joined (x ∷ xs) ys = ap (λ l. x.0 ∷ l) (keys_joined xs ys)
 
--- The first so many keys.
+-- The first n keys.
 pub keys_cut : {X : Type 0} (xs : List (X × ℕ)) (n : ℕ) → keys_of (take n xs) ≡ take n (keys_of xs)
 keys_cut xs zero = refl
 keys_cut [] (suc n) = refl
 keys_cut (x ∷ xs) (suc n) = ap (λ l. x.0 ∷ l) (keys_cut xs n)
 
--- What stands at a place of the second of two lists, or of the first.
+-- A value at a place of two lists is at a place of the second one, or in the first.
 at_seam : {X : Type 0} (xs ys : List X) (i : ℕ) (x : X) → slice_get (xs ++ ys) i ≡ Some x
     → ((i < length xs) × (slice_get xs i ≡ Some x)) ⊎ ((length xs ≤ i) × ((j : ℕ) × (slice_get ys j ≡ Some x)))
 at_seam [] ys i x at = inr (omega arith, (i, at))
@@ -35,7 +35,7 @@ at_seam (y ∷ xs) ys (suc i) x at = by_rest (at_seam xs ys i x at)
     by_rest (inl h) = inl (omega (arith, h.0), h.1)
     by_rest (inr h) = inr (omega (arith, h.0), h.1)
 
--- What holds of all items of a list holds of the one at a place.
+-- What holds for all items of a list holds for the one at a place.
 all_at : {X : Type 0} (P : X → Type 0) (xs : List X) (i : ℕ) (x : X) → AllByRecursion P xs → slice_get xs i ≡ Some x → P x
 all_at P [] i x all at = absurd (cc at)
 all_at P (y ∷ xs) zero x all at =
@@ -43,7 +43,7 @@ all_at P (y ∷ xs) zero x all at =
     subst P is all.0
 all_at P (y ∷ xs) (suc i) x all at = all_at P xs i x all.1 at
 
--- A list reaches to a place that is within it.
+-- A list has an item at each place less than its length.
 something_at : {X : Type 0} (xs : List X) (i : ℕ) → i < length xs → (x : X) × (slice_get xs i ≡ Some x)
 something_at [] i h = absurd (none h)
   where
@@ -52,7 +52,7 @@ something_at [] i h = absurd (none h)
 something_at (x ∷ xs) zero h = (x, refl)
 something_at (x ∷ xs) (suc i) h = something_at xs i (omega arith)
 
--- What stands behind those that are dropped.
+-- The item after the dropped ones comes first.
 dropped_at : {X : Type 0} (xs : List X) (n : ℕ) (x : X) → slice_get xs n ≡ Some x → slice_get (drop n xs) 0 ≡ Some x
 dropped_at [] n x at = absurd (cc at)
 dropped_at (y ∷ xs) zero x at = at
@@ -66,14 +66,14 @@ take_front {X} xs ys n e = ap (λ m. take m (xs ++ ys)) e ∙ whole xs ys
     whole [] ys = refl
     whole (x ∷ xs) ys = ap (λ l. x ∷ l) (whole xs ys)
 
--- `same` tells whether two values are equal
+-- `same` is whether two values are equal
 module _ {X : Type 0} (same : X → X → Bool) (laws : IsEquivalence same) (sound : (x y : X) → same x y ≡ true → x ≡ y) where
-  -- A search by the one side is one by the other.
+  -- A search by one side of the test is a search by the other.
   any_turned : (xs : List X) (x : X) → list_any (λ z. same z x) xs ≡ list_any (same x) xs
   any_turned [] x = refl
   any_turned (y ∷ xs) x = ap₂ (λ a b. a || b) (laws.symm y x) (any_turned xs x)
 
-  -- The keys are those before, and a value that is new.
+  -- The keys are the old ones, and the value if it is new.
   pub keys_with : (entries : List (X × ℕ)) (x : X) → keys_of (with_entry same entries x) ≡ cond (list_any (same x) (keys_of entries)) (keys_of entries) (keys_of entries ++ x ∷ [])
   keys_with entries x = by_test (list_any (same x) (keys_of entries))
     where
@@ -81,7 +81,7 @@ module _ {X : Type 0} (same : X → X → Bool) (laws : IsEquivalence same) (sou
       by_test true = refl
       by_test false = keys_joined entries ((x, 0) ∷ [])
 
-  -- One use more.
+  -- The order after one more use.
   pub in_order_more : (uses : List X) (entries : List (X × ℕ)) (x : X) → keys_of entries ≡ different same uses → keys_of (with_entry same entries x) ≡ different same (uses ++ x ∷ [])
   in_order_more uses entries x order =
       keys_with entries x
@@ -89,7 +89,7 @@ module _ {X : Type 0} (same : X → X → Bool) (laws : IsEquivalence same) (sou
       ∙ ap (λ t. cond t (different same uses) (different same uses ++ x ∷ [])) (sym (any_turned (different same uses) x))
       ∙ sym (different-snoc same laws uses x)
 
-  -- The values that two lists use are those that the first uses, and then others.
+  -- The different values of two lists are those of the first, and then others.
   pub different-append : (xs ys : List X) → (rest : List X) × (different same (xs ++ ys) ≡ different same xs ++ rest) × AllByRecursion (λ z. uses_of same xs z ≡ 0) rest
   different-append xs [] = ([], ap (different same) (append-nil xs) ∙ sym (append-nil (different same xs)), tt)
   different-append xs (y ∷ ys) =
@@ -112,7 +112,7 @@ module _ {X : Type 0} (same : X → X → Bool) (laws : IsEquivalence same) (sou
         (not_used same laws xs y (sym (any-different same laws xs y) ∙ e), unused),
       )
 
-  -- A value that stands in a list equals one of it.
+  -- A value at a place of a list equals a value of the list.
   found_any : (xs : List X) (i : ℕ) (x : X) → slice_get xs i ≡ Some x → list_any (λ z. same z x) xs ≡ true
   found_any [] i x at = absurd (cc at)
   found_any (y ∷ xs) zero x at =
@@ -128,12 +128,12 @@ module _ {X : Type 0} (same : X → X → Bool) (laws : IsEquivalence same) (sou
   pub different_used : (uses : List X) (i : ℕ) (x : X) → slice_get (different same uses) i ≡ Some x → 0 < uses_of same uses x
   different_used uses i x at = is_used same laws uses x (sym (any-different same laws uses x) ∙ found_any (different same uses) i x at)
 
-  -- The number that stands beside a key is that of its uses.
+  -- The number beside a key is its number of uses.
   number_beside : (uses : List X) (entries : List (X × ℕ)) (i : ℕ) (x : X) (n : ℕ) → IsDistinct same (keys_of entries) → CountsUses same uses entries
       → slice_get (keys_of entries) i ≡ Some x → slice_get (values_of entries) i ≡ Some n → n ≡ uses_of same uses x
   number_beside uses entries i x n distinct right at number = sym (number_at same laws entries i x n distinct (entry_at entries i x n at number)) ∙ right x
 
-  -- The later uses are gone, and so are the entries of no uses behind all others: the keys are what the earlier uses have.
+  -- After the later uses and the last entries without uses are removed, the keys are the different values of the earlier uses.
   pub in_order_cut : (before later : List X) (entries cut : List (X × ℕ)) → IsDistinct same (keys_of entries) → keys_of entries ≡ different same (before ++ later) → CountsUses same before entries
       → IsCut entries cut → keys_of cut ≡ different same before
   in_order_cut before later entries cut distinct order right is =

@@ -1,4 +1,4 @@
--- What is packed of what is held.
+-- The counted tokens of what is held.
 use Rattle.std.proofs.Common.{◌≡◌, ℕ, suc, Bool, bytes_eq, List, [], ◌∷◌, ◌++◌, Some, map, length, slice_get, refl, ap, ap₂, sym, subst, ◌∙◌}
 use Rattle.std.proofs.lemmas.List.{length-map}
 use Rattle.std.specs.Cmp.{IsEquivalence}
@@ -21,18 +21,18 @@ use Rattle.tt_tables.specs.Counts.{CountsUses}
 use Rattle.tt_tables.specs.TableOrder.{different, uses_of}
 use Rattle.tt_tables.specs.Uses.{same_part, part_uses, symbol_uses}
 
--- The numbers beside keys, where each is what a function says of its key.
+-- The numbers beside keys, if a function gives the number of each key.
 numbers_told : {X : Type 0} (f : X → ℕ) (entries : List (X × ℕ)) → ((i : ℕ) (x : X) (n : ℕ) → slice_get entries i ≡ Some (x, n) → n ≡ f x) → values_of entries ≡ map f (keys_of entries)
 numbers_told f [] told = refl
 numbers_told f (entry ∷ entries) told = ap₂ ◌∷◌ (told 0 entry.0 entry.1 refl) (numbers_told f entries (λ i x n at. told (suc i) x n at))
 
--- The numbers of uses beside keys that stand apart.
+-- The numbers of uses beside different keys.
 pub numbers_are : {X : Type 0} (same : X → X → Bool) → IsEquivalence same → (uses : List X) (entries : List (X × ℕ)) → IsDistinct same (keys_of entries) → CountsUses same uses entries
     → values_of entries ≡ map (uses_of same uses) (keys_of entries)
 numbers_are same laws uses entries distinct right =
     numbers_told (uses_of same uses) entries (λ i x n at. sym (number_at same laws entries i x n distinct at) ∙ right x)
 
--- Whole tokens use what they do in a list of tokens.
+-- Whole tokens have the uses of the same tokens in a list.
 pub parts_in-whole : (list : List TokenTree) → parts_in (map whole list) ≡ part_uses list
 parts_in-whole [] = refl
 parts_in-whole (it ∷ list) = ap (λ l. counted_parts (whole it) ++ l) (parts_in-whole list)
@@ -41,7 +41,7 @@ pub symbols_in-whole : (list : List TokenTree) → symbols_in (map whole list) �
 symbols_in-whole [] = refl
 symbols_in-whole (it ∷ list) = ap (λ l. counted_symbols (whole it) ++ l) (symbols_in-whole list)
 
--- What is packed: all tokens, of which none is open, by numbers of uses that may be taken anew.
+-- If no header is open, the tokens held have these counts of uses.
 pub counted_of : (tokens : List InternedToken) (parts : List (SpanPart × ℕ)) (symbols : List (List ℕ × ℕ)) (held : List HeldToken)
     → AllName (tables_of parts symbols) tokens held → IsDistinct same_part (keys_of parts) → CountsUses same_part (parts_in held) parts
     → IsDistinct bytes_eq (keys_of symbols) → CountsUses bytes_eq (symbols_in held) symbols → keys_of symbols ≡ different bytes_eq (symbols_in held)
@@ -65,7 +65,7 @@ counted_of tokens parts symbols held named distinct right symbol_distinct symbol
     symbol_list : symbols_in held ≡ symbol_uses list
     symbol_list = ap symbols_in all ∙ symbols_in-whole list
 
--- The same in slices of the same items.
+-- The same for slices of the same items.
 pub counted_from : (tokens tokens_now : List InternedToken) (parts parts_now : List SpanPart) (part_numbers part_numbers_now : List ℕ) (symbols symbols_now : List (List ℕ)) (symbol_numbers symbol_numbers_now : List ℕ) (list : List TokenTree)
     → AreOf tokens parts part_numbers symbols symbol_numbers list → tokens_now ≡ tokens → parts_now ≡ parts → part_numbers_now ≡ part_numbers → symbols_now ≡ symbols → symbol_numbers_now ≡ symbol_numbers
     → AreOf tokens_now parts_now part_numbers_now symbols_now symbol_numbers_now list
@@ -76,6 +76,6 @@ counted_from tokens tokens_now parts parts_now part_numbers part_numbers_now sym
     (subst (λ s. AreOf tokens parts part_numbers s symbol_numbers_now list) (sym e₄)
     (subst (λ n. AreOf tokens parts part_numbers symbols n list) (sym e₅) are))))
 
--- There is a token for each that is meant.
+-- There are as many tokens as tokens of the list.
 pub as_many_tokens : (it : CountedTokens) → length (tokens_of it) ≡ length (list_of it)
 as_many_tokens it = length-named _ (tokens_of it) (map whole (list_of it)) (counted_are it).named ∙ length-map (list_of it) whole

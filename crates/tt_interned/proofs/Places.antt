@@ -1,4 +1,4 @@
--- What calls make of values at places, each beside its number of uses.
+-- How calls change values at places, each beside its number of uses.
 use Rattle.std.proofs.Common.{◌≡◌, ℕ, zero, suc, ◌+◌, ◌-◌, ◌<◌, ◌≤◌, Bool, true, false, cond, ◌||◌, if◌then◌else◌, Some, List, [], ◌∷◌, ◌++◌, length, nat_eq, nat_lt, slice_get, Result, Ok, Err, OnOk, OnErr, refl, ap, sym, subst, ◌∙◌, arith}
 use Rattle.std.proofs.lemmas.Bool.{lt-ltb, ne_eqb}
 use Rattle.std.proofs.lemmas.Option.{slice_get-map}
@@ -17,11 +17,11 @@ use mir.Val.{bool_byte}
 -- ---- a value gets an entry, unless it has one
 
 module _ {X : Type 0} (same : X → X → Bool) where
-  -- A value that is there gets none.
+  -- A value that has an entry gets none.
   pub entry_there : (counts : List (X × ℕ)) (x : X) → list_any (same x) (keys_of counts) ≡ true → with_entry same counts x ≡ counts
   entry_there counts x some = ap (λ t. if t then counts else counts ++ (x, 0) ∷ []) some
 
-  -- Entered with no uses, and with the number that it had, a value has an entry.
+  -- A value has an entry after it is entered with no uses, or with its old number.
   pub entered_is : (counts : List (X × ℕ)) (x : X) → entered same 0 (λ n. n) counts x ≡ with_entry same counts x
   entered_is [] x = refl
   entered_is (entry ∷ counts) x = by_test (same x entry.0) (list_any (same x) (keys_of counts)) (entered_is counts x)
@@ -42,7 +42,7 @@ uses_at : {X : Type 0} (counts : List (X × ℕ)) (i : ℕ) (x : X) (n : ℕ) �
 uses_at counts i x n at = slice_get-map (λ entry. entry.1) counts i ∙ ap (option_map (λ entry. entry.1)) at
 
 module _ {X : Type 0} (counts : List (X × ℕ)) (i : ℕ) (x : X) (n : ℕ) (stands : slice_get counts i ≡ Some (x, n)) where
-  -- One use more, and a value more with uses where it is the first.
+  -- With one use more at the place, one value more has uses if it had none.
   pub used_more : used_count counts + bool_byte (nat_eq n 0) ≡ used_count (set_value_at counts i (n + 1))
   used_more = by_number n (used_set counts i n (n + 1) (uses_at counts i x n stands))
     where
@@ -52,7 +52,7 @@ module _ {X : Type 0} (counts : List (X × ℕ)) (i : ℕ) (x : X) (n : ℕ) (st
       by_number (suc k) e =
           omega (arith, e, ap one_if (lt-ltb 0 (n + 1) (omega arith)), ap one_if (lt-ltb 0 (suc k) (omega arith)), ap bool_byte (ne_eqb (suc k) 0 (λ none. omega (arith, none))))
 
-  -- There are no more of them than values.
+  -- There are no more values with uses than values.
   pub used_within : used_count counts + bool_byte (nat_eq n 0) ≤ length counts
   used_within = omega (arith, used_more, used-le (set_value_at counts i (n + 1)), as_long counts i)
     where
@@ -61,7 +61,7 @@ module _ {X : Type 0} (counts : List (X × ℕ)) (i : ℕ) (x : X) (n : ℕ) (st
       as_long (entry ∷ more) zero = refl
       as_long (entry ∷ more) (suc k) = ap suc (as_long more k)
 
-  -- One use less, and a value less with uses where it was the last.
+  -- With one use less at the place, one value less has uses if this was its last.
   pub used_less : 0 < n → used_count (set_value_at counts i (n - 1)) + bool_byte (nat_eq n 1) ≡ used_count counts
   used_less some = by_number n some (used_set counts i n (n - 1) (uses_at counts i x n stands))
     where
@@ -78,7 +78,7 @@ module _ {X : Type 0} (counts : List (X × ℕ)) (i : ℕ) (x : X) (n : ℕ) (st
             ap bool_byte (ne_eqb (suc (suc k)) 1 (λ last. omega (arith, last))),
           )
 
-  -- Its value stands at the place, and no other.
+  -- The value is at the place.
   pub stands_at : slice_get (keys_of counts) i ≡ Some x
   stands_at = key_at counts i x n stands
 
@@ -104,19 +104,19 @@ module _ {X : Type 0} (counts : List (X × ℕ)) (i : ℕ) (x : X) (n : ℕ) (st
         subst (λ z. CountsMore same (z ∷ []) (set_value_at counts i (n - 1)) counts) (one_value y at)
         (counts_one_less same laws sound counts i x n (n - 1) distinct stands (omega (arith, some)))
 
--- The values stay.
+-- The values stay if a number changes.
 pub keys_kept : {X : Type 0} (counts : List (X × ℕ)) (i m : ℕ) → keys_of (set_value_at counts i m) ≡ keys_of counts
 keys_kept [] i m = refl
 keys_kept (entry ∷ counts) zero m = refl
 keys_kept (entry ∷ counts) (suc i) m = ap (λ keys. entry.0 ∷ keys) (keys_kept counts i m)
 
--- No value stands behind all.
+-- No value is after the last place.
 pub no_value_behind : {X : Type 0} (counts : List (X × ℕ)) (i : ℕ) (x : X) → length counts ≤ i → slice_get (keys_of counts) i ≡ Some x → ⊥
 no_value_behind [] i x past at = absurd (cc at)
 no_value_behind (entry ∷ counts) zero x past at = absurd (omega (arith, past))
 no_value_behind (entry ∷ counts) (suc i) x past at = no_value_behind counts i x (omega (arith, past)) at
 
--- Entries that are copies one by one are the same.
+-- Entries that are copies of others, one by one, are equal to them.
 pub copied : {X : Type 0} (is_copy : X → X → Type 0) → ((x y : X) → is_copy x y → y ≡ x) → (counts now : List (X × ℕ)) → AllZip (λ p q. is_copy p.0 q.0 × (q.1 ≡ p.1)) counts now → now ≡ counts
 copied is_copy copies [] [] all = refl
 copied is_copy copies [] (q ∷ now) all = absurd all
@@ -124,10 +124,10 @@ copied is_copy copies (p ∷ counts) [] all = absurd all
 copied is_copy copies (p ∷ counts) (q ∷ now) all =
     ap (λ k. (k, q.1) ∷ now) (copies p.0 q.0 all.0.0) ∙ ap (λ m. (p.0, m) ∷ now) all.0.1 ∙ ap (λ rest. p ∷ rest) (copied is_copy copies counts now all.1)
 
--- ---- what is left where a value gets an entry, or memory is wanting for it
+-- ---- after a value gets an entry, or memory runs out for it
 
 module _ {X R E : Type 0} (same : X → X → Bool) (result : Result R E) (old now : List (X × ℕ)) where
-  -- The values are different still.
+  -- The values are still different.
   pub distinct_still : IsDistinct same (keys_of old) → OnOk result (IsDistinct same (keys_of now)) → OnErr result (now ≡ old) → IsDistinct same (keys_of now)
   distinct_still distinct = by_result result
     where
@@ -135,7 +135,7 @@ module _ {X R E : Type 0} (same : X → X → Bool) (result : Result R E) (old n
       by_result (Ok v) ok err = ok
       by_result (Err e) ok err = subst (λ entries. IsDistinct same (keys_of entries)) (sym err) distinct
 
-  -- As many have uses.
+  -- As many values have uses as before.
   pub used_still : (x : X) → OnOk result (now ≡ with_entry same old x) → OnErr result (now ≡ old) → used_count now ≡ used_count old
   used_still x = by_result result
     where

@@ -1,4 +1,4 @@
--- What stands at a place of what is held, and from a place on.
+-- The tokens held at a place, and from a place on.
 use Rattle.std.proofs.Common.{◌≡◌, ℕ, zero, suc, ◌-◌, ◌⊎◌, inl, inr, min, take, drop, length-drop, ◌<◌, ◌≤◌, bytes_eq, List, [], ◌∷◌, Some, length, get_or, slice_get, refl, ap, sym, subst, ◌∙◌, arith}
 use Rattle.std.specs.Map.{keys_of}
 use Rattle.tt_base.specs.declared.delimiter.DelimiterKind.{DelimiterKind}
@@ -24,7 +24,7 @@ use Rattle.tt_tables.specs.TableOrder.{uses_of}
 use Rattle.tt_tables.specs.Tables.{Tables}
 use Rattle.tt_tables.specs.Uses.{same_part}
 
--- Nothing is held past the end of the tokens.
+-- No token is held after the end of the list.
 pub past_end : (tokens : List InternedToken) (parts : List (SpanPart × ℕ)) (symbols : List (List ℕ × ℕ)) (held : List HeldToken) (place : ℕ) (h : HeldToken) → AreHeld tokens parts symbols held
     → length tokens ≤ place → slice_get held place ≡ Some h → ⊥
 past_end tokens parts symbols held place h is past at = omega (arith, length-named _ tokens held is.named, slice_get_within held place h at, past)
@@ -34,7 +34,7 @@ pub held_at : (tokens : List InternedToken) (parts : List (SpanPart × ℕ)) (sy
     → slice_get tokens place ≡ Some t → (h : HeldToken) × (slice_get held place ≡ Some h) × Names (tables_of parts symbols) t h
 held_at tokens parts symbols held place t is at = named_at (tables_of parts symbols) tokens held place t is.named at
 
--- an open header stands at the place, and means one
+-- an open header is at the place, and means one
 pub record IsOpenAt (parts : List (SpanPart × ℕ)) (symbols : List (List ℕ × ℕ)) (held : List HeldToken) (place : ℕ) (kind_named : DelimiterKind) (numbers : SpanNumbers) : Type 0 where
   pub kind : DelimiterKind
   pub open_span : Span
@@ -49,7 +49,7 @@ open_at tokens parts symbols held place kind numbers is at = by_held (held_at to
     by_held (opened k s, there, named) = record { kind = k; open_span = s; there = there; named = named }
     by_held (whole it, there, named) = absurd named
 
--- No other token means one.
+-- No other token means an open header.
 pub not_open_at : (tokens : List InternedToken) (parts : List (SpanPart × ℕ)) (symbols : List (List ℕ × ℕ)) (held : List HeldToken) (place : ℕ) (t : InternedToken) (kind : DelimiterKind) (open_span : Span)
     → AreHeld tokens parts symbols held → slice_get tokens place ≡ Some t → slice_get held place ≡ Some (opened kind open_span)
     → (k : DelimiterKind) × ((numbers : SpanNumbers) × (t ≡ interned.Open k numbers))
@@ -66,11 +66,11 @@ not_open_at tokens parts symbols held place t kind open_span is at there = by_he
         let one : h ≡ opened kind open_span = cc both in
         by_token t (subst (Names (tables_of parts symbols) t) one named)
 
--- A token that was read at a place stands there.
+-- A token that is read at a place is there.
 pub token_there : (tokens : List InternedToken) (place n : ℕ) (read t : InternedToken) → n ≡ length tokens → place < n → read ≡ get_or tokens place read → read ≡ t → slice_get tokens place ≡ Some t
 token_there tokens place n read t counted within at is = slice_get_read tokens n place read counted within at ∙ ap Some is
 
--- Where a header is meant, a header stands.
+-- A token that means a header is a header.
 pub header_at : (tokens : List InternedToken) (parts : List (SpanPart × ℕ)) (symbols : List (List ℕ × ℕ)) (held : List HeldToken) (place : ℕ) (t : InternedToken) (it : Subtree)
     → AreHeld tokens parts symbols held → slice_get tokens place ≡ Some t → slice_get held place ≡ Some (whole (token.Subtree it)) → (entry : HeaderEntry) × (t ≡ interned.Header entry)
 header_at tokens parts symbols held place t it is at there = by_held (held_at tokens parts symbols held place t is at)
@@ -86,7 +86,7 @@ header_at tokens parts symbols held place t it is at there = by_held (held_at to
         let one : h ≡ whole (token.Subtree it) = cc both in
         by_token t (subst (Names (tables_of parts symbols) t) one named)
 
--- A header that stands at a place means one that is closed.
+-- A header at a place means a closed one.
 pub closed_at : (tokens : List InternedToken) (parts : List (SpanPart × ℕ)) (symbols : List (List ℕ × ℕ)) (held : List HeldToken) (place : ℕ) (entry : HeaderEntry)
     → AreHeld tokens parts symbols held → slice_get tokens place ≡ Some (interned.Header entry) → (it : Subtree) × (slice_get held place ≡ Some (whole (token.Subtree it)))
 closed_at tokens parts symbols held place entry is at = by_held (held_at tokens parts symbols held place (interned.Header entry) is at)
@@ -96,7 +96,7 @@ closed_at tokens parts symbols held place entry is at = by_held (held_at tokens 
     by_held (whole (token.Leaf it), there, named) = absurd named
     by_held (opened kind open_span, there, named) = absurd named
 
--- A header that stands at a place, its parts and that these have uses.
+-- a header is at the place, with its parts, which have these uses
 pub record HeaderThere (parts : List (SpanPart × ℕ)) (held : List HeldToken) (place : ℕ) (entry : HeaderEntry) : Type 0 where
   pub it : HeldToken
   pub there : slice_get held place ≡ Some it
@@ -134,18 +134,18 @@ named-drop tables [] (h ∷ held) (suc n) named = absurd named
 named-drop tables (t ∷ tokens) [] (suc n) named = absurd named
 named-drop tables (t ∷ tokens) (h ∷ held) (suc n) named = named-drop tables tokens held n named.1
 
--- All items from a place on, of which no more than there are are taken.
+-- All items from a place on, taken by their number.
 rest_taken : {X : Type 0} (n : ℕ) (xs : List X) → take (length xs - n) (drop n xs) ≡ drop n xs
 rest_taken n xs = take_all (length xs - n) (drop n xs) (omega (arith, length-drop n xs))
 
--- They are named.
+-- The tokens from the place on have a meaning.
 pub rest_named : (tokens seen_tokens : List InternedToken) (parts : List (SpanPart × ℕ)) (symbols : List (List ℕ × ℕ)) (held : List HeldToken) (n : ℕ) → AreHeld tokens parts symbols held → seen_tokens ≡ tokens
     → AllName (tables_of parts symbols) (take (length seen_tokens - n) (drop n seen_tokens)) (drop n held)
 rest_named tokens seen_tokens parts symbols held n is same =
     subst (λ l. AllName (tables_of parts symbols) l (drop n held)) (sym (rest_taken n seen_tokens))
     (subst (λ l. AllName (tables_of parts symbols) (drop n l) (drop n held)) (sym same) (named-drop (tables_of parts symbols) tokens held n is.named))
 
--- So they can be uncounted.
+-- So their uses can be removed.
 pub can_take_rest : (tokens seen_tokens : List InternedToken) (parts : List (SpanPart × ℕ)) (symbols : List (List ℕ × ℕ)) (held : List HeldToken) (n : ℕ) → AreHeld tokens parts symbols held → seen_tokens ≡ tokens
     → CanTakeAll parts symbols (take (length seen_tokens - n) (drop n seen_tokens))
 can_take_rest tokens seen_tokens parts symbols held n is same =
@@ -168,7 +168,7 @@ can_take_rest tokens seen_tokens parts symbols held n is same =
           );
     }
 
--- The first so many are the first of no more than there are.
+-- The first n tokens are the first ones up to the end of the list.
 pub first_of_all : (tables : Tables) (tokens : List InternedToken) (held : List HeldToken) (n m : ℕ) → AllName tables tokens held → m ≡ min n (length tokens) → take m held ≡ take n held
 first_of_all tables tokens held n m named e = ap (λ k. take k held) (e ∙ ap (min n) (length-named tables tokens held named)) ∙ first n held
   where

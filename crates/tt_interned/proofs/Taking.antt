@@ -1,4 +1,4 @@
--- Uses that are taken away, and the values that a token uses, at its places.
+-- The values of a token, at its places, and the removal of their uses.
 use Rattle.std.proofs.Common.{◌≡◌, ℕ, ◌+◌, ◌<◌, ◌≤◌, Bool, bytes_eq, List, [], ◌∷◌, ◌++◌, Some, length, take, drop, slice_get, get_or, refl, ap, ap₂, sym, subst, ◌∙◌, arith}
 use Rattle.std.proofs.lemmas.List.{take_more, take_all}
 use Rattle.std.proofs.lemmas.Option.{slice_get_within, slice_get-get_or, get_or_from_slice_get}
@@ -32,19 +32,19 @@ use Rattle.tt_tables.specs.Uses.{same_part}
 
 -- ---- the values at a token's places
 
--- one part stands at the place, and it is what is counted of parts
+-- one part is at the place, and it is the only part that counts
 pub record UsesPart (tables : Tables) (place : ℕ) (it : HeldToken) : Type 0 where
   pub part : SpanPart
   pub there : slice_get tables.parts place ≡ Some part
   pub counted : counted_parts it ≡ part ∷ []
 
--- one symbol stands at the place, and it is what is counted of symbols
+-- one symbol is at the place, and it is the only symbol that counts
 pub record UsesSymbol (tables : Tables) (place : ℕ) (it : HeldToken) : Type 0 where
   pub symbol : List ℕ
   pub there : slice_get tables.symbols place ≡ Some symbol
   pub counted : counted_symbols it ≡ symbol ∷ []
 
--- two parts stand at the places, and they are what is counted of parts
+-- two parts are at the places, and they are the only parts that count
 pub record UsesParts (tables : Tables) (first second : ℕ) (it : HeldToken) : Type 0 where
   pub opening : SpanPart
   pub closing : SpanPart
@@ -107,9 +107,9 @@ header_uses tables entry (whole (token.Subtree it)) named = (
 header_uses tables entry (whole (token.Leaf it)) named = absurd named
 header_uses tables entry (opened kind open_span) named = absurd named
 
--- ---- numbers that fall
+-- ---- smaller numbers
 
--- `same` tells whether two values are equal
+-- `same` is whether two values are equal
 module _ {X : Type 0} (same : X → X → Bool) (laws : IsEquivalence same) where
   -- The value at a place has a use.
   pub has_one : (keys : List X) (place : ℕ) (entries : List (X × ℕ)) (value : X) (uses : List X) (x : X) → slice_get keys place ≡ Some value → uses ≡ value ∷ []
@@ -127,7 +127,7 @@ module _ {X : Type 0} (same : X → X → Bool) (laws : IsEquivalence same) wher
       let one : value ≡ x = cc both in
       omega (arith, used x, ap (λ l. uses_of same l x) is, uses-cons same value (other ∷ []) x, ap one_if (ap (same x) one ∙ laws.refl x))
 
-  -- So has the second, where one use of the first is gone.
+  -- The second value still has a use after one use of the first is removed.
   pub has_second : (keys : List X) (place : ℕ) (old entries : List (X × ℕ)) (first value : X) (uses : List X) (x : X) → slice_get keys place ≡ Some value → uses ≡ first ∷ value ∷ []
       → ((y : X) → uses_of same uses y ≤ number_in same old y) → CountsMore same (first ∷ []) entries old → slice_get keys place ≡ Some x → 0 < number_in same entries x
   has_second keys place old entries first value uses x at is used fewer here =
@@ -144,19 +144,19 @@ module _ {X : Type 0} (same : X → X → Bool) (laws : IsEquivalence same) wher
         ap one_if (ap (same x) one ∙ laws.refl x),
       )
 
-  -- Two uses are gone, one behind the other.
+  -- Two uses are removed, one after the other.
   pub both_gone : (first second : X) (uses : List X) (old mid now : List (X × ℕ)) → uses ≡ first ∷ second ∷ [] → CountsMore same (first ∷ []) mid old → CountsMore same (second ∷ []) now mid
       → CountsMore same uses now old
   both_gone first second uses old mid now is one two x =
       omega (arith, one x, two x, ap (λ l. uses_of same l x) is, uses-cons same first (second ∷ []) x, uses-one same first x, uses-one same second x)
 
--- `same` tells whether two values are equal
+-- `same` is whether two values are equal
 module _ {X : Type 0} (same : X → X → Bool) where
-  -- The one use is gone.
+  -- One use is removed.
   pub one_gone : (value : X) (uses : List X) (old now : List (X × ℕ)) → uses ≡ value ∷ [] → CountsMore same (value ∷ []) now old → CountsMore same uses now old
   one_gone value uses old now is gone = subst (λ u. CountsMore same u now old) (sym is) gone
 
-  -- No use is gone.
+  -- No use is removed.
   pub none_gone : (uses : List X) (counts : List (X × ℕ)) → uses ≡ [] → CountsMore same uses counts counts
   none_gone uses counts is = subst (λ u. CountsMore same u counts counts) (sym is) (λ x. omega (arith, none x))
     where
@@ -165,7 +165,7 @@ module _ {X : Type 0} (same : X → X → Bool) where
 
 -- ---- lists
 
--- `f` tells what an item uses
+-- `f` is the list of values that an item uses
 module _ {X A : Type 0} (same : A → A → Bool) (f : X → List A) where
   -- One item more.
   uses_next : (xs : List X) (i : ℕ) (it : X) (a : A) → slice_get xs i ≡ Some it
@@ -175,7 +175,7 @@ module _ {X A : Type 0} (same : A → A → Bool) (f : X → List A) where
       (ap (flat_map f) (take_more xs i it (slice_get_within xs i it at) ∙ ap (λ y. take i xs ++ y ∷ []) (get_or_from_slice_get xs i it it at)) ∙ uses_pushed f (take i xs) it)
       ∙ uses-append same (flat_map f (take i xs)) (f it) a
 
-  -- The uses of the next item can be taken.
+  -- The uses of the next item can be removed.
   pub next_there : (xs : List X) (i : ℕ) (it : X) (old now : List (A × ℕ)) → slice_get xs i ≡ Some it → ((a : A) → uses_of same (flat_map f xs) a ≤ number_in same old a)
       → CountsMore same (flat_map f (take i xs)) now old → (a : A) → uses_of same (f it) a ≤ number_in same now a
   next_there xs i it old now at used gone a =
@@ -188,23 +188,23 @@ module _ {X A : Type 0} (same : A → A → Bool) (f : X → List A) where
         uses-append same (flat_map f (take (i + 1) xs)) (flat_map f (drop (i + 1) xs)) a,
       )
 
-  -- They are taken.
+  -- The uses of one more item are removed.
   pub one_more_gone : (xs : List X) (i : ℕ) (it : X) (old mid now : List (A × ℕ)) → slice_get xs i ≡ Some it → CountsMore same (flat_map f (take i xs)) mid old → CountsMore same (f it) now mid
       → CountsMore same (flat_map f (take (i + 1) xs)) now old
   one_more_gone xs i it old mid now at gone one a = omega (arith, gone a, one a, uses_next xs i it a at)
 
--- ---- tokens of which the first so many are uncounted
+-- ---- tokens whose uses are removed from the front
 
--- Tables whose values are the same are the same.
+-- Tables with equal values are equal.
 pub same_tables : (parts parts_now : List (SpanPart × ℕ)) (symbols symbols_now : List (List ℕ × ℕ)) → keys_of parts_now ≡ keys_of parts → keys_of symbols_now ≡ keys_of symbols → tables_of parts_now symbols_now ≡ tables_of parts symbols
 same_tables parts parts_now symbols symbols_now e f = ap₂ tables_from e f
 
--- The next token means one.
+-- The next token means one that is held.
 pub next_named : (tables : Tables) (tokens : List InternedToken) (held : List HeldToken) (i : ℕ) (d : InternedToken) → i < length tokens → AllName tables tokens held
     → (h : HeldToken) × (slice_get held i ≡ Some h) × Names tables (get_or tokens i d) h
 next_named tables tokens held i d within named = named_at tables tokens held i (get_or tokens i d) named (slice_get-get_or tokens i d within)
 
--- It can be uncounted.
+-- Its uses can be removed.
 pub can_take_next : (parts parts_now : List (SpanPart × ℕ)) (symbols symbols_now : List (List ℕ × ℕ)) (tokens : List InternedToken) (i : ℕ) (d : InternedToken) → i < length tokens
     → CanTakeAll parts symbols tokens
     → ((held : List HeldToken) → AllName (tables_of parts symbols) tokens held → CountsMore same_part (parts_in (take i held)) parts_now parts)
@@ -219,7 +219,7 @@ can_take_next parts parts_now symbols symbols_now tokens i d within can gone sym
       symbols_used = next_there bytes_eq counted_symbols can.held i h symbols symbols_now here can.symbols_used (symbols_gone can.held can.named);
     }
 
--- Its uses of parts are gone too.
+-- Its uses of parts are removed too.
 pub next_parts_gone : (parts mid now : List (SpanPart × ℕ)) (symbols symbols_mid : List (List ℕ × ℕ)) (tokens : List InternedToken) (i : ℕ) (d : InternedToken) → i < length tokens
     → ((held : List HeldToken) → AllName (tables_of parts symbols) tokens held → CountsMore same_part (parts_in (take i held)) mid parts)
     → keys_of mid ≡ keys_of parts → keys_of symbols_mid ≡ keys_of symbols
@@ -230,7 +230,7 @@ next_parts_gone parts mid now symbols symbols_mid tokens i d within gone keys sy
     one_more_gone same_part counted_parts held i h parts mid now here (gone held named)
     (one h (subst (λ t. Names t (get_or tokens i d) h) (sym (same_tables parts mid symbols symbols_mid keys symbol_keys)) there))
 
--- So are its uses of symbols.
+-- Its uses of symbols are removed too.
 pub next_symbols_gone : (parts parts_mid : List (SpanPart × ℕ)) (symbols mid now : List (List ℕ × ℕ)) (tokens : List InternedToken) (i : ℕ) (d : InternedToken) → i < length tokens
     → ((held : List HeldToken) → AllName (tables_of parts symbols) tokens held → CountsMore bytes_eq (symbols_in (take i held)) mid symbols)
     → keys_of parts_mid ≡ keys_of parts → keys_of mid ≡ keys_of symbols
@@ -241,6 +241,6 @@ next_symbols_gone parts parts_mid symbols mid now tokens i d within gone part_ke
     one_more_gone bytes_eq counted_symbols held i h symbols mid now here (gone held named)
     (one h (subst (λ t. Names t (get_or tokens i d) h) (sym (same_tables parts parts_mid symbols mid part_keys keys)) there))
 
--- All are named that are held.
+-- All tokens held have a meaning.
 pub all_taken : (tables : Tables) (tokens : List InternedToken) (held : List HeldToken) (n : ℕ) → length tokens ≤ n → AllName tables tokens held → take n held ≡ held
 all_taken tables tokens held n past named = take_all n held (omega (arith, past, length-named tables tokens held named))

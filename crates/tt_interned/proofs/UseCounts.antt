@@ -1,4 +1,4 @@
--- Numbers of uses that change by one use, and how many values have uses.
+-- Numbers of uses after one use is added or removed, and the number of values that have uses.
 use Rattle.std.proofs.Common.{◌≡◌, ℕ, zero, suc, ◌+◌, ◌<◌, ◌≤◌, Bool, true, false, cond, inl, inr, Some, None, List, [], ◌∷◌, ◌++◌, length, drop, take, filter, if◌then◌else◌, nat_lt, slice_get, refl, ap, ap₂, sym, ◌∙◌, true≢false, arith}
 use Rattle.std.proofs.lemmas.Bool.{lt-ltb, ltb-true}
 use Rattle.std.proofs.lemmas.List.Sums.{sum_by-cons, sum_by-append, count_by-le-length}
@@ -20,7 +20,7 @@ use Rattle.tt_tables.proofs.Used.{one_if, all_at_place, uses-one, uses_member, m
 -- ---- counts
 
 module _ {X : Type 0} (same : X → X → Bool) (laws : IsEquivalence same) where
-  -- A value has the number that stands beside it.
+  -- A value has the number beside it.
   pub number_at : (counts : List (X × ℕ)) (i : ℕ) (x : X) (n : ℕ) → IsDistinct same (keys_of counts) → slice_get counts i ≡ Some (x, n) → number_in same counts x ≡ n
   number_at counts i x n distinct at = ap (λ found. unwrap_or found 0) (lookup_from_place laws counts i x n distinct at)
 
@@ -49,7 +49,7 @@ module _ {X : Type 0} (same : X → X → Bool) (laws : IsEquivalence same) wher
       by_test false e later = later
 
   module _ (sound : (x y : X) → same x y ≡ true → x ≡ y) where
-    -- A value that stands in the counts gets one use more.
+    -- A value among the counts gets one use more.
     pub counts_one_more : (counts : List (X × ℕ)) (i : ℕ) (x : X) (n : ℕ) → IsDistinct same (keys_of counts) → slice_get counts i ≡ Some (x, n)
         → CountsMore same (x ∷ []) counts (set_value_at counts i (n + 1))
     counts_one_more counts i x n distinct at y =
@@ -59,7 +59,7 @@ module _ {X : Type 0} (same : X → X → Bool) (laws : IsEquivalence same) wher
         by_test true e = ap (λ m. m + 1) (sym (ap (number_in same counts) (sound y x e) ∙ number_at counts i x n distinct at))
         by_test false e = omega arith
 
-    -- One that has a use loses one.
+    -- A value with a use loses one.
     pub counts_one_less : (counts : List (X × ℕ)) (i : ℕ) (x : X) (n m : ℕ) → IsDistinct same (keys_of counts) → slice_get counts i ≡ Some (x, n) → n ≡ m + 1
         → CountsMore same (x ∷ []) (set_value_at counts i m) counts
     counts_one_less counts i x n m distinct at fewer y =
@@ -91,7 +91,7 @@ used_set {X} (entry ∷ counts) (suc i) n m at =
     used : X × ℕ → ℕ
     used e = one_if (nat_lt 0 e.1)
 
--- There are no more of them than entries.
+-- There are no more values with uses than entries.
 pub used-le : {X : Type 0} (counts : List (X × ℕ)) → used_count counts ≤ length counts
 used-le counts = count_by-le-length (λ entry. nat_lt 0 entry.1) counts
 
@@ -100,7 +100,7 @@ module _ {X : Type 0} (same : X → X → Bool) (laws : IsEquivalence same) (sou
   used : List (X × ℕ) → List (X × ℕ)
   used counts = filter (λ entry. nat_lt 0 entry.1) counts
 
-  -- There are as many as are counted.
+  -- Their number is the count of them.
   length-used : (counts : List (X × ℕ)) → length (keys_of (used counts)) ≡ used_count counts
   unfolding used
   length-used [] = refl
@@ -111,7 +111,7 @@ module _ {X : Type 0} (same : X → X → Bool) (laws : IsEquivalence same) (sou
       by_test true later = omega (arith, later)
       by_test false later = omega (arith, later)
 
-  -- A value with a number stands among them.
+  -- A value with a number is one of them.
   number_used : (counts : List (X × ℕ)) (z : X) → 0 < number_in same counts z → Member z (keys_of (used counts))
   unfolding used
   number_used [] z some = absurd (none some)
@@ -133,7 +133,7 @@ module _ {X : Type 0} (same : X → X → Bool) (laws : IsEquivalence same) (sou
       by_test true e some later = kept (nat_lt 0 entry.1) refl some (sound z entry.0 e)
       by_test false e some later = further (nat_lt 0 entry.1) (later some)
 
-  -- What stands among them stands among all.
+  -- A value among them is one of all values.
   used_apart : (x z : X) (counts : List (X × ℕ)) → AllByRecursion (λ y. same x y ≡ false) (keys_of counts) → Member z (keys_of (used counts)) → same x z ≡ false
   unfolding used
   used_apart x z [] all m = absurd m
@@ -144,7 +144,7 @@ module _ {X : Type 0} (same : X → X → Bool) (laws : IsEquivalence same) (sou
       by_test true (inr m) later = later m
       by_test false m later = later m
 
-  -- It has a number.
+  -- It has a number above 0.
   used_number : (counts : List (X × ℕ)) (z : X) → IsDistinct same (keys_of counts) → Member z (keys_of (used counts)) → 0 < number_in same counts z
   unfolding used IsDistinct
   used_number [] z distinct m = absurd m
@@ -165,7 +165,7 @@ module _ {X : Type 0} (same : X → X → Bool) (laws : IsEquivalence same) (sou
       by_test true e (inr m) later = behind (same z entry.0) refl m later
       by_test false e m later = behind (same z entry.0) refl m later
 
-  -- As many values have uses as are different among the uses.
+  -- The number of values with uses is that of the different used values.
   pub used_different : (uses : List X) (counts : List (X × ℕ)) → IsDistinct same (keys_of counts) → CountsUses same uses counts → used_count counts ≡ length (different same uses)
   unfolding used
   used_different uses counts distinct right =
@@ -179,10 +179,10 @@ module _ {X : Type 0} (same : X → X → Bool) (laws : IsEquivalence same) (sou
       complete : (x : X) → same x x ≡ true
       complete x = laws.refl x
 
--- ---- entries of no uses behind all others
+-- ---- the last entries without uses
 
 module _ {X : Type 0} (same : X → X → Bool) where
-  -- Where no entry has uses, no value has.
+  -- If no entry has uses, no value has.
   number_none : (counts : List (X × ℕ)) (x : X) → AllByRecursion (λ number. number ≡ 0) (values_of counts) → number_in same counts x ≡ 0
   number_none [] x none = refl
   number_none (entry ∷ counts) x none = by_test (same x entry.0) (number_none counts x none.1)
@@ -191,7 +191,7 @@ module _ {X : Type 0} (same : X → X → Bool) where
       by_test true behind = none.0
       by_test false behind = behind
 
-  -- Without them each value has the number that it had.
+  -- Without the last entries without uses, each value has its old number.
   pub number_front : (counts : List (X × ℕ)) (len : ℕ) (x : X) → AllByRecursion (λ number. number ≡ 0) (drop len (values_of counts)) → number_in same (take len counts) x ≡ number_in same counts x
   number_front [] zero x none = refl
   number_front [] (suc len) x none = refl
@@ -208,7 +208,7 @@ used_none [] none = refl
 used_none (entry ∷ counts) none =
     omega (arith, sum_by-cons (λ e. one_if (nat_lt 0 e.1)) entry counts, ap (λ n. one_if (nat_lt 0 n)) none.0, used_none counts none.1)
 
--- And as many values have uses.
+-- As many values have uses.
 pub used_front : {X : Type 0} (counts : List (X × ℕ)) (len : ℕ) → AllByRecursion (λ number. number ≡ 0) (drop len (values_of counts)) → used_count (take len counts) ≡ used_count counts
 used_front [] zero none = refl
 used_front [] (suc len) none = refl
@@ -216,7 +216,7 @@ used_front (entry ∷ counts) zero none = sym (used_none (entry ∷ counts) none
 used_front (entry ∷ counts) (suc len) none =
     omega (arith, sum_by-cons (λ e. one_if (nat_lt 0 e.1)) entry (take len counts), sum_by-cons (λ e. one_if (nat_lt 0 e.1)) entry counts, used_front counts len none)
 
--- ---- where a value stands
+-- ---- the place of a value
 
 -- An entry has a key and a number.
 pub entry_at : {X : Type 0} (counts : List (X × ℕ)) (i : ℕ) (x : X) (n : ℕ) → slice_get (keys_of counts) i ≡ Some x → slice_get (values_of counts) i ≡ Some n → slice_get counts i ≡ Some (x, n)
@@ -230,9 +230,9 @@ entry_at {X} (entry ∷ counts) zero x n at number = ap₂ (λ k m. Some (k, m))
     value = cc number
 entry_at (entry ∷ counts) (suc i) x n at number = entry_at counts i x n at number
 
--- ---- a value more
+-- ---- one more value
 
--- One of no uses changes how many have uses by none.
+-- A value without uses does not change the number of values with uses.
 pub used_new : {X : Type 0} (counts : List (X × ℕ)) (x : X) → used_count (counts ++ (x, 0) ∷ []) ≡ used_count counts
 used_new {X} counts x = omega (arith, sum_by-append used counts ((x, 0) ∷ []), sum_by-cons used (x, 0) [], none)
   where
@@ -243,7 +243,7 @@ used_new {X} counts x = omega (arith, sum_by-append used counts ((x, 0) ∷ []),
     none = refl
 
 module _ {X : Type 0} (same : X → X → Bool) where
-  -- It changes no number.
+  -- A value without uses changes no number.
   pub number_new : (counts : List (X × ℕ)) (x y : X) → number_in same (counts ++ (x, 0) ∷ []) y ≡ number_in same counts y
   number_new [] x y = by_test (same y x)
     where
@@ -260,7 +260,7 @@ module _ {X : Type 0} (same : X → X → Bool) where
       by_test true later = refl
       by_test false later = later
 
-  -- Nor does one that may be there.
+  -- The same for a value that may have an entry already.
   pub number_with_entry : (counts : List (X × ℕ)) (x y : X) → number_in same (with_entry same counts x) y ≡ number_in same counts y
   number_with_entry counts x y = by_test (list_any (same x) (keys_of counts))
     where
@@ -271,13 +271,13 @@ module _ {X : Type 0} (same : X → X → Bool) where
 -- ---- the relation
 
 module _ {X : Type 0} (same : X → X → Bool) where
-  -- Numbers stay where a value has an entry from now on.
+  -- An entry for a value changes no number.
   pub counts_with_entry : (counts : List (X × ℕ)) (x : X) → CountsMore same [] counts (with_entry same counts x)
   counts_with_entry counts x y = omega (arith, number_with_entry same counts x y, none)
     where
       none : uses_of same [] y ≡ 0
       none = refl
 
-  -- There are no more uses of one value than uses.
+  -- A value has no more uses than there are uses.
   pub uses-le : (uses : List X) (x : X) → uses_of same uses x ≤ length uses
   uses-le uses x = count_by-le-length (same x) uses

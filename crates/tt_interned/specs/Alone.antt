@@ -4,7 +4,7 @@ use Rattle.tt_codec.specs.declared.entry.LeafEntry.TheVariants.{Punct as punct, 
 use Rattle.tt_interned.specs.declared.token.InternedToken.{InternedToken}
 use Rattle.tt_interned.specs.declared.token.InternedToken.TheVariants as interned
 
--- a punct is alone; any other token stays
+-- the token, alone if it is a punct
 abbrev pub interned_alone : InternedToken → InternedToken
 interned_alone (interned.Leaf (punct char spacing numbers)) = interned.Leaf (punct char Alone numbers)
 interned_alone (interned.Leaf (ident symbol raw numbers)) = interned.Leaf (ident symbol raw numbers)

@@ -11,22 +11,22 @@ use Rattle.tt_base.specs.Span.{part_of}
 use Rattle.tt_base.specs.Token.{delimiter}
 use Rattle.tt_tables.specs.Uses.{token_parts, token_symbols}
 
--- a token, or the header of an open subtree, whose close span and count are not known yet
+-- a token, or the header of an open subtree, which has no close span and no count yet
 pub data HeldToken : Type 0 where
   whole : TokenTree → HeldToken
   opened : DelimiterKind → Span → HeldToken
 
--- the token; an open header has its open span as its close span too, and the count 0
+-- the token; the close span of an open header is its open span, and its count is 0
 abbrev pub as_token : HeldToken → TokenTree
 as_token (whole it) = it
 as_token (opened kind open_span) = header (delimiter kind open_span open_span) 0
 
--- the parts that are counted: of an open header its open part alone
+-- the parts that count: those of a token; of an open header only its open part
 abbrev pub counted_parts : HeldToken → List SpanPart
 counted_parts (whole it) = token_parts it
 counted_parts (opened kind open_span) = part_of open_span ∷ []
 
--- the symbols that are counted
+-- the symbols that count
 abbrev pub counted_symbols : HeldToken → List (List ℕ)
 counted_symbols (whole it) = token_symbols it
 counted_symbols (opened kind open_span) = []
@@ -39,7 +39,7 @@ parts_in held = flat_map counted_parts held
 abbrev pub symbols_in : List HeldToken → List (List ℕ)
 symbols_in held = flat_map counted_symbols held
 
--- the places of the open headers, where the first token has the place `first`
+-- the places of the open headers, if the first token is at the place `first`
 abbrev pub open_places : (first : ℕ) → List HeldToken → List ℕ
 open_places first [] = []
 open_places first (whole it ∷ held) = open_places (suc first) held

@@ -1,4 +1,4 @@
--- What lets the tokens held be the value of a model.
+-- The code of the tokens held, which a model needs.
 use Rattle.std.specs.Prelude.{◌≡◌, List, Option, Some, None, refl}
 use Rattle.std.specs.Coded.{Coded, code_by, coded×, coded_list, coded_option}
 use Rattle.tt_base.specs.contracts.delimiter.DelimiterKind.{the_row as kind_row}
@@ -11,26 +11,26 @@ use Rattle.tt_base.specs.declared.token_tree.TokenTree.{TokenTree}
 use Rattle.tt_base.specs.Token.{zero_span}
 use Rattle.tt_interned.specs.Held.{HeldToken, whole, opened}
 
--- a token is stored as itself, and an open header as its kind and its span
+-- a held token in parts: a token, or the kind and the span of an open header
 abbrev pub stored_held : HeldToken → Option TokenTree × Option (DelimiterKind × Span)
 stored_held (whole it) = (Some it, None)
 stored_held (opened kind open_span) = (None, Some (kind, open_span))
 
--- what is stored so
+-- the held token with these parts
 abbrev pub held_from : Option TokenTree × Option (DelimiterKind × Span) → HeldToken
 held_from (Some it, other) = whole it
 held_from (None, Some it) = opened it.0 it.1
 held_from (None, None) = opened Invisible zero_span
 
--- it is the token again
+-- This is the held token again.
 pub held_back : (it : HeldToken) → held_from (stored_held it) ≡ it
 held_back (whole it) = refl
 held_back (opened kind open_span) = refl
 
--- one token
+-- the code of one held token
 abbrev pub token_code : Coded HeldToken
 token_code = code_by (Option TokenTree × Option (DelimiterKind × Span)) (coded× (coded_option token_row.coded) (coded_option (coded× kind_row.coded span_row.coded))) stored_held held_from held_back
 
--- all of them
+-- the code of a list of held tokens
 abbrev pub held_code : Coded (List HeldToken)
 held_code = coded_list token_code

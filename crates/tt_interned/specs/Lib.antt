@@ -1,4 +1,4 @@
--- What tokens mean that name values by places.
+-- The meaning of tokens that name values by places.
 pub mod Alone
 pub mod Counted
 pub mod Held
@@ -9,6 +9,6 @@ pub mod Missing
 pub mod Names
 pub mod OneNode
 pub mod OneList
--- Different values at places, and how often each is used.
+-- Different values at places, and their numbers of uses.
 pub mod Entries
 pub mod Interner

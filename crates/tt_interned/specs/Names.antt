@@ -1,4 +1,4 @@
--- Which token is meant by one that names its parts and its symbol by their places.
+-- The token that an interned token means.
 use Rattle.std.specs.Prelude.{◌≡◌, List}
 use Rattle.std.specs.List.{AllZip}
 use Rattle.tt_base.specs.declared.token_tree.TokenTree.TheVariants as token
@@ -9,7 +9,7 @@ use Rattle.tt_interned.specs.Held.{HeldToken, whole, opened}
 use Rattle.tt_tables.specs.Searches.{FindsSpan, FindsLeaf, FindsSubtree}
 use Rattle.tt_tables.specs.Tables.{Tables}
 
--- under the tables, which may be longer than any that are stored, the token means that one
+-- under these tables, which may be longer than any stored ones, the interned token means the other one
 abbrev pub Names : Tables → InternedToken → HeldToken → Type 0
 Names tables (interned.Leaf entry) (whole (token.Leaf it)) = FindsLeaf tables entry it × LeafInRange it
 Names tables (interned.Leaf entry) (whole (token.Subtree it)) = ⊥
@@ -20,6 +20,6 @@ Names tables (interned.Header entry) (whole (token.Leaf it)) = ⊥
 Names tables (interned.Header entry) (whole (token.Subtree it)) = FindsSubtree tables entry it × TokenInRange (token.Subtree it)
 Names tables (interned.Header entry) (opened kind open_span) = ⊥
 
--- so do all, place by place
+-- the same of all tokens, place by place
 abbrev pub AllName : Tables → List InternedToken → List HeldToken → Type 0
 AllName tables tokens held = AllZip (Names tables) tokens held

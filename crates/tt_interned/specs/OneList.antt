@@ -1,4 +1,4 @@
--- Tokens that name values mean one list at most.
+-- Interned tokens mean at most one list.
 use Rattle.std.proofs.Common.{◌≡◌, ℕ, List, [], ◌∷◌, map, Option, Some, slice_get, refl, ap, ap₂, sym, ◌∙◌}
 use Rattle.std.proofs.Props.{props}
 use Rattle.std.proofs.lemmas.Map.Keys.{IsDistinct-prop}
@@ -61,14 +61,14 @@ names-prop tables (interned.Header entry) (whole (token.Leaf it)) = λ x y. absu
 names-prop tables (interned.Header entry) (whole (token.Subtree it)) = hlevel props
 names-prop tables (interned.Header entry) (opened kind open_span) = λ x y. absurd x
 
--- So are all names.
+-- All names together are a proposition.
 pub all_name-prop : (tables : Tables) (tokens : List InternedToken) (held : List HeldToken) → IsProp (AllName tables tokens held)
 all_name-prop tables [] [] = λ x y. refl
 all_name-prop tables [] (h ∷ held) = λ x y. absurd x
 all_name-prop tables (t ∷ tokens) [] = λ x y. absurd x
 all_name-prop tables (t ∷ tokens) (h ∷ held) = ×_prop (names-prop tables t h) (all_name-prop tables tokens held)
 
--- ---- one token is named
+-- ---- one token
 
 some_alike : {X : Type 0} (a b : X) (it : Option X) → it ≡ Some a → it ≡ Some b → a ≡ b
 some_alike a b it x y =
@@ -114,7 +114,7 @@ subtree_alike tables entry a b x y =
     let lens : a.len ≡ b.len = sym x.len ∙ y.len in
     λ i. record { delimiter = record { open_span = opening i; close = closing i; kind = kinds i }; len = lens i }
 
--- A token means one token.
+-- An interned token means only one token.
 pub names_alike : (tables : Tables) (it : InternedToken) (a b : HeldToken) → Names tables it a → Names tables it b → a ≡ b
 names_alike tables (interned.Leaf entry) (whole (token.Leaf a)) (whole (token.Leaf b)) x y = ap (λ it. whole (token.Leaf it)) (leaf_alike tables entry a b x.0 y.0)
 names_alike tables (interned.Leaf entry) (whole (token.Leaf a)) (whole (token.Subtree b)) x y = absurd y
@@ -133,7 +133,7 @@ names_alike tables (interned.Header entry) (whole (token.Subtree a)) (whole (tok
 names_alike tables (interned.Header entry) (whole (token.Subtree a)) (opened kind open_span) x y = absurd y
 names_alike tables (interned.Header entry) (opened kind open_span) b x y = absurd x
 
--- Tokens mean one list.
+-- Interned tokens mean only one list.
 pub lists_alike : (tables : Tables) (tokens : List InternedToken) (a b : List HeldToken) → AllName tables tokens a → AllName tables tokens b → a ≡ b
 lists_alike tables [] [] [] x y = refl
 lists_alike tables [] [] (h ∷ b) x y = absurd y
@@ -144,7 +144,7 @@ lists_alike tables (t ∷ tokens) (g ∷ a) (h ∷ b) x y = ap₂ ◌∷◌ (nam
 
 -- ---- whole tokens
 
--- Lists that are alike as whole tokens are alike.
+-- Lists that are equal as whole tokens are equal.
 whole_alike : (a b : List TokenTree) → map whole a ≡ map whole b → a ≡ b
 whole_alike [] [] e = refl
 whole_alike [] (y ∷ b) e = absurd (cc e)
@@ -165,14 +165,14 @@ are_of-prop tokens parts part_numbers symbols symbol_numbers list =
       symbols_counted = Coded-set (coded_list coded_ℕ) _ _ x.symbols_counted y.symbols_counted i;
     }
 
--- So the list can stand in a ghost field.
+-- This is a proposition, as a ghost field must be.
 pub IsListOf-prop : (tokens : List InternedToken) (parts : List SpanPart) (part_numbers : List ℕ) (symbols : List (List ℕ)) (symbol_numbers : List ℕ)
     → IsProp (IsListOf tokens parts part_numbers symbols symbol_numbers)
 IsListOf-prop tokens parts part_numbers symbols symbol_numbers a b =
     Σ_prop_path (λ list. are_of-prop tokens parts part_numbers symbols symbol_numbers list)
     (whole_alike a.0 b.0 (lists_alike (tables_from parts symbols) tokens _ _ a.1.named b.1.named))
 
--- ---- tokens that are held
+-- ---- tokens held
 
 are_held-prop : (tokens : List InternedToken) (parts : List (SpanPart × ℕ)) (symbols : List (List ℕ × ℕ)) (held : List HeldToken) → IsProp (AreHeld tokens parts symbols held)
 are_held-prop tokens parts symbols held =
@@ -184,17 +184,17 @@ are_held-prop tokens parts symbols held =
       few = le_prop x.few y.few i;
     }
 
--- So what is held can stand in a ghost field.
+-- This is a proposition, as a ghost field must be.
 pub HasHeld-prop : (tokens : List InternedToken) (parts : List (SpanPart × ℕ)) (symbols : List (List ℕ × ℕ)) → IsProp (HasHeld tokens parts symbols)
 HasHeld-prop tokens parts symbols a b =
     Σ_prop_path (λ held. are_held-prop tokens parts symbols held) (lists_alike (tables_of parts symbols) tokens a.0 b.0 a.1.named b.1.named)
 
--- What is held is what is shown to be.
+-- The tokens held are the ones that are shown to be held.
 pub held_is : (tokens : List InternedToken) (parts : List (SpanPart × ℕ)) (symbols : List (List ℕ × ℕ)) (has : HasHeld tokens parts symbols) (held : List HeldToken)
     → AreHeld tokens parts symbols held → has.0 ≡ held
 held_is tokens parts symbols has held are = lists_alike (tables_of parts symbols) tokens has.0 held has.1.named are.named
 
--- The list that is meant is the one that is shown to be.
+-- The list that the tokens mean is the one that they are shown to mean.
 pub list_is : (tokens : List InternedToken) (parts : List SpanPart) (part_numbers : List ℕ) (symbols : List (List ℕ)) (symbol_numbers : List ℕ) (has : IsListOf tokens parts part_numbers symbols symbol_numbers)
     (list : List TokenTree) → AreOf tokens parts part_numbers symbols symbol_numbers list → has.0 ≡ list
 list_is tokens parts part_numbers symbols symbol_numbers has list are =

@@ -1,4 +1,4 @@
-//! Whole tokens that name values, these values, and how often each is used.
+//! Whole interned tokens, the values that they name, and how many times each is used.
 ghost use Rattle.std.specs.Prelude.{◌≡◌, length};
 ghost use Rattle.tt_interned.specs.Counted.{AreOf, IsListOf};
 ghost use Rattle.tt_interned.specs.OneList.{IsListOf-prop};
@@ -7,8 +7,8 @@ use crate::token::InternedToken;
 use std::marker::Model;
 use tt_base::{SpanPart, Symbol};
 
-/// Tokens of which no header is open, the different parts and symbols that they name, and how often each of these is used. Parts
-/// stand in any order, and some may have no uses; symbols stand by first use. A contract sees the flat list that is meant.
+/// Interned tokens without an open header, the different parts and symbols that they name, and the number of uses of each. Parts are in
+/// any order, and some may have no uses; symbols are in the order of first uses. A contract sees the flat list that the tokens mean.
 #[derive(Clone, Copy)]
 pub struct CountedTokens<'a> {
     pub(crate) tokens: &'a [InternedToken],
@@ -22,7 +22,7 @@ pub struct CountedTokens<'a> {
 impl<'a> CountedTokens<'a> {
     ghost use Rattle.tt_interned.specs.ListOf.{list_of, tokens_of, parts_of, part_uses_of, symbols_of, symbol_uses_of};
 
-    /// Tokens, values and numbers of uses from elsewhere, which mean a list.
+    /// Returns tokens, values and numbers of uses that a caller has counted. They mean a list.
     #[inline(always)]
     pub fn new(
         tokens: &'a [InternedToken],
@@ -43,7 +43,7 @@ impl<'a> CountedTokens<'a> {
         }
     }
 
-    /// How many tokens there are.
+    /// Returns the number of tokens.
     #[inline(always)]
     pub fn len(&self) -> usize
         ensures { result ≡ length (list_of self.now) }
@@ -51,7 +51,7 @@ impl<'a> CountedTokens<'a> {
         self.tokens.len()
     }
 
-    /// The tokens, which name values by their places.
+    /// Returns the tokens, which name values by their places.
     #[inline(always)]
     pub fn tokens(&self) -> &'a [InternedToken]
         ensures { result.now ≡ tokens_of self.now }
@@ -59,7 +59,7 @@ impl<'a> CountedTokens<'a> {
         self.tokens
     }
 
-    /// The different parts, at their places.
+    /// Returns the different parts, at their places.
     #[inline(always)]
     pub fn parts(&self) -> &'a [SpanPart]
         ensures { result.now ≡ parts_of self.now }
@@ -67,7 +67,7 @@ impl<'a> CountedTokens<'a> {
         self.parts
     }
 
-    /// How often the part at each place is used.
+    /// Returns the number of uses of each part, by its place.
     #[inline(always)]
     pub fn part_uses(&self) -> &'a [usize]
         ensures { result.now ≡ part_uses_of self.now }
@@ -75,7 +75,7 @@ impl<'a> CountedTokens<'a> {
         self.part_uses
     }
 
-    /// The different symbols, at their places.
+    /// Returns the different symbols, at their places.
     #[inline(always)]
     pub fn symbols(&self) -> &'a [Symbol]
         ensures { result.now ≡ symbols_of self.now }
@@ -83,7 +83,7 @@ impl<'a> CountedTokens<'a> {
         self.symbols
     }
 
-    /// How often the symbol at each place is used.
+    /// Returns the number of uses of each symbol, by its place.
     #[inline(always)]
     pub fn symbol_uses(&self) -> &'a [usize]
         ensures { result.now ≡ symbol_uses_of self.now }

@@ -1,4 +1,4 @@
-//! Different values, each at a place of its own, and how often each is used.
+//! Different values, each at a place of its own, and how many times each is used.
 ghost use Rattle.std.specs.Prelude.{◌≡◌, ◌+◌, ◌<◌, ◌^◌, [], ◌∷◌, ℕ, suc, true, List, None, Some, drop, length, slice_get, IfOk, OnOk, OnErr};
 ghost use Rattle.std.specs.Bool.{OnTrue};
 ghost use Rattle.std.specs.List.{AllByRecursion, IsDistinct};
@@ -12,12 +12,12 @@ use indexmap::IndexMap;
 use std::alloc::{AllocError, Global};
 use std::hash::Hash;
 
-// For how many values room is made with the first; where there are more, room is made for many.
+// The number of values for which the first value makes room. One more value makes room for many.
 const FEW_VALUES: usize = 18;
 
 const MANY_VALUES: usize = 288;
 
-// Whether the value stands at the index.
+// Returns whether the value is at the index.
 #[inline(always)]
 fn is_at<T: Eq>(values: &[T], index: usize, value: &T) -> bool
     requires { (x y : T) → T.eq x y ≡ true → x ≡ y }
@@ -29,7 +29,7 @@ fn is_at<T: Eq>(values: &[T], index: usize, value: &T) -> bool
     values[index] == *value
 }
 
-// How many numbers stand up to the last that is not 0.
+// Returns how many numbers there are up to the last one that is not 0.
 fn len_to_last_used(numbers: &[usize]) -> usize
     ensures unused { AllByRecursion (λ number. number ≡ 0) (drop result numbers.now) }
     ensures ends_used { (k : ℕ) → result ≡ suc k → (number : ℕ) × (slice_get numbers.now k ≡ Some number) × (0 < number) }
@@ -43,8 +43,7 @@ fn len_to_last_used(numbers: &[usize]) -> usize
     0
 }
 
-// Makes room for few values or for many, where one comes that is new and for which there may be none. A map that grows by itself
-// doubles, and puts all its entries into the new room each time.
+// Makes room before a new value, for few values or for many. A map that grows by itself doubles, and moves all its entries each time.
 fn reserve_more<T: Eq + Hash>(entries: &mut IndexMap<T, usize>, value: &T) -> Result<(), AllocError>
     ensures { entries.new.entries ≡ entries.old.entries }
 {
@@ -55,8 +54,7 @@ fn reserve_more<T: Eq + Hash>(entries: &mut IndexMap<T, usize>, value: &T) -> Re
     }
 }
 
-// The index of a value. One that is new goes behind the others, with no uses. It is sought and inserted at once, so that its
-// hash is asked for once.
+// Returns the index of a value. A new value comes last, with no uses. One call finds or inserts it, so that its hash is computed once.
 #[inline(always)]
 fn insert<T: Eq + Hash + Clone + Drop>(
     entries: &mut IndexMap<T, usize>,
@@ -77,15 +75,15 @@ fn insert<T: Eq + Hash + Clone + Drop>(
     Ok(index)
 }
 
-/// Different values, each at a place of its own, in the order in which they came first, and how often each is used. A value may
-/// have no uses.
+/// Different values, each at a place of its own, and how many times each is used. They are in the order in which they came first. A value
+/// may have no uses.
 #[derive(Drop, Debug)]
 pub struct Interner<T: Eq + Hash> {
-    /// Each value beside its number of uses.
+    /// Each value, with its number of uses.
     pub entries: IndexMap<T, usize>,
-    // how many values have uses
+    // the number of values that have uses
     used: usize,
-    // where a value was found last
+    // the place that `place_near` returned last
     last: u32,
     pub ghost distinct: { IsDistinct T.eq (keys_of entries.entries) } by { Prim.hlevel props },
     ghost tallied: { used ≡ used_count entries.entries },
@@ -95,7 +93,7 @@ impl<T: Eq + Hash + Clone + Drop> Interner<T> {
     ghost use Rattle.tt_interned.specs.Interner.{entries_of};
     ghost use Rattle.tt_interned.specs.Entries.{IsCut};
 
-    /// No values, which takes no memory.
+    /// Returns an empty interner. Takes no memory.
     pub fn new(alloc: Global) -> Interner<T>
         ensures { entries_of result ≡ [] }
     {
@@ -106,7 +104,8 @@ impl<T: Eq + Hash + Clone + Drop> Interner<T> {
         }
     }
 
-    /// The place of a value. One that is new goes behind the others, with no uses; it is refused where a place would not fit.
+    /// Returns the place of a value. A new value comes last, with no uses. Fails, and changes nothing, if there are 2^32 values already,
+    /// or if memory runs out.
     #[inline(never)]
     pub fn place_of(&mut self, value: &T) -> Result<u32, AllocError>
         requires copies { (x y : T) → T.is_clone x y → y ≡ x }
@@ -123,7 +122,7 @@ impl<T: Eq + Hash + Clone + Drop> Interner<T> {
         Ok(index as u32)
     }
 
-    /// The same, but it is first looked for at a place.
+    /// The same, but looks first at `place`.
     #[inline(always)]
     pub fn place_at(&mut self, place: u32, value: &T) -> Result<u32, AllocError>
         requires copies { (x y : T) → T.is_clone x y → y ≡ x }
@@ -139,7 +138,7 @@ impl<T: Eq + Hash + Clone + Drop> Interner<T> {
         self.place_of(value)
     }
 
-    /// The same, but it is first looked for where one was found last by this.
+    /// The same, but looks first at the place that this function returned last.
     #[inline(always)]
     pub fn place_near(&mut self, value: &T) -> Result<u32, AllocError>
         requires copies { (x y : T) → T.is_clone x y → y ≡ x }
@@ -154,7 +153,7 @@ impl<T: Eq + Hash + Clone + Drop> Interner<T> {
         Ok(place)
     }
 
-    /// One use more of the value at a place; nothing where there is none.
+    /// Adds one use of the value at a place. Does nothing if there is no value.
     #[inline(always)]
     pub fn add_at(&mut self, place: u32)
         requires same { (x y : T) → T.eq x y ≡ true → x ≡ y }
@@ -168,12 +167,12 @@ impl<T: Eq + Hash + Clone + Drop> Interner<T> {
             return;
         }
         let (_, uses) = self.entries.pair_mut(index);
-        // No branch, since which value is new is not to be foreseen.
+        // No branch, since a processor cannot predict which value is new.
         self.used += usize::from(*uses == 0);
         *uses += 1;
     }
 
-    /// One use less of the value at a place, which has some; nothing where there is none.
+    /// Removes one use of the value at a place, which has at least one. Does nothing if there is no value.
     #[inline(always)]
     pub fn take_at(&mut self, place: u32)
         requires same { (x y : T) → T.eq x y ≡ true → x ≡ y }
@@ -191,7 +190,7 @@ impl<T: Eq + Hash + Clone + Drop> Interner<T> {
         *uses -= 1;
     }
 
-    /// The values of no uses behind all others go, so that one that comes next stands behind one that is used.
+    /// Drops the last values up to one that has uses, so that the next new value comes right after a used one.
     pub fn drop_last_unused(&mut self)
         ensures cut { IsCut (entries_of self.old) (entries_of self.new) }
         ensures numbers { (x : T) → number_in T.eq (entries_of self.new) x ≡ number_in T.eq (entries_of self.old) x }
@@ -200,21 +199,21 @@ impl<T: Eq + Hash + Clone + Drop> Interner<T> {
         self.entries.truncate(len);
     }
 
-    /// The values, in the order of places.
+    /// Returns the values, in the order of their places.
     pub fn values(&self) -> &[T]
         ensures { result.now ≡ keys_of (entries_of self.now) }
     {
         self.entries.keys().as_slice()
     }
 
-    /// The number of uses of each value, in the order of places.
+    /// Returns the number of uses of each value, in the order of their places.
     pub fn numbers(&self) -> &[usize]
         ensures { result.now ≡ values_of (entries_of self.now) }
     {
         self.entries.values().as_slice()
     }
 
-    /// The number of uses of a value.
+    /// Returns the number of uses of a value.
     pub fn uses(&self, value: &T) -> usize
         ensures { result ≡ number_in T.eq (entries_of self.now) value.now }
     {
@@ -224,7 +223,7 @@ impl<T: Eq + Hash + Clone + Drop> Interner<T> {
         }
     }
 
-    /// How many different values are used.
+    /// Returns how many different values have uses.
     pub fn used(&self) -> usize
         requires { (x y : T) → T.eq x y ≡ true → x ≡ y }
         ensures { (uses : List T) → CountsUses T.eq uses (entries_of self.now) → result ≡ length (different T.eq uses) }
@@ -232,7 +231,7 @@ impl<T: Eq + Hash + Clone + Drop> Interner<T> {
         self.used
     }
 
-    /// The same values at the same places, and the same numbers.
+    /// Returns a copy with the same values at the same places, and the same numbers of uses. Fails only if memory runs out.
     pub fn clone(&self) -> Result<Interner<T>, AllocError>
         requires { (x y : T) → T.is_clone x y → y ≡ x }
         ensures { IfOk result (λ copy. entries_of copy ≡ entries_of self.now) }

@@ -1,6 +1,5 @@
-//! Tokens that name their span parts and symbols by places among the different ones.
-//!
-//! Such a list takes less memory than the tokens, shares no texts with others, and is written without looking a value up.
+//! Interned tokens: they name their span parts and symbols by places in lists of the different ones. Such a list takes less memory than
+//! the tokens, shares no texts with other lists, and is written without a search for any value.
 #![tactic(auto)]
 
 mod counted;

@@ -1,4 +1,4 @@
-//! Tokens of which the first is the header of all others.
+//! Interned tokens of one subtree: the first is the header of all others.
 ghost use Rattle.std.specs.Prelude.{◌≡◌, ◌∷◌, List, drop, length, map, IfOk};
 ghost use Rattle.tt_base.specs.declared.span.Span.{Span as SpanOf};
 ghost use Rattle.tt_base.specs.declared.span.SpanPart.{SpanPart as Part};
@@ -14,7 +14,7 @@ use std::alloc::{AllocError, Global};
 use tt_base::{Delimiter, Span, SpanPart, TextRange, TextSize};
 use tt_codec::{HeaderEntry, SpanNumbers};
 
-// The span of these numbers.
+// Returns the span with these numbers.
 fn span_at(parts: &[SpanPart], numbers: SpanNumbers) -> Span
     requires { (span : SpanOf) × IsSpanAt parts.now numbers span }
     ensures { (span : SpanOf) → IsSpanAt parts.now numbers span → result ≡ span }
@@ -26,7 +26,7 @@ fn span_at(parts: &[SpanPart], numbers: SpanNumbers) -> Span
     }
 }
 
-// One use less of the part at a place.
+// Returns the numbers with one use less of the part at a place.
 fn with_less(numbers: Vec<usize>, place: u32) -> Vec<usize>
     requires { (parts : List Part) × (others : List Part) × HasUseAt parts place others numbers.items }
     ensures { (parts : List Part) → (others : List Part) → HasUseAt parts place others numbers.items → result.items ≡ map (uses_of same_part others) parts }
@@ -37,7 +37,7 @@ fn with_less(numbers: Vec<usize>, place: u32) -> Vec<usize>
 }
 
 impl<'a> CountedTokens<'a> {
-    // The header that the tokens of one node begin with.
+    // Returns the header, which is the first token.
     fn first_header(self) -> HeaderEntry
         requires { IsOneNode (list_of self) }
         ensures { BeginsWith (tokens_of self.entry) result }
@@ -48,7 +48,7 @@ impl<'a> CountedTokens<'a> {
         }
     }
 
-    /// The delimiter of the header of one node, whose tokens these are.
+    /// Returns the delimiter of the header. The tokens are those of one subtree.
     pub fn delimiter(self) -> Delimiter
         requires { IsOneNode (list_of self) }
         ensures { list_of self.entry ≡ header result (length (drop 1 (list_of self.entry))) ∷ drop 1 (list_of self.entry) }
@@ -63,7 +63,8 @@ impl<'a> CountedTokens<'a> {
         }
     }
 
-    /// How often each part is used behind that header.
+    /// Returns the number of uses of each part in the tokens after the header. The tokens are those of one subtree. Fails only if memory
+    /// runs out.
     pub fn part_uses_behind(self, alloc: Global) -> Result<Vec<usize>, AllocError>
         requires { IsOneNode (list_of self) }
         ensures { IfOk result (λ found. AreUsedBehind self.entry found.items) }
@@ -75,7 +76,7 @@ impl<'a> CountedTokens<'a> {
         Ok(with_less(numbers, entry.closing.part))
     }
 
-    /// The tokens behind that header, where each part is used so often.
+    /// Returns the tokens after the header. These are the numbers of uses of parts in them.
     pub fn behind(self, part_uses: &'a [usize]) -> CountedTokens<'a>
         requires node { IsOneNode (list_of self) }
         requires counted { AreUsedBehind self part_uses.now }

@@ -1,4 +1,4 @@
-//! Spans and symbols by their places.
+//! Puts spans and symbols in numbers.
 ghost use Rattle.std.specs.Prelude.{◌≡◌, ◌<◌, ◌≤◌, ◌^◌, List, ℕ, OnOk, OnErr, IfOk, bytes_eq, slice_get};
 ghost use Rattle.std.specs.Map.{keys_of};
 ghost use Rattle.tt_base.specs.Fits.{SpanInRange};
@@ -13,7 +13,7 @@ use std::alloc::AllocError;
 use tt_base::{Span, SpanPart, Symbol};
 use tt_codec::SpanNumbers;
 
-/// A span in numbers. A part that is new gets a place, and no uses.
+/// Returns a span in numbers. A new part gets a place, and no uses. Fails as `Interner::place_of` does.
 #[inline(always)]
 pub(crate) fn span_numbers(
     parts: &mut Interner<SpanPart>,
@@ -35,8 +35,8 @@ pub(crate) fn span_numbers(
     })
 }
 
-/// The place of a symbol. It is first looked for at the place that it notes, and where it stands elsewhere it notes that. One
-/// that is new gets a place, and no uses.
+/// Returns the place of a symbol. Looks first at the place that the symbol notes. If the symbol is at another place, it notes that one. A
+/// new symbol gets a place, and no uses. Fails as `Interner::place_of` does.
 #[inline(always)]
 pub(crate) fn symbol_place(
     symbols: &mut Interner<Symbol>,

@@ -4,12 +4,12 @@ ghost use Rattle.std.specs.Prelude.{◌≡◌};
 use tt_base::{DelimiterKind, Spacing};
 use tt_codec::{HeaderEntry, LeafEntry, SpanNumbers};
 
-/// A token in numbers, or the header of a subtree that is not closed yet. Its parts and its symbol are places among the
-/// different ones, in whatever order these stand.
+/// A token in numbers, or the header of a subtree that is still open. Its parts and its symbol are places in lists of the different ones,
+/// in any order.
 #[derive(Debug, Clone, Copy, PartialEq)]
 pub enum InternedToken {
     Leaf(LeafEntry),
-    /// A header whose close span and whose count are not known yet.
+    /// The header of an open subtree, which has no close span and no count yet.
     Open(DelimiterKind, SpanNumbers),
     Header(HeaderEntry),
 }
@@ -17,7 +17,7 @@ pub enum InternedToken {
 impl InternedToken {
     ghost use Rattle.tt_interned.specs.Alone.{interned_alone};
 
-    /// The same, alone if it is a punct.
+    /// Returns the token, alone if it is a punct.
     pub(crate) fn alone(self) -> InternedToken
         ensures { result ≡ interned_alone self }
     {

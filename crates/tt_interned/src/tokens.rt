@@ -1,4 +1,4 @@
-//! A list of tokens that name values, these values, and how often each is used.
+//! A list of interned tokens, the values that they name, and how many times each is used.
 ghost use Rattle.std.specs.Prelude.{◌≡◌, ◌<◌, ◌≤◌, ◌-◌, ◌++◌, [], ◌∷◌, ℕ, List, Some, IfOk, OnOk, OnErr, bytes_eq, drop, length, map, set, slice_get, take};
 ghost use Rattle.std.specs.List.{remove};
 ghost use Rattle.tt_base.specs.declared.delimiter.DelimiterKind.{DelimiterKind as Kind};
@@ -30,8 +30,8 @@ use tt_base::{
 };
 use tt_codec::{HeaderEntry, LeafEntry};
 
-/// A list of tokens, of which headers may be open, with how often each part and each symbol is used. A contract sees
-/// what is held (`specs/Held`).
+/// A list of interned tokens, some of which may be open headers, with the number of uses of each part and each symbol. A contract sees
+/// the tokens held (`specs/Held`).
 #[derive(Drop, Debug)]
 pub struct InternedTokens {
     tokens: Vec<InternedToken>,
@@ -53,7 +53,7 @@ impl Model for InternedTokens {
 }
 
 impl InternedTokens {
-    /// A list that holds nothing, with room for so many tokens.
+    /// Returns an empty list, with room for `capacity` tokens. Fails only if memory runs out.
     pub fn with_capacity(alloc: Global, capacity: usize) -> Result<InternedTokens, AllocError>
         ensures { IfOk result (λ list. list ≡ []) }
     {
@@ -64,7 +64,7 @@ impl InternedTokens {
         })
     }
 
-    /// How many tokens are held.
+    /// Returns the number of tokens held.
     #[inline(always)]
     pub fn len(&self) -> usize
         ensures { result ≡ length self.now }
@@ -72,7 +72,7 @@ impl InternedTokens {
         self.tokens.len()
     }
 
-    /// Makes room for so many tokens more.
+    /// Makes room for `more` tokens. Fails only if memory runs out.
     pub fn reserve(&mut self, more: usize) -> Result<(), AllocError>
         ensures { self.new ≡ self.old }
     {
@@ -128,7 +128,7 @@ impl InternedTokens {
         Ok(())
     }
 
-    /// Appends a leaf. It stays with the caller; its kind is asked once.
+    /// Appends a leaf, which stays with the caller. Tests its kind only once. Fails only if memory runs out, and then changes nothing.
     #[inline(always)]
     pub fn push_leaf(&mut self, leaf: &Leaf) -> Result<(), AllocError>
         requires few { length self.old < 4294967296 }
@@ -142,7 +142,7 @@ impl InternedTokens {
         }
     }
 
-    /// Appends the header of a subtree that is opened.
+    /// Appends the header of a subtree that is open from then on. Fails only if memory runs out, and then changes nothing.
     #[inline(always)]
     pub fn push_open(&mut self, kind: DelimiterKind, open_span: &Span) -> Result<(), AllocError>
         requires few { length self.old < 4294967296 }
@@ -157,7 +157,7 @@ impl InternedTokens {
         Ok(())
     }
 
-    /// Appends a header with its close span and its count.
+    /// Appends a header with its close span and its count. Fails only if memory runs out, and then changes nothing.
     pub fn push_header(&mut self, subtree: &Subtree) -> Result<(), AllocError>
         requires few { length self.old < 4294967296 }
         ensures ok { OnOk result (self.new ≡ self.old ++ whole (token.Subtree subtree.now) ∷ []) }
@@ -178,7 +178,7 @@ impl InternedTokens {
         Ok(())
     }
 
-    /// Appends a token.
+    /// Appends a token. Fails only if memory runs out, and then changes nothing.
     #[inline(always)]
     pub fn push(&mut self, token: &TokenTree) -> Result<(), AllocError>
         requires few { length self.old < 4294967296 }
@@ -191,7 +191,8 @@ impl InternedTokens {
         }
     }
 
-    /// Gives the open header at a place its close span and its count; nothing where none stands there.
+    /// Gives the open header at a place its close span and its count. Does nothing if no open header is there. Fails only if memory runs
+    /// out, and then changes nothing.
     pub fn close(&mut self, place: usize, close_span: &Span, len: u32) -> Result<(), AllocError>
         ensures ok { OnOk result ((kind : Kind) (open_span : SpanOf) → slice_get self.old place ≡ Some (opened kind open_span) → self.new ≡ set self.old place (whole (header (delimiter kind open_span close_span.now) len))) }
         ensures none { OnOk result (NoOpenAt self.old place → self.new ≡ self.old) }
@@ -215,7 +216,7 @@ impl InternedTokens {
         Ok(())
     }
 
-    /// Takes out the header at a place; nothing where no header stands there that is closed.
+    /// Removes the closed header at a place. Does nothing if no closed header is there.
     pub fn remove_header(&mut self, place: usize)
         ensures removed { (it : Header) → slice_get self.old place ≡ Some (whole (token.Subtree it)) → self.new ≡ remove self.old place }
         ensures none { NoHeaderAt self.old place → self.new ≡ self.old }
@@ -231,7 +232,7 @@ impl InternedTokens {
         let _ = self.tokens.remove(place);
     }
 
-    /// The last token becomes alone, if it is a punct; nothing changes where there is none, or an open header is last.
+    /// Makes the last token alone if it is a punct. Does nothing if there is no token, or if the last one is an open header.
     pub fn set_last_alone(&mut self)
         ensures alone { (it : Token) → slice_get self.old (length self.old - 1) ≡ Some (whole it) → self.new ≡ set self.old (length self.old - 1) (whole (token_alone it)) }
         ensures none { NoWholeAt self.old (length self.old - 1) → self.new ≡ self.old }
@@ -243,7 +244,7 @@ impl InternedTokens {
         self.tokens[last] = token.alone();
     }
 
-    /// Drops all tokens but the first so many.
+    /// Keeps the first `len` tokens, and drops the others.
     pub fn truncate(&mut self, len: usize)
         ensures { self.new ≡ take len self.old }
     {
@@ -254,7 +255,7 @@ impl InternedTokens {
         self.symbols.drop_last_unused();
     }
 
-    /// The tokens. They name values that a contract does not see.
+    /// Returns the tokens. A contract does not see the values that they name.
     #[inline(always)]
     pub fn tokens(&self) -> &[InternedToken]
         ensures { AreNamed result.now self.now }
@@ -262,7 +263,7 @@ impl InternedTokens {
         &self.tokens
     }
 
-    /// The tokens with the values that they name, where no header is open.
+    /// Returns the tokens with the values that they name. No header is open.
     pub fn counted(&self) -> CountedTokens<'_>
         requires { open_places 1 self.now ≡ [] }
         ensures { list_of result ≡ map as_token self.now }
@@ -276,21 +277,21 @@ impl InternedTokens {
         }
     }
 
-    /// How often a part is used.
+    /// Returns how many times a part is used.
     pub fn part_uses(&self, part: &SpanPart) -> usize
         ensures { result ≡ uses_of same_part (parts_in self.now) part.now }
     {
         self.parts.uses(part)
     }
 
-    /// How often a symbol is used.
+    /// Returns how many times a symbol is used.
     pub fn symbol_uses(&self, symbol: &Symbol) -> usize
         ensures { result ≡ uses_of bytes_eq (symbols_in self.now) symbol.now }
     {
         self.symbols.uses(symbol)
     }
 
-    /// How many different parts and how many different symbols are used.
+    /// Returns how many different parts and how many different symbols are used.
     pub fn distinct_counts(&self) -> (usize, usize)
         ensures parts { result.0 ≡ length (different same_part (parts_in self.now)) }
         ensures symbols { result.1 ≡ length (different bytes_eq (symbols_in self.now)) }
@@ -298,7 +299,7 @@ impl InternedTokens {
         (self.parts.used(), self.symbols.used())
     }
 
-    /// A list that holds the same.
+    /// Returns a list that holds the same. Fails only if memory runs out.
     pub fn clone(&self, alloc: Global) -> Result<InternedTokens, AllocError>
         ensures { IfOk result (λ copy. copy ≡ self.now) }
     {

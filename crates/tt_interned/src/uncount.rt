@@ -1,4 +1,4 @@
-//! Uses that are taken away.
+//! Removes uses of values.
 ghost use Rattle.std.specs.Prelude.{◌≡◌, ◌≤◌, ℕ, List, bytes_eq};
 ghost use Rattle.std.specs.Map.{keys_of};
 ghost use Rattle.tt_base.specs.declared.span.SpanPart.{SpanPart as Part};
@@ -14,7 +14,7 @@ use crate::token::InternedToken;
 use tt_base::{SpanPart, Symbol};
 use tt_codec::LeafEntry;
 
-// One use less of what a token uses, which has some.
+// Removes one use of each value that a token uses. Each of them has at least one use.
 #[inline(always)]
 fn uncount(parts: &mut Interner<SpanPart>, symbols: &mut Interner<Symbol>, token: InternedToken)
     requires { CanTake (entries_of parts.old) (entries_of symbols.old) token }
@@ -41,7 +41,7 @@ fn uncount(parts: &mut Interner<SpanPart>, symbols: &mut Interner<Symbol>, token
     }
 }
 
-/// One use less of all that the tokens use, which has so many.
+/// Removes all uses by these tokens. Each value has at least as many uses.
 pub(crate) fn uncount_all(
     parts: &mut Interner<SpanPart>,
     symbols: &mut Interner<Symbol>,

@@ -1,4 +1,4 @@
--- Copies of what is stored.
+-- Copies of stored trees.
 use Rattle.std.proofs.Common.{◌≡◌, ℕ, List, ◌∙◌, sym, subst}
 use Rattle.std.proofs.lemmas.List.{map-id}
 use Rattle.std.proofs.lemmas.Slice.Zip.{AllZip-map}
@@ -8,11 +8,11 @@ use Rattle.tt_base.specs.Forest.{Root}
 use Rattle.tt_tables.specs.Meaning.{IsStored}
 use Rattle.tt_pack.specs.Packed.{stored_of}
 
--- Where each clone is the value itself, a list of clones is the list.
+-- If each clone is the value itself, a list of clones is the list.
 pub clones_same : {X : Type 0} (xs ys : List X) → AllZip (λ x y. y ≡ x) xs ys → ys ≡ xs
 clones_same xs ys h = AllZip-map (λ x. x) xs ys h ∙ map-id xs
 
--- Copies of all that is stored for a tree are stored for it.
+-- Copies of the bytes and tables of a tree are stored for it.
 pub stored_again : (root : Root) (bytes bytes' : List ℕ) (parts parts' : List SpanPart) (symbols symbols' : List (List ℕ)) (len : ℕ)
     → IsStored (stored_of bytes parts symbols len) root → bytes' ≡ bytes → parts' ≡ parts → AllZip (λ x y. y ≡ x) symbols symbols'
     → IsStored (stored_of bytes' parts' symbols' len) root

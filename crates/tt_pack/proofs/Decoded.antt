@@ -1,4 +1,4 @@
--- What was decoded at an offset is the first token ahead of it.
+-- The token that is decoded at an offset is the first one ahead of it.
 use Rattle.std.specs.Borrow.{Bor}
 use Rattle.std.proofs.Common.{◌≡◌, ℕ, ◌+◌, ◌-◌, List, length, drop, Option, Some, None, MatchOption, refl, ap, sym, ◌∙◌, subst, arith}
 use Rattle.tt_base.specs.declared.token_tree.TokenTree.{TokenTree}
@@ -22,7 +22,7 @@ use Rattle.tt_pack.specs.TokenAt.{MakesToken, IsFirst, DecodesAt}
 use Rattle.tt_pack.specs.declared.token_reader.TokenReader.{TokenReader}
 use Rattle.tt_pack.proofs.Moves.{leaf_in_range_ahead, node_in_range_ahead}
 
--- a token that was found is the first, where so many bytes are left
+-- the token that was found is the first one, and that many bytes are left after it
 abbrev IsFound : Tables → (all : List ℕ) → (offset : ℕ) → Forest → (left child_bytes : ℕ) → Option TokenTree → Type 0
 IsFound tables all offset trees left child_bytes result =
     MatchOption result (trees ≡ end) (IsFirst tables all offset trees left child_bytes)
@@ -54,7 +54,7 @@ module _ (tables : Tables) (all : List ℕ) (offset : ℕ) (trees : Forest) (ahe
             (n.after _ (omega (arith, n.passed)));
       })
 
--- What is made of the numbers at an offset is the first token ahead of it.
+-- The token made from the numbers at an offset is the first one ahead of it.
 pub decoded_at : (old : TokenReader) (offset : ℕ) (new : TokenReader) (rest : List ℕ) → old.token ≡ None → rest ≡ drop offset (bytes_for old.tree.now)
     → IsMade MakesToken old (entry_at rest) new → DecodesAt old offset new
 decoded_at old offset new rest empty here made trees ahead =
@@ -80,12 +80,12 @@ decoded_at old offset new rest empty here made trees ahead =
         (subst (λ child_bytes. IsFound tables all offset trees (length behind) child_bytes new.token) (sym token.2)
         (header_first tables all offset trees ahead entry behind new.token (node_is_ahead tables all offset trees entry behind ahead e) (token.0 empty)))
 
--- the first token ahead of a reader, as it was decoded, or none where nothing lies ahead
+-- the result is the first token ahead of a reader, or none if no token is ahead
 abbrev pub IsFirstOf : Reader → Option TokenTree → (left child_bytes : ℕ) → Type 0
 IsFirstOf reader result left child_bytes =
     IsFound (tables_of reader) (bytes_of reader) (offset_of reader) (ahead_of reader) left child_bytes result
 
--- What is decoded at a reader's offset in its tree is the first token ahead of it.
+-- The token that is decoded at a reader's offset in its tree is the first one ahead of it.
 pub decoded_ahead : (reader : Reader) (tree : Bor Root) (old new : TokenReader) → reader.tree ≡ Some tree → old.tree.now ≡ tree.now
     → DecodesAt old (offset_of reader) new → IsFirstOf reader new.token new.left new.child_bytes
 decoded_ahead reader tree old new is same decodes =
@@ -104,20 +104,20 @@ decoded_ahead reader tree old new is same decodes =
     same_bytes : bytes_of reader ≡ bytes_for old.tree.now
     same_bytes = ap bytes_in is ∙ ap bytes_for (sym same)
 
--- A token that was found is the first.
+-- A token that was found is the first one.
 pub some_is_first : (reader : Reader) (result : Option TokenTree) (left child_bytes : ℕ) → IsFirstOf reader result left child_bytes
     → (result ≡ None → ⊥)
     → (it : TokenTree) × (result ≡ Some it) × IsFirst (tables_of reader) (bytes_of reader) (offset_of reader) (ahead_of reader) left child_bytes it
 some_is_first reader None left child_bytes found some = absurd (some refl)
 some_is_first reader (Some it) left child_bytes found some = (it, refl, found)
 
--- Where none was found, nothing lies ahead.
+-- If no token was found, none is ahead.
 pub none_is_ahead : (reader : Reader) (result : Option TokenTree) (left child_bytes : ℕ) → IsFirstOf reader result left child_bytes
     → result ≡ None → ahead_of reader ≡ end
 none_is_ahead reader None left child_bytes found none = found
 none_is_ahead reader (Some it) left child_bytes found none = cc none
 
--- Nothing lies ahead where there is no tree.
+-- If there is no tree, no token is ahead.
 pub no_tree : (reader : Reader) → reader.tree ≡ None → ahead_of reader ≡ end
 no_tree reader none =
     none_ahead (tables_of reader) (bytes_of reader) (offset_of reader) (ahead_of reader) reader.ahead.1 (omega (arith, ap (λ tree. length (bytes_in tree)) none))

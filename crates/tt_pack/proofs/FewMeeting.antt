@@ -1,4 +1,4 @@
--- How few values are met.
+-- How few values get one more use.
 use Rattle.std.proofs.Common.{◌≡◌, ℕ, ◌≤◌, Option, Some, None, Result, Ok, Err, IfOk, IfSome, List, length, bytes_eq, ap, ◌∙◌, arith}
 use Rattle.tt_base.specs.contracts.span.SpanPartEq.TheImpl.Laws as part_eq
 use Rattle.tt_base.specs.contracts.symbol.SymbolEq.TheImpl.Laws as symbol_eq
@@ -12,7 +12,7 @@ use Rattle.tt_pack.specs.TablesOf.{StandsAt}
 use Rattle.tt_pack.proofs.Noting.{meets_noted}
 
 module _ {E : Type 0} (old new : FewValues) where
-  -- A part that is noted is met.
+  -- A part that is noted has one more use.
   pub notes_part : (result : Result (Option ℕ) E) (x : SpanPart) → new.symbols ≡ old.symbols → (length old.parts.items ≤ 15 → length new.parts.items ≤ 15)
       → IfOk result (λ found. IfSome found (λ index. new.parts.items ≡ note_value same_part old.parts.items x))
       → IfOk result (λ found. IfSome found (λ index. StandsAt new.parts.items index x))
@@ -30,7 +30,7 @@ module _ {E : Type 0} (old new : FewValues) where
   notes_part (Ok None) x stay few notes at = tt
   notes_part (Err e) x stay few notes at = tt
 
-  -- A symbol that is noted is met.
+  -- A symbol that is noted has one more use.
   pub notes_symbol : (result : Result (Option ℕ) E) (x : List ℕ) → new.parts ≡ old.parts → (length old.symbols.items ≤ 24 → length new.symbols.items ≤ 24)
       → IfOk result (λ found. IfSome found (λ index. new.symbols.items ≡ note_value bytes_eq old.symbols.items x))
       → IfOk result (λ found. IfSome found (λ index. StandsAt new.symbols.items index x))

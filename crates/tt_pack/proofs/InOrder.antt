@@ -1,4 +1,4 @@
--- Places that are met from 0 on, each in its turn.
+-- Places that are used for the first time in the order 0, 1, and so on.
 use Rattle.std.proofs.Common.{◌≡◌, ℕ, zero, suc, ◌+◌, ◌<◌, ◌≤◌, Bool, true, false, ◌||◌, if◌then◌else◌, Option, None, Some, List, [], ◌∷◌, ◌++◌, fold, flat_map, length, take, drop, nat_eq, slice_get, refl, ap, sym, subst, ◌∙◌, append_assoc, length-append, true≢false, arith}
 use Rattle.std.proofs.lemmas.Bool.{ne_eqb, eqb-true}
 use Rattle.std.proofs.lemmas.Cmp.{nat_eq_equiv}
@@ -15,7 +15,7 @@ use Rattle.tt_pack.proofs.Noting.{different_more, stays_noted}
 use Rattle.tt_pack.proofs.Ranks.{all_met}
 use Rattle.tt_pack.proofs.RowOrder.{slice_get-snoc}
 
--- One of them is there.
+-- A place in the range is in the list.
 is_there : (start n place : ℕ) → start ≤ place → place < start + n → list_any (λ other. nat_eq other place) (range_with_len start n) ≡ true
 is_there start zero place from within = absurd (omega (arith, from, within))
 is_there start (suc n) place from within =
@@ -27,7 +27,7 @@ is_there start (suc n) place from within =
     by_test true e later = refl
     by_test false e later = later (λ is. absurd (true≢false (sym (ap (λ p. nat_eq start p) (sym is) ∙ nat_eq_equiv.refl start) ∙ e)))
 
--- One behind them is not.
+-- A place after the range is not.
 is_behind : (start n place : ℕ) → start + n ≤ place → list_any (λ other. nat_eq other place) (range_with_len start n) ≡ false
 is_behind start zero place past = refl
 is_behind start (suc n) place past = ap (λ t. t || list_any (λ other. nat_eq other place) (range_with_len (start + 1) n)) apart ∙ is_behind (start + 1) n place (omega (arith, past))
@@ -35,7 +35,7 @@ is_behind start (suc n) place past = ap (λ t. t || list_any (λ other. nat_eq o
     apart : nat_eq start place ≡ false
     apart = ne_eqb start place (λ is. omega (arith, past, is))
 
--- The next one goes behind them.
+-- The next place comes after the range.
 one_behind : (start n : ℕ) → range_with_len start n ++ (start + n) ∷ [] ≡ range_with_len start (suc n)
 one_behind start zero =
     let same : start + 0 ≡ start = omega arith in
@@ -44,12 +44,12 @@ one_behind start (suc n) =
     let same : start + suc n ≡ start + 1 + n = omega arith in
     ap (λ place. start ∷ range_with_len (start + 1) n ++ place ∷ []) same ∙ ap (λ places. start ∷ places) (one_behind (start + 1) n)
 
--- Noted once more, a place that has been met changes nothing.
+-- A place that was used before changes nothing.
 pub noted_again : (met place : ℕ) → place < met → note_value nat_eq (range_with_len 0 met) place ≡ range_with_len 0 met
 noted_again met place within =
     ap (λ t. if t then range_with_len 0 met else range_with_len 0 met ++ place ∷ []) (is_there 0 met place (omega arith) (omega (arith, within)))
 
--- The place whose turn it is goes behind them.
+-- The next place comes after the others.
 pub noted_next : (met place : ℕ) → place ≡ met → note_value nat_eq (range_with_len 0 met) place ≡ range_with_len 0 (place + 1)
 noted_next met place is =
     let same : 0 + met ≡ place = omega (arith, is) in
@@ -59,9 +59,9 @@ noted_next met place is =
     ∙ one_behind 0 met
     ∙ ap (range_with_len 0) next
 
--- ---- out of turn
+-- ---- out of order
 
--- One behind the next stands out of its turn.
+-- A place after the next one is out of order.
 pub noted_early : (met place : ℕ) → met < place → HasOutOfTurn (note_value nat_eq (range_with_len 0 met) place)
 noted_early met place past = record {
   index = met;
@@ -72,18 +72,18 @@ noted_early met place past = record {
   other = λ is. omega (arith, is, past);
 }
 
--- It does so when more are noted.
+-- It stays out of order after more uses.
 pub stays_early : (places more : List ℕ) → HasOutOfTurn places → HasOutOfTurn (fold (note_value nat_eq) places more)
 stays_early places [] early = early
 stays_early places (x ∷ more) early =
     stays_early (note_value nat_eq places x) more (record { index = early.index; place = early.place; at = stays_noted nat_eq places x early.index early.place early.at; other = early.other })
 
--- It does so among what a token uses, where the first place does.
+-- The places of a token are out of order, if its first place is.
 pub early_places : (places : List ℕ) (first : ℕ) (second : Option ℕ) → HasOutOfTurn (note_value nat_eq places first) → HasOutOfTurn (fold (note_value nat_eq) places (places_from first second))
 early_places places first None early = early
 early_places places first (Some second) early = stays_early (note_value nat_eq places first) (second ∷ []) early
 
--- It does so among all, where it does among those of the first tokens.
+-- All places are out of order, if those of the first tokens are.
 pub all_early : (tokens : List InternedToken) (index : ℕ) → HasOutOfTurn (different nat_eq (part_places (take index tokens))) → HasOutOfTurn (different nat_eq (part_places tokens))
 all_early tokens index early =
     subst HasOutOfTurn
@@ -91,19 +91,19 @@ all_early tokens index early =
     ∙ ap (different nat_eq) (sym (flat_map-append token_places (take index tokens) (drop index tokens)) ∙ ap (flat_map token_places) (take-append-drop index tokens)))
     (stays_early (different nat_eq (part_places (take index tokens))) (part_places (drop index tokens)) early)
 
--- ---- in turn
+-- ---- in order
 
--- Where all have been met, there are as many as are different.
+-- If all places were used, there are as many as different ones.
 pub as_many_met : (tokens : List InternedToken) (met used : ℕ) → range_with_len 0 met ≡ different nat_eq (part_places tokens) → used ≡ length (different nat_eq (part_places tokens)) → met ≡ used
 as_many_met tokens met used is counted = omega (arith, counted, length-range_with_len 0 met, ap length is)
 
--- Where as many have been met as are different, they are all.
+-- If as many places were used as there are different ones, they are all.
 pub in_order : (tokens : List InternedToken) (index met used : ℕ) → range_with_len 0 met ≡ different nat_eq (part_places (take index tokens))
     → used ≡ length (different nat_eq (part_places tokens)) → met ≡ used → different nat_eq (part_places tokens) ≡ range_with_len 0 used
 in_order tokens index met used so_far counted all =
     sym (so_far ∙ all_met nat_eq nat_eq_equiv token_places tokens index (omega (arith, counted, all, length-range_with_len 0 met, ap length so_far))) ∙ ap (range_with_len 0) all
 
--- What follows where two numbers are equal.
+-- A fact that follows if two numbers are equal.
 pub if_equal : {P : Type 0} (m n : ℕ) → (m ≡ n → P) → OnTrue (nat_eq m n) P
 if_equal {P} m n follows = by_test (nat_eq m n) refl
   where
@@ -111,7 +111,7 @@ if_equal {P} m n follows = by_test (nat_eq m n) refl
     by_test true e = follows (eqb-true m n e)
     by_test false e = tt
 
--- All values stand at these places.
+-- Each value is at the place that is its index.
 pub all_in_order : {X : Type 0} (before values : List X) → AllZip (IsAt (before ++ values)) (range_with_len (length before) (length values)) values
 all_in_order before [] = tt
 all_in_order {X} before (x ∷ values) = (

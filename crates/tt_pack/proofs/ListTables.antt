@@ -1,4 +1,4 @@
--- The tables of a list of tokens, from what has been met.
+-- The tables of a list of tokens, from the uses of its values.
 use Rattle.std.proofs.Common.{◌≡◌, ℕ, ◌+◌, ◌<◌, ◌≤◌, ◌^◌, Bool, true, List, [], map, bytes_eq, length, get_or, drop, ap, sym, subst, ◌∙◌, refl, arith}
 use Rattle.std.proofs.lemmas.Map.Entries.{length-keys_of}
 use Rattle.std.specs.Cmp.{IsEquivalence}
@@ -42,7 +42,7 @@ use Rattle.tt_pack.proofs.TableFacts.{length-table_of, new_index_noted, stays_th
 -- ---- one table
 
 module _ {X : Type 0} (same : X → X → Bool) (sound : (x y : X) → same x y ≡ true → x ≡ y) (laws : IsEquivalence same) (short : ℕ) (uses : List X) (table : Table X) where
-  -- A table that tells where the values by first use went tells it of each that stands among them.
+  -- A table with the new indices of the values by first use has the new index of each value among them.
   pub table_leads : length (different same uses) ≤ 2 ^ 32 → IsTable same short uses table.values.items
       → ((index : ℕ) → index < length (different same uses) → LeadsTo (different same uses) table.values.items table.new_indices.items index) → IsTableFor same short uses table
   table_leads few is leads = record {
@@ -50,14 +50,14 @@ module _ {X : Type 0} (same : X → X → Bool) (sound : (x y : X) → same x y 
     leads = λ i x. new_index_noted same sound laws short uses (different same uses) table.values.items table.new_indices.items i x is few leads;
   }
 
-  -- Few values are their table as they stand.
+  -- Few values are their table without a change.
   pub few_stand : length (different same uses) ≤ short → short ≤ 2 ^ 32 → table.values.items ≡ different same uses → table.new_indices.items ≡ [] → IsTableFor same short uses table
   few_stand few short_is stay no_moves =
       table_leads (omega (arith, few, short_is))
       (subst (IsTable same short uses) (sym stay) (few_are_table same sound laws.refl short uses (different same uses) refl few))
       (λ index within. stays_there (different same uses) _ _ index stay no_moves)
 
-  -- What is counted leads to its table.
+  -- Counted values have new indices in their table.
   pub counted_leads : (values : List X) (numbers : List ℕ) (counts : List (X × ℕ)) → values ≡ keys_of counts → numbers ≡ values_of counts → length (keys_of counts) ≤ 2 ^ 32
       → counts ≡ counted same uses → (values ≡ different same uses → numbers ≡ map (uses_of same uses) values → IsTable same short uses table.values.items)
       → ((index : ℕ) → index < length values → LeadsTo values table.values.items table.new_indices.items index) → IsTableFor same short uses table
@@ -69,24 +69,24 @@ module _ {X : Type 0} (same : X → X → Bool) (sound : (x y : X) → same x y 
 -- ---- both
 
 module _ (tokens : List TokenTree) where
-  -- The different parts are as many as the table has.
+  -- There are as many different parts as the table has.
   pub many_parts : length (part_table tokens) ≡ length (different same_part (part_uses tokens))
   many_parts = length-table_of same_part part_sound part_eq.lawful.laws 15 (part_uses tokens)
 
-  -- The different symbols are.
+  -- There are as many different symbols as the table has.
   pub many_symbols : length (symbol_table tokens) ≡ length (different bytes_eq (symbol_uses tokens))
   many_symbols = length-table_of bytes_eq text_sound symbol_eq.lawful.laws 63 (symbol_uses tokens)
 
   module _ (values : CountedValues) (has : HasCounted values (part_uses tokens) (symbol_uses tokens)) where
-    -- As many parts have been met as the table has.
+    -- As many parts were used as the table has.
     pub many_parts_met : length values.parts.entries ≡ length (part_table tokens)
     many_parts_met = sym (length-keys_of values.parts.entries) ∙ ap (λ l. length (keys_of l)) has.all_parts ∙ ap length (counted_values same_part (part_uses tokens)) ∙ sym many_parts
 
-    -- As many symbols have.
+    -- As many symbols were used as the table has.
     pub many_symbols_met : length values.symbols.entries ≡ length (symbol_table tokens)
     many_symbols_met = sym (length-keys_of values.symbols.entries) ∙ ap (λ l. length (keys_of l)) has.all_symbols ∙ ap length (counted_values bytes_eq (symbol_uses tokens)) ∙ sym many_symbols
 
-  -- Few values that have been met are the tables.
+  -- If there are few used values, they are the tables.
   pub few_tables : (values : FewValues) (parts : Table SpanPart) (symbols : Table (List ℕ)) → HasNoted values (part_uses tokens) (symbol_uses tokens)
       → parts.values ≡ values.parts → parts.new_indices.items ≡ [] → symbols.values ≡ values.symbols → symbols.new_indices.items ≡ [] → AreTables tokens parts symbols
   few_tables values parts symbols has parts_stay no_part_moves symbols_stay no_symbol_moves =
@@ -100,14 +100,14 @@ module _ (tokens : List TokenTree) where
       }
 
   module _ (parts : Table SpanPart) (symbols : Table (List ℕ)) (are : AreTables tokens parts symbols) where
-    -- They can be written.
+    -- The indices in these tables can be written.
     pub few_in_tables : (length parts.values.items + 2 ≤ most_parts) × (length symbols.values.items ≤ most_symbols)
     few_in_tables = (
       omega (arith, are.few_parts, ap length (part_table_only tokens parts.values.items are.all_parts.is)),
       omega (arith, are.few_symbols, ap length (symbol_table_only tokens symbols.values.items are.all_symbols.is)),
     )
 
-  -- The tables tell where that went which each token uses.
+  -- The tables have the new index of each value that a token uses.
   pub list_tables : (tables : ListTables) (uses : ListUses) → tokens_in tables ≡ tokens → AreTables tokens tables.parts tables.symbols → AreListUses tokens uses → tables.uses ≡ uses.tokens
       → tables.room ≡ uses.room → AreNumbers tokens_in tables_of LeadsList tokens tables
   list_tables tables uses same are is kept room = record {
@@ -135,7 +135,7 @@ module _ (tables : Tables) (tokens : List TokenTree) (index : ℕ) where
   leaf_named it entry read named =
       record { it = token.Leaf it; read = read; named = record { known = named.known; is = ap of_leaf named.is; fits = named.fits; range = named.range } }
 
-  -- A header is, where what it holds takes the bytes that are counted.
+  -- A header in numbers is, if `child_bytes` is the number of bytes below it.
   pub header_named : (it : Subtree) (entry : HeaderEntry) (child_bytes : ℕ) → token.Subtree it ≡ get_or tokens index (token.Subtree it)
       → child_bytes ≡ first_child_bytes tables (drop index tokens) → IsNamedHeader tables it child_bytes entry → IsEntryAt tables tokens index (of_header entry)
   header_named it entry child_bytes read held named =

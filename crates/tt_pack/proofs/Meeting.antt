@@ -1,4 +1,4 @@
--- How the values of a list are met, token by token.
+-- The values of a list, token by token.
 use Rattle.std.proofs.Common.{◌≡◌, ℕ, ◌+◌, ◌<◌, Bool, List, [], ◌∷◌, ◌++◌, get_or, take, length, length-append, length-take, ◌^◌, bytes_eq, refl, ap, sym, subst, ◌∙◌, append-nil, append_assoc, arith}
 use Rattle.indexmap.proofs.SetLemmas.{AllZip-push}
 use Rattle.std.proofs.lemmas.List.{take_more}
@@ -22,13 +22,13 @@ use Rattle.tt_pack.proofs.Noting.{different_more, stands_for_noted}
 use Rattle.tt_pack.proofs.Paired.{paired_map}
 use Rattle.tt_pack.proofs.UsesGrow.{uses_grow}
 
--- Where a value stands among the different ones of some uses, it stands when there are more.
+-- A value at an index of the different ones of some uses is there after more uses.
 pub stands_with_more : {X : Type 0} (same : X → X → Bool) → IsEquivalence same → (uses more : List X) (i : ℕ) (x : X)
     → StandsAt (different same uses) i x → StandsAt (different same (uses ++ more)) i x
 stands_with_more same laws uses more i x at =
     subst (λ values. StandsAt values i x) (different_more same laws uses more) (stands_for_noted same i x (different same uses) more at)
 
--- What follows for each part and each symbol follows for what a token uses.
+-- What follows for each part and each symbol follows for the values of a token.
 pub uses_map : (P Q : ℕ → SpanPart → Type 0) (S R : ℕ → List ℕ → Type 0) (it : TokenTree) (uses : TokenUses)
     → ((i : ℕ) (x : SpanPart) → P i x → Q i x) → ((i : ℕ) (x : List ℕ) → S i x → R i x) → AreUses P S it uses → AreUses Q R it uses
 uses_map P Q S R (token.Leaf (leaf.Literal it)) uses f g h = (f _ _ h.0, g _ _ h.1)
@@ -36,10 +36,10 @@ uses_map P Q S R (token.Leaf (leaf.Punct it)) uses f g h = f _ _ h
 uses_map P Q S R (token.Leaf (leaf.Ident it)) uses f g h = (f _ _ h.0, g _ _ h.1)
 uses_map P Q S R (token.Subtree it) uses f g h = (f _ _ h.0, f _ _ h.1)
 
--- ---- one token; `has_met` tells what values have met
+-- ---- one token; `has_met` says which uses the values have had
 
 module _ {V : Type 0} (has_met : V → List SpanPart → List (List ℕ) → Type 0) where
-  -- A part that is met takes one.
+  -- One more part leaves room for one part less.
   pub can_meet_on : (old new : V) (x : SpanPart) (index a b : ℕ) → MeetsPart has_met old new x index → CanMeet has_met old (a + 1) b → CanMeet has_met new a b
   can_meet_on old new x index a b meets can = record {
     parts = can.parts ++ x ∷ [];
@@ -68,7 +68,7 @@ module _ {V : Type 0} (has_met : V → List SpanPart → List (List ℕ) → Typ
   -- ---- a list
 
   module _ (tokens : List TokenTree) (i : ℕ) where
-    -- The front of a list leaves numbers for one more token.
+    -- After the first tokens of a list, there is room for one more token.
     pub can_meet_token : (values : V) → i < length tokens → length tokens < 2 ^ 63 → has_met values (part_uses (take i tokens)) (symbol_uses (take i tokens)) → CanMeet has_met values 2 1
     can_meet_token values within few met = record {
       parts = part_uses (take i tokens);
@@ -79,7 +79,7 @@ module _ {V : Type 0} (has_met : V → List SpanPart → List (List ℕ) → Typ
     }
 
     module _ (it : TokenTree) (within : i < length tokens) (here : it ≡ get_or tokens i it) where
-      -- What the front uses grows by what its next token uses.
+      -- The parts of the first tokens and of the next one are those of one token more.
       more_parts : part_uses (take i tokens) ++ token_parts it ≡ part_uses (take (i + 1) tokens)
       more_parts = uses_grow token_parts tokens i it (part_uses (take i tokens)) (part_uses (take i tokens) ++ token_parts it) within here refl refl
 
@@ -87,13 +87,13 @@ module _ {V : Type 0} (has_met : V → List SpanPart → List (List ℕ) → Typ
       more_symbols = uses_grow token_symbols tokens i it (symbol_uses (take i tokens)) (symbol_uses (take i tokens) ++ token_symbols it) within here refl refl
 
       module _ (old new : V) (uses : TokenUses) (met : has_met old (part_uses (take i tokens)) (symbol_uses (take i tokens))) (meets : MeetsToken has_met old new it uses) where
-        -- One more token is met.
+        -- The values have had the uses of one more token.
         pub token_met : has_met new (part_uses (take (i + 1) tokens)) (symbol_uses (take (i + 1) tokens))
         token_met =
             subst (λ l. has_met new (part_uses (take (i + 1) tokens)) l) more_symbols
             (subst (λ l. has_met new l (symbol_uses (take i tokens) ++ token_symbols it)) more_parts (meets (part_uses (take i tokens)) (symbol_uses (take i tokens)) met).0)
 
-        -- What it uses is kept.
+        -- The indices of its values are kept.
         pub token_kept : (kept : List TokenUses) → AllZip (AreUses (IsPartAt (part_uses (take i tokens))) (IsSymbolAt (symbol_uses (take i tokens)))) (take i tokens) kept
             → AllZip (AreUses (IsPartAt (part_uses (take (i + 1) tokens))) (IsSymbolAt (symbol_uses (take (i + 1) tokens)))) (take (i + 1) tokens) (kept ++ uses ∷ [])
         token_kept kept before =

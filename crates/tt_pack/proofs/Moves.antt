@@ -1,4 +1,4 @@
--- Where a reader stands after a move, and what it stands before.
+-- The offset of a reader after a move, and the trees ahead of it.
 use Rattle.std.proofs.Common.{◌≡◌, ◌⊎◌, inl, inr, ℕ, zero, suc, ◌<◌, ◌≤◌, ◌↔◌, List, length, drop, None, refl, ap, sym, subst, ◌∙◌, arith}
 use Rattle.std.proofs.lemmas.List.{drop_all}
 use Rattle.tt_base.specs.declared.delimiter.Delimiter.{Delimiter}
@@ -17,12 +17,12 @@ use Rattle.tt_pack.specs.declared.reader.Reader.{Reader}
 use Rattle.tt_pack.specs.StoredIn.{bytes_for, tables_stored}
 use Rattle.tt_pack.specs.ReaderOf.{ahead_of, tables_of, bytes_of, offset_of, steps_of, ReadsSame, StepsTo}
 
--- A reader stands in the bytes, or at their end.
+-- A reader's offset is in the bytes, or at their end.
 pub inside : (tables : Tables) (all : List ℕ) (offset : ℕ) (trees : Forest) → IsAhead tables all offset trees → offset ≤ length all
 inside tables all zero trees ahead = omega arith
 inside tables all (suc offset) trees ahead = ahead.inside
 
--- No reader stands in the top header.
+-- No reader's offset is inside the top's header.
 pub outside_top : (tables : Tables) (all : List ℕ) (offset : ℕ) (trees : Forest) → IsAhead tables all offset trees → (offset ≡ 0) ⊎ (33 ≤ offset)
 outside_top tables all zero trees ahead = inl refl
 outside_top tables all (suc offset) trees ahead = inr ahead.top
@@ -33,19 +33,19 @@ none_first (leaf it rest) e = cc e
 none_first (node delimiter children rest) e = cc e
 
 module _ (tables : Tables) (all : List ℕ) (offset : ℕ) (trees : Forest) where
-  -- There is no first token exactly where all bytes are passed.
+  -- There is no first token exactly if all bytes are before the offset.
   pub ends : IsAhead tables all offset trees → (first_token trees ≡ None) ↔ (length all ≤ offset)
   ends ahead = (
     λ none. end_is_passed tables all offset (subst (IsAhead tables all offset) (none_first trees none) ahead),
     λ passed. ap first_token (none_ahead tables all offset trees ahead passed),
   )
 
--- Behind the start, the bytes of the trees ahead are left.
+-- After the start, the bytes of the trees ahead are left.
 left_ahead : (tables : Tables) (all : List ℕ) (offset : ℕ) (trees : Forest) → 0 < offset → IsAhead tables all offset trees → drop offset all ≡ bytes tables trees
 left_ahead tables all zero trees passed ahead = absurd (omega arith)
 left_ahead tables all (suc offset) trees passed ahead = ahead.left
 
--- A step is taken to where the trees lie ahead.
+-- A step leads to the offset that has the trees ahead.
 pub steps_to : (old new : Reader) (trees : Forest) → 0 < offset_of new → IsAhead (tables_of new) (bytes_of new) (offset_of new) trees
     → ReadsSame new old → steps_of new ≡ step_after (steps_of old) (ahead_of old) → StepsTo old trees new
 steps_to old new trees passed is same steps =
@@ -57,7 +57,7 @@ steps_to old new trees passed is same steps =
       steps = steps;
     }
 
--- Where nothing lies ahead, a reader stays.
+-- If no trees are ahead, a reader stays.
 pub stays : (reader : Reader) (trees : Forest) → ahead_of reader ≡ end → trees ≡ end → StepsTo reader trees reader
 stays reader trees nothing none =
     record {
@@ -78,14 +78,14 @@ pub record HasFewEntries (tables : Tables) : Type 0 where
   pub parts : length tables.parts ≤ most_parts
   pub symbols : length tables.symbols ≤ most_symbols
 
--- Of a leaf ahead, the numbers are in range, and the tables have few entries.
+-- The numbers of a leaf ahead are in range, and the tables have few entries.
 pub leaf_in_range_ahead : (tables : Tables) (all : List ℕ) (offset : ℕ) (it : Leaf) (rest : Forest) → IsAhead tables all offset (leaf it rest)
     → LeafInRange it × HasFewEntries tables
 leaf_in_range_ahead tables all zero it rest ahead = absurd ahead
 leaf_in_range_ahead tables all (suc offset) it rest ahead =
     (ahead.named.3.0, record { parts = ahead.named.0; symbols = ahead.named.1 })
 
--- The same of a header.
+-- The same for a header.
 pub node_in_range_ahead : (tables : Tables) (all : List ℕ) (offset : ℕ) (delimiter : Delimiter) (children rest : Forest)
     → IsAhead tables all offset (node delimiter children rest) → TokenInRange (header delimiter (size children)) × HasFewEntries tables
 unfolding packed
@@ -101,7 +101,7 @@ node_in_range_ahead tables all zero delimiter children (node other inner rest) a
 node_in_range_ahead tables all (suc offset) delimiter children rest ahead =
     (ahead.named.3.0, record { parts = ahead.named.0; symbols = ahead.named.1 })
 
--- A stored tree lies ahead at the start.
+-- A stored tree is ahead at the start.
 pub start_is_ahead : (root : Root) (all : List ℕ) (parts : List SpanPart) (symbols : List (List ℕ)) → IsInRange root → IsWithinLimits root
     → all ≡ (packed root).bytes → parts ≡ (packed root).parts → symbols ≡ (packed root).symbols → IsAhead (tables_from parts symbols) all 0 (only root)
 unfolding packed
@@ -111,7 +111,7 @@ start_is_ahead root all parts symbols range limits e f g = (
   λ i. record { bytes = e i; parts = f i; symbols = g i; len = suc (size root.children) },
 )
 
--- The trees below the top of a stored tree lie ahead behind its header.
+-- The trees below the top of a stored tree are ahead after its header.
 pub below_is_ahead : (root : Root) → IsInRange root → IsWithinLimits root → IsAhead (tables_stored root) (bytes_for root) 33 root.children
 below_is_ahead root range limits =
     below_ahead (tables_stored root) (bytes_for root) root (start_is_ahead root (bytes_for root) _ _ range limits refl refl refl)

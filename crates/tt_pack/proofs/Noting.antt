@@ -1,4 +1,4 @@
--- How values are noted in the order of their first uses.
+-- How values are collected in the order of their first uses.
 use Rattle.std.proofs.Common.{◌≡◌, ℕ, ◌+◌, ◌<◌, ◌≤◌, Bool, true, false, cond, Some, List, [], ◌∷◌, ◌++◌, fold, flat_map, get_or, take, length, length-append, slice_get, refl, ap, sym, subst, ◌∙◌, append-nil, append_assoc, arith}
 use Rattle.std.proofs.lemmas.Map.Keys.{any_passes_from_place}
 use Rattle.std.specs.Cmp.{IsEquivalence}
@@ -13,11 +13,11 @@ use Rattle.tt_pack.proofs.UsesGrow.{uses_grow}
 -- ---- one value
 
 module _ {X : Type 0} (same : X → X → Bool) where
-  -- A value that stands there is noted.
+  -- A value that is there adds nothing.
   pub noted_there : IsEquivalence same → (values : List X) (i : ℕ) (x : X) → slice_get values i ≡ Some x → values ≡ note_value same values x
   noted_there laws values i x at = sym (ap (λ t. cond t values (values ++ x ∷ [])) (any_passes_from_place (λ y. same y x) values i x at (laws.refl x)))
 
-  -- Noting a value leaves each where it stands.
+  -- One more value leaves each at its place.
   pub stays_noted : (values : List X) (x : X) (i : ℕ) (y : X) → slice_get values i ≡ Some y → slice_get (note_value same values x) i ≡ Some y
   stays_noted values x i y at = by_test (list_any (λ z. same z x) values)
     where
@@ -35,7 +35,7 @@ module _ {X : Type 0} (same : X → X → Bool) where
   pub stands_noted : (i : ℕ) (y : X) (values : List X) (x : X) → StandsAt values i y → StandsAt (note_value same values x) i y
   stands_noted i y values x at few = stays_noted values x i y (at (omega (arith, few, no_fewer_noted values x)))
 
-  -- The same when more are.
+  -- The same for more values.
   pub stands_for_noted : (i : ℕ) (y : X) (values more : List X) → StandsAt values i y → StandsAt (fold (note_value same) values more) i y
   stands_for_noted i y values [] at = at
   stands_for_noted i y values (x ∷ more) at = stands_for_noted i y (note_value same values x) more (stands_noted i y values x at)
@@ -50,7 +50,7 @@ module _ {X : Type 0} (same : X → X → Bool) (laws : IsEquivalence same) wher
       ∙ different_more (uses ++ x ∷ []) more
       ∙ ap (different same) (append_assoc uses (x ∷ []) more)
 
-  -- One more token notes its own uses.
+  -- One more token adds its own uses.
   pub noted_token : {A : Type 0} (f : A → List X) (tokens : List A) (i : ℕ) (x : A) (before after : List X) → i < length tokens → x ≡ get_or tokens i x
       → before ≡ different same (flat_map f (take i tokens)) → after ≡ fold (note_value same) before (f x)
       → after ≡ different same (flat_map f (take (i + 1) tokens))
@@ -59,7 +59,7 @@ module _ {X : Type 0} (same : X → X → Bool) (laws : IsEquivalence same) wher
       ∙ different_more (flat_map f (take i tokens)) (f x)
       ∙ ap (different same) (uses_grow f tokens i x (flat_map f (take i tokens)) (flat_map f (take i tokens) ++ f x) within here refl refl)
 
-  -- Where the different ones of some uses are noted, one more leads to those of one more use.
+  -- The different values of some uses become those of one more use.
   pub meets_noted : (uses old new : List X) (x : X) (index : ℕ) → old ≡ different same uses → new ≡ note_value same old x → StandsAt new index x
       → (new ≡ different same (uses ++ x ∷ [])) × StandsAt (different same (uses ++ x ∷ [])) index x
   meets_noted uses old new x index is more at =

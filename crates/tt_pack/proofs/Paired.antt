@@ -1,14 +1,14 @@
--- Two lists whose items are related in pairs.
+-- Two lists whose items are related one by one.
 use Rattle.std.proofs.Common.{◌≡◌, ℕ, zero, suc, ◌<◌, List, [], ◌∷◌, length, get_or, sym, subst, arith}
 use Rattle.std.proofs.lemmas.Slice.Zip.{AllZip-long}
 use Rattle.std.specs.List.{AllZip}
 
 module _ {X Y : Type 0} (R : X → Y → Type 0) where
-  -- They are as long.
+  -- The lists have the same length.
   pub length-paired : (xs : List X) (ys : List Y) → AllZip R xs ys → length xs ≡ length ys
   length-paired xs ys h = sym (AllZip-long R xs ys h)
 
-  -- What stands at one index is related.
+  -- The items at one index are related.
   pub paired_at : (xs : List X) (ys : List Y) (i : ℕ) (x : X) (y : Y) → AllZip R xs ys → i < length xs → x ≡ get_or xs i x → y ≡ get_or ys i y → R x y
   paired_at [] ys i x y h within e f = absurd (omega (arith, within))
   paired_at (a ∷ xs) [] i x y h within e f = absurd h

@@ -1,4 +1,4 @@
--- What tokens in numbers name by places is what the tokens use that they mean.
+-- The values at the places of interned tokens are the values of the tokens that they mean.
 use Rattle.std.proofs.Common.{◌≡◌, ℕ, zero, suc, ◌+◌, ◌<◌, inl, inr, Bool, true, false, not, cond, Some, All, List, [], ◌∷◌, ◌++◌, map, filter, length, nat_eq, get_or, take, slice_get, refl, ap, sym, subst, ◌∙◌, true≢false}
 use Rattle.std.proofs.lemmas.Bool.{eqb-true}
 use Rattle.std.proofs.lemmas.Cmp.{nat_eq_equiv}
@@ -34,7 +34,7 @@ module _ {X Y : Type 0} (R : X → Y → Type 0) where
   paired-append (x ∷ xs) xs' [] ys' h k = absurd h
   paired-append (x ∷ xs) xs' (y ∷ ys) ys' h k = (h.0, paired-append xs xs' ys ys' h.1 k)
 
-  -- What stands in the second list has its partner at the same index.
+  -- An item of the second list has its partner at the same index.
   pub partner_at : (xs : List X) (ys : List Y) (i : ℕ) (y : Y) → AllZip R xs ys → slice_get ys i ≡ Some y → (x : X) × (slice_get xs i ≡ Some x) × R x y
   partner_at xs [] i y h at = absurd (cc at)
   partner_at [] (b ∷ ys) i y h at = absurd h
@@ -47,7 +47,7 @@ module _ {X : Type 0} (values : List X) where
   some_same : (x y : X) → Some x ≡ Some y → x ≡ y
   some_same x y e = cc e
 
-  -- At the same places stand the same values.
+  -- The same places have the same values.
   pub values_alike : (places : List ℕ) (xs ys : List X) → AllZip (IsAt values) places xs → AllZip (IsAt values) places ys → xs ≡ ys
   values_alike [] [] [] h k = refl
   values_alike [] [] (y ∷ ys) h k = absurd k
@@ -57,14 +57,14 @@ module _ {X : Type 0} (values : List X) where
   values_alike (p ∷ places) (x ∷ xs) (y ∷ ys) h k =
       ap (λ z. z ∷ xs) (some_same x y (sym h.0 ∙ k.0)) ∙ ap (λ l. y ∷ l) (values_alike places xs ys h.1 k.1)
 
-  -- Each place is one.
+  -- Each place is less than the number of values.
   pub places_within : (places : List ℕ) (xs : List X) → AllZip (IsAt values) places xs → All (λ place. place < length values) places
   places_within [] [] h = All-nil (λ place. place < length values)
   places_within [] (x ∷ xs) h = absurd h
   places_within (p ∷ places) [] h = absurd h
   places_within (p ∷ places) (x ∷ xs) h = All-cons (λ place. place < length values) p places (slice_get_within values p x h.0) (places_within places xs h.1)
 
-  -- One more value, which is read at the next place.
+  -- One more value, which is at the next place.
   pub one_more_at : (places : List ℕ) (index : ℕ) (found more : List X) (x : X) → index < length places → All (λ place. place < length values) places
       → x ≡ get_or values (get_or places index 0) x → more ≡ found ++ x ∷ [] → AllZip (IsAt values) (take index places) found → AllZip (IsAt values) (take (index + 1) places) more
   one_more_at places index found more x within all read is before =
@@ -73,7 +73,7 @@ module _ {X : Type 0} (values : List X) where
       (AllZip-push (IsAt values) (take index places) found (get_or places index 0) x before
       (slice_get_read values (length values) (get_or places index 0) x refl (all index 0 within) read)))
 
-  -- What is computed from each value stands where the value does.
+  -- The value of a function for each value is at the same place.
   pub mapped_at : {Y : Type 0} (f : X → Y) (places : List ℕ) (xs : List X) → AllZip (IsAt values) places xs → AllZip (IsAt (map f values)) places (map f xs)
   mapped_at f [] [] h = h
   mapped_at f [] (x ∷ xs) h = absurd h
@@ -97,7 +97,7 @@ module _ {X : Type 0} (values : List X) where
   member_at_place (p ∷ places) (x ∷ xs) h z (inr m) = member_at_place places xs h.1 z m
 
   module _ (same : X → X → Bool) (laws : IsEquivalence same) (sound : (x y : X) → same x y ≡ true → x ≡ y) (distinct : IsDistinct same values) where
-    -- Places are equal where the values are.
+    -- Places are equal, if the values are.
     same_places : (p q : ℕ) (x y : X) → IsAt values p x → IsAt values q y → nat_eq p q ≡ same x y
     same_places p q x y at there = by_test (same x y) refl
       where
@@ -151,7 +151,7 @@ module _ (tables : Tables) where
   token_named (interned.Header entry) (token.Leaf it) named = absurd named
   token_named (interned.Header entry) (token.Subtree it) named = (named.0.opening.part, (named.0.closing.part, tt))
 
-  -- The places that tokens name are those of the parts that are used.
+  -- The places of tokens have the parts that the tokens use.
   pub places_named : (tokens : List InternedToken) (list : List TokenTree) → AllName tables tokens (map whole list) → AllZip (IsAt tables.parts) (part_places tokens) (part_uses list)
   places_named [] [] named = named
   places_named [] (it ∷ list) named = absurd named
@@ -165,7 +165,7 @@ module _ (tables : Tables) where
   within_named (p ∷ places) [] h = absurd h
   within_named (p ∷ places) (x ∷ parts) h = (slice_get_within tables.parts p x h.0, within_named places parts h.1)
 
-  -- A token names parts that there are.
+  -- The places of a token are less than the number of parts.
   pub token_within : (it : InternedToken) (meant : TokenTree) → Names tables it (whole meant) → IsWithin (length tables.parts) it
   token_within it meant named = within_named (token_places it) (token_parts meant) (token_named it meant named)
 
@@ -176,7 +176,7 @@ module _ (tables : Tables) where
   all_within (t ∷ tokens) (it ∷ list) named =
       All-cons (IsWithin (length tables.parts)) t tokens (token_within t it named.0) (all_within tokens list named.1)
 
-  -- What stands at an index names what is meant there.
+  -- A token at an index means the one there.
   pub named_at : (tokens : List InternedToken) (list : List TokenTree) (i : ℕ) (d : InternedToken) (it : TokenTree) → AllName tables tokens (map whole list)
       → slice_get list i ≡ Some it → Names tables (get_or tokens i d) (whole it)
   named_at tokens [] i d it named at = absurd (cc at)

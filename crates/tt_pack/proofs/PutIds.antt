@@ -7,7 +7,7 @@ use Rattle.tt_base.specs.declared.span.SpanPart.{SpanPart}
 use Rattle.tt_tables.specs.AstIds.{part_with_id, parts_with_ids}
 use Rattle.tt_pack.proofs.Sorted.{all_at}
 
--- Without ids all stay.
+-- Without ids all parts stay.
 pub no_ids : (parts : List SpanPart) → parts_with_ids [] parts ≡ parts
 no_ids [] = refl
 no_ids (part ∷ parts) = refl
@@ -33,9 +33,9 @@ part_at (first ∷ ids) [] i id part other h k = absurd (omega (arith, k))
 part_at (first ∷ ids) (entry ∷ parts) zero id part other h k = refl
 part_at (first ∷ ids) (entry ∷ parts) (suc i) id part other h k = part_at ids parts i id part other (omega (arith, h)) (omega (arith, k))
 
--- `same` tells whether two values are equal
+-- `same` is whether two values are equal
 module _ {X : Type 0} (same : X → X → Bool) (sound : (x y : X) → same x y ≡ true → x ≡ y) (complete : (x : X) → same x x ≡ true) where
-  -- A value that stands in front of itself stands twice.
+  -- A value that comes before itself comes twice.
   pub stands_twice : (xs : List X) (i : ℕ) (d : X) → i < length xs → list_any (same (get_or xs i d)) (take i xs) ≡ true → IsDistinct same xs → ⊥
   unfolding IsDistinct
   stands_twice [] i d h found once = omega (arith, h)

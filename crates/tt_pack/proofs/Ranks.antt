@@ -15,13 +15,13 @@ use Rattle.tt_pack.specs.Places.{AreRanked}
 use Rattle.tt_pack.proofs.Noting.{different_more, noted_token}
 use Rattle.tt_pack.proofs.RowOrder.{slice_get-set, slice_get-set_other}
 
--- What is there stands somewhere.
+-- A value in the list has an index.
 pub any_stands : (values : List ℕ) (x : ℕ) → list_any (λ y. nat_eq y x) values ≡ true → (i : ℕ) × (slice_get values i ≡ Some x)
 any_stands values x e =
     let (i, y, within, at, is) = Any-from_list_any (λ y. nat_eq y x) values e in
     (i, slice_get_read values (length values) i x refl within (sym (eqb-true y x is) ∙ sym at ∙ get_or_default values i y x within))
 
--- What stands in a list with one more value stood there before, or is that value.
+-- An item of a list with one more value is an item of the list, or that value.
 snoc_stands : (values : List ℕ) (x : ℕ) (i : ℕ) (y : ℕ) → slice_get (values ++ x ∷ []) i ≡ Some y → (slice_get values i ≡ Some y) ⊎ ((i ≡ length values) × (y ≡ x))
 snoc_stands [] x zero y at = inr (refl, sym (cc at))
 snoc_stands [] x (suc i) y at = absurd (cc at)
@@ -32,7 +32,7 @@ snoc_stands (z ∷ values) x (suc i) y at = elim (snoc_stands values x i y at) [
 ]
 
 module _ (order ranks : List ℕ) (place : ℕ) where
-  -- Where the rank of a place leads to it in the order, it is there; else it is not.
+  -- A place is in the order exactly if the order has it at its rank.
   pub met_there : (rank read : ℕ) → AreRanked order ranks → slice_get ranks place ≡ Some rank → slice_get order rank ≡ Some read
       → nat_eq read place ≡ list_any (λ other. nat_eq other place) order
   met_there rank read ranked noted here = by_test (list_any (λ other. nat_eq other place) order) refl
@@ -51,7 +51,7 @@ module _ (order ranks : List ℕ) (place : ℕ) where
           apart true is = absurd (true≢false (sym (any_passes_from_place (λ other. nat_eq other place) order rank place (here ∙ ap Some (eqb-true read place is)) (nat_eq_equiv.refl place)) ∙ e))
           apart false is = is
 
-  -- It is not there where its rank leads past all.
+  -- A place whose rank is past the end is not in the order.
   pub met_past : (rank : ℕ) → AreRanked order ranks → slice_get ranks place ≡ Some rank → length order ≤ rank → false ≡ list_any (λ other. nat_eq other place) order
   met_past rank ranked noted past = by_test (list_any (λ other. nat_eq other place) order) refl
     where
@@ -67,17 +67,17 @@ module _ (order ranks : List ℕ) (place : ℕ) where
           beyond is within = omega (arith, is, within, past)
       by_test false e = refl
 
-  -- A place that goes last has the next rank.
+  -- A place that comes last has the next rank.
   pub ranked_next : AreRanked order ranks → list_any (λ other. nat_eq other place) order ≡ false → place < length ranks → AreRanked (order ++ place ∷ []) (set ranks place (length order))
   ranked_next ranked new within rank other at = elim (snoc_stands order place rank other at) [
     | inl before ↦ slice_get-set_other ranks place other (length order) (λ is. absurd (true≢false (sym (any_passes_from_place (λ other. nat_eq other place) order rank place (before ∙ ap Some (sym is)) (nat_eq_equiv.refl place)) ∙ new))) ∙ ranked rank other before
     | inr (last, is) ↦ ap (slice_get (set ranks place (length order))) is ∙ slice_get-set ranks place (length order) within ∙ ap Some (sym last)
   ]
 
--- ---- when all have been met
+-- ---- after all values are there
 
 module _ {X : Type 0} (same : X → X → Bool) where
-  -- Values that are noted go behind the others.
+  -- More uses add values only at the end.
   noted_behind : (values more : List X) → (behind : List X) × (fold (note_value same) values more ≡ values ++ behind)
   noted_behind values [] = ([], sym (append-nil values))
   noted_behind values (x ∷ more) = by_test (list_any (λ y. same y x) values) (noted_behind values more) (noted_behind (values ++ x ∷ []) more)
@@ -89,7 +89,7 @@ module _ {X : Type 0} (same : X → X → Bool) where
       by_test false there new = (x ∷ new.0, new.1 ∙ append_assoc values (x ∷ []) new.0)
 
   module _ (laws : IsEquivalence same) where
-    -- More uses bring no fewer values, and where they bring no more, the values are the same.
+    -- More uses give no fewer values; if there are no more, the values are the same.
     different_behind : (xs ys : List X) → (behind : List X) × (different same (xs ++ ys) ≡ different same xs ++ behind)
     different_behind xs ys =
         let (behind, is) = noted_behind (different same xs) ys in
@@ -104,13 +104,13 @@ module _ {X : Type 0} (same : X → X → Bool) where
         empty [] h = refl
         empty (x ∷ l) h = absurd (omega (arith, h))
 
-    -- One more token notes its own uses.
+    -- One more token adds its own uses.
     pub noted_at : {A : Type 0} (f : A → List X) (tokens : List A) (i : ℕ) (d : A) (before after : List X) → i < length tokens → before ≡ different same (flat_map f (take i tokens))
         → after ≡ fold (note_value same) before (f (get_or tokens i d)) → after ≡ different same (flat_map f (take (i + 1) tokens))
     noted_at f tokens i d before after within e g =
         noted_token same laws f tokens i (get_or tokens i d) before after within (get_or_default tokens i d (get_or tokens i d) within) e g
 
-    -- Where the first tokens use as many values as all, they use all.
+    -- If the first tokens use as many values as all tokens, they use all values.
     pub all_met : {A : Type 0} (f : A → List X) (tokens : List A) (i : ℕ) → length (different same (flat_map f tokens)) ≤ length (different same (flat_map f (take i tokens)))
         → different same (flat_map f (take i tokens)) ≡ different same (flat_map f tokens)
     all_met f tokens i few =

@@ -1,4 +1,4 @@
--- A token in numbers whose indices are put anew is the token that it means, in numbers under the new tables.
+-- An interned token with new indices is the token that it means, in numbers under the new tables.
 use Rattle.std.proofs.Common.{◌≡◌, ℕ, inl, inr, ◌+◌, ◌<◌, ◌≤◌, ◌^◌, List, ◌∷◌, drop, get_or, length, bytes_eq, slice_get, Some, ap, sym, subst, ◌∙◌, arith}
 use Rattle.std.specs.List.{AllByRecursion}
 use Rattle.std.proofs.lemmas.List.{length-drop}
@@ -36,7 +36,7 @@ use Rattle.tt_pack.specs.Writing.{byte_sums, first_child_bytes, CanHold, held_by
 use Rattle.tt_pack.proofs.PlacesNamed.{named_at}
 use Rattle.tt_pack.proofs.Writing.{piece_at, header_holds}
 
--- Which token is meant at an index: the tables know it, and it is the first of those from there on.
+-- the token that is meant at an index: the tables have its values, and it is the first of the tokens from there on
 pub record MeantAt (old new : Tables) (list : List TokenTree) (index : ℕ) (it : InternedToken) (meant : TokenTree) : Type 0 where
   pub named : Names old it (whole meant)
   pub read : meant ≡ get_or list index meant
@@ -95,7 +95,7 @@ module _ (old new : Tables) (part_indices symbol_indices : List ℕ)
         record { it = token.Leaf it; read = is.read; named = record { known = is.knows; is = same; fits = subst EntryFits (sym same) fits; range = is.named.1 } }
     leaf_entry_at entry (token.Subtree it) few_symbols is = absurd is.named
 
-    -- All that a header holds is written, and with so many bytes its new numbers are those of the header that is meant.
+    -- All tokens below a header are written, and with their bytes its new numbers are those of the header that is meant.
     pub header_entry_at : (entry : HeaderEntry) (meant : TokenTree) (counts : List ℕ) → length list < 2 ^ 32 → IsWhole (drop index list) → counts ≡ byte_sums new (drop (index + 1) list)
         → MeantAt old new list index (interned.Header entry) meant
         → CanHold counts entry.len × ((child_bytes : ℕ) → child_bytes < 2 ^ 32 → child_bytes ≡ held_bytes counts entry.len → IsEntryAt new list index (of_header (new_header part_indices entry child_bytes)))

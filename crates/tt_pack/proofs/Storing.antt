@@ -1,4 +1,4 @@
--- What was written for a header and the tokens below it is what is stored for their tree.
+-- The bytes written for a header and the tokens below it are stored for their tree.
 use Rattle.std.proofs.Common.{◌≡◌, inl, inr, ℕ, suc, ◌+◌, ◌<◌, ◌≤◌, ◌^◌, true, List, [], ◌∷◌, ◌++◌, length, ap, ap₂, sym, subst, ◌∙◌, arith}
 use Rattle.std.specs.List.{AllByRecursion}
 use Rattle.tt_base.specs.declared.delimiter.Subtree.{Subtree}
@@ -25,16 +25,16 @@ use Rattle.tt_pack.specs.Packed.{stored_of, root_of, HasFewParts, HasFewSymbols,
 use Rattle.tt_pack.specs.Writing.{byte_count, IsWritten}
 use Rattle.tt_pack.proofs.Writing.{IsWriteFault}
 
--- The two tables of tokens, put together, are their tables.
+-- The two tables of tokens are their tables.
 pub tables_made : (parts : List SpanPart) (symbols : List (List ℕ)) (below : List TokenTree) → parts ≡ part_table below → symbols ≡ symbol_table below
     → tables_from parts symbols ≡ tables_for below
 tables_made parts symbols below e f = λ i. record { parts = e i; symbols = f i }
 
--- The tables of tokens know them.
+-- The tables of tokens have all their values.
 pub tables_for_know : (below : List TokenTree) → AllByRecursion (Knows (tables_for below)) below
 tables_for_know below = all_known (tables_for below) below (part_table_is below).has_all (symbol_table_is below).has_all
 
--- What cannot be written cannot be stored.
+-- Tokens that cannot be written cannot be stored.
 pub write_fault_is : (tables : Tables) (below : List TokenTree) (fault : TtFault) → tables ≡ tables_for below → IsWhole below → HasFewParts below → HasFewSymbols below
     → IsWriteFault (byte_count tables below) fault → IsStoreFault below fault
 write_fault_is tables below fault same whole few_parts few_symbols (inl e) = inl (inl (inl e))
@@ -48,14 +48,14 @@ module _ (top : Subtree) (below : List TokenTree) (w : IsWhole below) (counted :
   whole : flat (unflat below) ≡ below
   whole = (whole_iff below).0 w
 
-  -- The trees are as many as the header counts.
+  -- The trees have as many tokens as the header counts.
   pub sized : size (unflat below) ≡ top.len
   sized = sym (length-flat (unflat below)) ∙ ap length whole ∙ sym counted
 
   same_tables : tables_for (flat (unflat below)) ≡ tables_for below
   same_tables = ap tables_for whole
 
-  -- All that was written is what is stored.
+  -- All that is written is what is stored.
   pub is_stored : (tables : Tables) (entry : HeaderEntry) (written counts all : List ℕ) (parts : List SpanPart) (symbols : List (List ℕ)) (len : ℕ)
       → top.len < 2 ^ 32 → tables ≡ tables_for below → HasFewParts below → HasFewSymbols below → IsWritten tables below written counts
       → TokenInRange (token.Subtree top) → entry ≡ top_entry (length (part_table below)) top.delimiter top.len (length written)
@@ -108,19 +108,19 @@ module _ (top : Subtree) (below : List TokenTree) (w : IsWhole below) (counted :
   many_bytes : HasFewParts below → HasFewSymbols below → 4294967295 < byte_count (tables_for below) below → HasManyBytes (root_of top below)
   many_bytes few_parts few_symbols over = (few_parts_is few_parts, few_symbols_is few_symbols, subst (λ t. 4294967295 < byte_count t below) (sym same_tables) over)
 
--- A header makes no list one subtree that counts other tokens than those below it, or tokens that are no whole list.
+-- A header and tokens are no subtree, if it does not count exactly the tokens below it, or these are no whole list.
 pub no_subtree : (top : Subtree) (below : List TokenTree) → top.len < 2 ^ 32 → ((top.len ≡ length below) × IsWhole below → ⊥) → IsOneSubtree (token.Subtree top ∷ below) → ⊥
 no_subtree top below fits neither one = neither ((one_subtree_iff top below fits).0 one)
 
 -- A header counts the tokens below it.
 module _ (top : Subtree) (below : List TokenTree) (counted : top.len ≡ length below) (few : top.len < 2 ^ 32) where
-  -- If they are whole, its tree is the one that is stored.
+  -- If they are whole, the tree of the header and these tokens is the one that is stored.
   pub stored_list : (root : Root) → IsWhole below → root ≡ root_of top below → (token.Subtree top ∷ below ≡ flat_root root) × (size root.children ≤ 4294967295)
   stored_list root whole e =
       subst (λ r. (token.Subtree top ∷ below ≡ flat_root r) × (size r.children ≤ 4294967295)) (sym e)
       (list_is top below whole counted, omega (arith, sized top below whole counted, few))
 
-  -- What cannot be stored is refused for that reason.
+  -- If they cannot be stored, the list is refused for that reason.
   pub refused_list : (fault : TtFault) → IsStoreFault below fault → IsPackFault (token.Subtree top ∷ below) fault
   refused_list fault = refused
     where

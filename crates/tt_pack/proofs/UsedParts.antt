@@ -1,4 +1,4 @@
--- How many values are used, and where they stand by first use.
+-- The number of used values, and their places in the order of first uses.
 use Rattle.std.proofs.Common.{◌≡◌, ℕ, suc, ◌+◌, ◌<◌, ◌⊎◌, inl, inr, Bool, true, false, cond, Some, List, [], ◌∷◌, map, filter, length, count_by, nat_lt, slice_get, refl, ap, sym, subst, ◌∙◌, arith}
 use Rattle.std.proofs.lemmas.Bool.{lt-ltb, ltb-true}
 use Rattle.std.proofs.lemmas.List.Sums.{sum_by-cons}
@@ -11,13 +11,13 @@ use Rattle.tt_tables.proofs.TableOrder.{all_filter}
 use Rattle.tt_tables.proofs.Used.{one_if, unfiltered, uses_member, member_used, different_member, distinct-different}
 
 module _ {X : Type 0} where
-  -- What is in a list stands somewhere.
+  -- A value in a list has an index.
   pub member_stands : (z : X) (xs : List X) → Member z xs → (i : ℕ) × (slice_get xs i ≡ Some z)
   member_stands z [] m = absurd m
   member_stands z (x ∷ xs) (inl is) = (0, ap Some (sym is))
   member_stands z (x ∷ xs) (inr m) = let found = member_stands z xs m in (suc found.0, found.1)
 
-  -- As many are let through as pass.
+  -- As many items pass the filter as have numbers above 0.
   length-passed : (f : X → ℕ) (xs : List X) → length (filter (λ x. nat_lt 0 (f x)) xs) ≡ count_by (nat_lt 0) (map f xs)
   length-passed f [] = refl
   length-passed f (x ∷ xs) = by_test (nat_lt 0 (f x)) (length-passed f xs) ∙ sym (sum_by-cons (λ n. one_if (nat_lt 0 n)) (f x) (map f xs))
@@ -28,7 +28,7 @@ module _ {X : Type 0} where
       by_test false later = omega (arith, later)
 
 module _ {X : Type 0} (same : X → X → Bool) (laws : IsEquivalence same) (sound : (x y : X) → same x y ≡ true → x ≡ y) where
-  -- What is let through differs as before.
+  -- Items that pass a filter are all different, if they were before.
   distinct-filter : (test : X → Bool) (xs : List X) → IsDistinct same xs → IsDistinct same (filter test xs)
   unfolding IsDistinct
   distinct-filter test [] h = h
@@ -38,7 +38,7 @@ module _ {X : Type 0} (same : X → X → Bool) (laws : IsEquivalence same) (sou
       by_test true later = (all_filter (λ y. same x y ≡ false) (λ y. same x y ≡ false) test xs (λ y p q. q) h.0, later)
       by_test false later = later
 
-  -- As many values have uses as are different among the uses.
+  -- As many values have uses as there are different ones among the uses.
   pub used_different : (uses values : List X) → IsDistinct same values → ((z : X) → Member z uses → Member z values)
       → count_by (nat_lt 0) (map (uses_of same uses) values) ≡ length (different same uses)
   used_different uses values distinct all =
@@ -69,7 +69,7 @@ module _ {X : Type 0} (same : X → X → Bool) (laws : IsEquivalence same) (sou
   all_member P z (x ∷ xs) h (inl is) = subst P (sym is) h.0
   all_member P z (x ∷ xs) h (inr m) = all_member P z xs h.1 m
 
-  -- A value of a table that has only what is used stands among the different values.
+  -- A value of a table of used values is one of the different values.
   pub stands_by_first_use : (uses table : List X) (x : X) → AllByRecursion (IsIn same uses) table → IsIn same table x → (i : ℕ) × (slice_get (different same uses) i ≡ Some x)
   stands_by_first_use uses table x only found =
       member_stands x (different same uses)

@@ -1,4 +1,4 @@
--- What the tables of tokens in numbers say: where a value went that is named by its place, and a token in the new numbers.
+-- The tables of interned tokens: the new index of each value, and a token with the new indices.
 use Rattle.std.specs.Prelude.{ℕ, List, bytes_eq}
 use Rattle.tt_codec.specs.declared.entry.HeaderEntry.{HeaderEntry}
 use Rattle.tt_codec.specs.declared.entry.LeafEntry.{LeafEntry}
@@ -12,7 +12,7 @@ use Rattle.tt_pack.specs.Counted.{new_index}
 use Rattle.tt_pack.specs.Leading.{LeadsByPlace}
 use Rattle.tt_pack.specs.TablesOf.{StandsAt, HasNewIndexAt}
 
--- the parts and the symbols
+-- the tables of parts and of symbols
 abbrev pub tables_in : InternedTables → Tables
 tables_in tables = tables_from tables.parts.items tables.symbols.values.items
 
@@ -20,7 +20,7 @@ tables_in tables = tables_from tables.parts.items tables.symbols.values.items
 abbrev pub list_in : InternedTables → List TokenTree
 list_in tables = list_of tables.below
 
--- the new indices at the places of parts and symbols lead to where they stand in the tables
+-- the new indices of parts and symbols are their indices in the tables
 pub record LeadsFrom (tables : InternedTables) : Type 0 where
   pub parts : LeadsByPlace (parts_of tables.below) tables.parts.items tables.part_indices.items
   pub symbols : (place : ℕ) (x : List ℕ) → StandsAt (symbols_of tables.below) place x → HasNewIndexAt bytes_eq tables.symbols.values.items tables.symbols.new_indices.items place x
@@ -36,7 +36,7 @@ new_leaf part_indices symbol_indices (ident symbol raw numbers) = ident (new_ind
 new_leaf part_indices symbol_indices (literal symbol kind suffix_len numbers) =
     literal (new_index symbol_indices symbol) kind suffix_len (new_span part_indices numbers)
 
--- a header with the new indices, where what it holds takes so many bytes
+-- a header with the new indices; the tokens below it take `child_bytes` bytes
 abbrev pub new_header : (part_indices : List ℕ) → HeaderEntry → (child_bytes : ℕ) → HeaderEntry
 new_header part_indices entry child_bytes =
     record {

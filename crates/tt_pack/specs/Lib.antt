@@ -1,4 +1,4 @@
--- What the codec's contracts speak of.
+-- The definitions that the contracts of the packed form cite.
 pub mod Counted
 pub mod CountedValues
 pub mod Few

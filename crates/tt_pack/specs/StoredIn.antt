@@ -1,4 +1,4 @@
--- What is stored in the tree that a reader has, if it has one.
+-- What is stored for the tree of a reader, if it has one.
 use Rattle.std.specs.Borrow.{Bor}
 use Rattle.std.specs.Prelude.{ℕ, List, [], Option, Some, None}
 use Rattle.tt_base.specs.Forest.{Root}
@@ -9,7 +9,7 @@ use Rattle.tt_tables.specs.Tables.{Tables, tables_from}
 abbrev pub bytes_for : Root → List ℕ
 bytes_for root = (packed root).bytes
 
--- the tables stored for a tree
+-- the tables that are stored for a tree
 abbrev pub tables_stored : Root → Tables
 tables_stored root = tables_from (packed root).parts (packed root).symbols
 
@@ -18,7 +18,7 @@ abbrev pub bytes_in : Option (Bor Root) → List ℕ
 bytes_in None = []
 bytes_in (Some tree) = bytes_for tree.now
 
--- its tables
+-- the tables of the tree, if there is one
 abbrev pub tables_in : Option (Bor Root) → Tables
 tables_in None = tables_from [] []
 tables_in (Some tree) = tables_stored tree.now

@@ -9,7 +9,7 @@ use Rattle.tt_tables.specs.Tables.{Tables}
 use Rattle.tt_pack.specs.declared.writer.Writer.{Writer}
 use Rattle.tt_pack.specs.Writing.{IsWritten}
 
--- under these tables, these tokens, which stand at the end of the list
+-- the writer has written these tokens, the last ones of a list, under these tables
 abbrev pub HasWritten : Tables → List TokenTree → Writer → Type 0
 HasWritten tables tokens writer = IsWritten tables tokens (bytes_of writer.bytes) writer.sums.items
 

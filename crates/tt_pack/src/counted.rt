@@ -1,4 +1,4 @@
-//! Values that are counted: a map from each different value, by first use, to its number of uses.
+//! Counts values: a map from each different value, in the order of first uses, to its number of uses.
 ghost use Rattle.std.specs.Prelude.{◌≡◌, ◌<◌, ◌≤◌, ◌^◌, List, [], true, false, Some, length, bytes_eq, slice_get, IfOk, IfErr, OnOk};
 ghost use Rattle.std.specs.Bool.{OnTrue};
 ghost use Rattle.indexmap.specs.IndexMap.{keys};
@@ -18,12 +18,12 @@ use std::hash::Hash;
 use tt_base::{Span, SpanPart, Symbol, TtFault};
 use tt_codec::MOST_SYMBOLS;
 
-// A list mostly has no more parts.
+// Lists mostly have no more parts than this.
 const FEW_PARTS: usize = 4;
-// The room that is made for symbols at first is for so many at most.
+// The largest number of symbols for which memory is taken at once.
 const MOST_SYMBOLS_AT_FIRST: usize = 1 << 12;
 
-/// For how many parts and symbols room is made at first.
+/// For how many parts and symbols memory is taken at first.
 #[derive(Clone, Copy)]
 pub(crate) struct FirstRoom {
     pub(crate) parts: usize,
@@ -31,7 +31,7 @@ pub(crate) struct FirstRoom {
 }
 
 impl FirstRoom {
-    /// The room for so many tokens of which nothing is known: about a third of the tokens of source are its different symbols.
+    /// Returns the room for a list of `tokens` tokens with unknown values. In source, a third as many symbols as tokens are different.
     pub(crate) fn for_tokens(tokens: usize) -> FirstRoom
         ensures parts { result.parts ≤ tokens }
         ensures symbols { result.symbols ≤ tokens }
@@ -43,21 +43,21 @@ impl FirstRoom {
     }
 }
 
-/// Different parts and symbols with their numbers of uses. There is a place for each.
+/// The different parts and symbols, each at a place, with their numbers of uses.
 #[derive(Drop)]
 pub(crate) struct CountedValues {
     parts: IndexMap<SpanPart, usize>,
     symbols: IndexMap<Symbol, usize>,
 }
 
-/// An index as it is kept for each use. One that does not fit stands for none: no table has so many entries.
+/// Returns the index as a `u32`. One that does not fit becomes `u32::MAX`, which means no value: no table has so many entries.
 pub(crate) fn kept_index(index: usize) -> u32
     ensures { index < 2 ^ 32 → result ≡ index }
 {
     index.min(u32::MAX as usize) as u32
 }
 
-// Counts one more use of a value, and gives its index. A value that is new goes last.
+// Counts one use of a value, and returns its index. A new value gets the last place.
 #[inline(never)]
 fn count_use<T: Eq + Hash + Clone + Drop>(
     counts: &mut IndexMap<T, usize>,
@@ -76,7 +76,7 @@ fn count_use<T: Eq + Hash + Clone + Drop>(
     Ok(kept_index(index))
 }
 
-// Counts one more use of the value at the index, if that is the value.
+// If the value is at the index, counts one use of it. Returns whether it is there.
 #[inline(always)]
 fn count_at<T: Eq + Hash>(counts: &mut IndexMap<T, usize>, index: usize, value: &T) -> bool
     requires same { (x y : T) → T.eq x y ≡ true → x ≡ y }
@@ -97,8 +97,8 @@ fn count_at<T: Eq + Hash>(counts: &mut IndexMap<T, usize>, index: usize, value: 
     true
 }
 
-// Counts one more use of a value, as `count_use` does. It is first looked for at the index of another use.
-// Mostly it stands there, so that is tried in place, and the rest is a call.
+// Does the same as `count_use`, but looks first at the index of another use. The value is mostly there, so this test is inline, and the
+// rest is a call.
 #[inline(always)]
 fn count_near<T: Eq + Hash + Clone + Drop>(
     counts: &mut IndexMap<T, usize>,
@@ -117,8 +117,7 @@ fn count_near<T: Eq + Hash + Clone + Drop>(
     count_use(counts, value)
 }
 
-// Counts one more use of a symbol, as `count_use` does. It is first looked for at the place that it notes, and where it
-// stands elsewhere it notes that.
+// Does the same as `count_use`, but looks first at the place that the symbol notes. If the symbol is at another place, it notes that one.
 #[inline(always)]
 fn count_symbol(counts: &mut IndexMap<Symbol, usize>, symbol: &Symbol) -> Result<u32, AllocError>
     requires room { HasRoomFor 1 counts.old.entries }
@@ -133,8 +132,8 @@ fn count_symbol(counts: &mut IndexMap<Symbol, usize>, symbol: &Symbol) -> Result
     Ok(index)
 }
 
-// The table of what is counted: up to `short` values by first use, and more by falling number of uses, ties by first use
-// (docs/FORMATS.md). There is room for `more` values.
+// Returns the table of the counted values, with room for `more`: up to `short` values by first use; more of them by number of uses, the
+// largest first, and then by first use (docs/FORMATS.md).
 fn counted_table<T: Eq + Hash + Clone + Drop>(
     alloc: Global,
     counts: &IndexMap<T, usize>,
@@ -154,7 +153,7 @@ fn counted_table<T: Eq + Hash + Clone + Drop>(
 impl CountedValues {
     ghost use Rattle.tt_pack.specs.TablesOf.{AreTables};
 
-    /// No value has been met.
+    /// Returns a count of no values. Fails only if memory runs out.
     pub(crate) fn new(alloc: Global, room: FirstRoom) -> Result<CountedValues, AllocError>
         ensures { IfOk result (λ values. HasCounted values [] []) }
     {
@@ -164,7 +163,8 @@ impl CountedValues {
         })
     }
 
-    /// The two tables of what has been met, where their indices can be written and the parts leave room for the top's two.
+    /// Returns the two tables of the counted values. Fails if there are too many parts, with the top's two, or too many symbols for their
+    /// indices (docs/FORMATS.md), or if memory runs out.
     pub(crate) fn tables(&self, alloc: Global) -> Result<(Table<SpanPart>, Table<Symbol>), TtFault>
         ensures tables { IfOk result (λ tables. (tokens : List TokenTree) → HasCounted self.now (part_uses tokens) (symbol_uses tokens) → AreTables tokens tables.0 tables.1) }
         ensures err { IfErr result (λ fault. (tokens : List TokenTree) → IsWhole tokens → HasCounted self.now (part_uses tokens) (symbol_uses tokens) → IsTableFault tokens fault) }

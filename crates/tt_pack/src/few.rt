@@ -1,4 +1,4 @@
-//! The values of few tokens, which are found by comparing.
+//! The values of few tokens, found by comparison.
 ghost use Rattle.std.specs.Prelude.{◌≡◌, ◌≤◌, [], true, false, length, bytes_eq, slice_get, Some, IfOk, IfSome, IfNone};
 ghost use Rattle.std.specs.Bool.{OnTrue};
 ghost use Rattle.std.specs.List.{list_any};
@@ -14,19 +14,19 @@ use crate::values::Values;
 use std::alloc::{AllocError, Global};
 use tt_base::{Span, SpanPart, Symbol};
 
-/// A list of up to so many tokens is seen here first.
+/// The largest number of tokens in a list that is tried here first.
 pub(crate) const FEW_TOKENS: usize = 64;
-// So many symbols are found by comparing as fast as by hashing. Up to 63 stand by first use.
+// The largest number of symbols here. Comparison finds them as fast as a hash does. Up to 63 symbols are in the order of first uses.
 const FEW_SYMBOLS: usize = 24;
 
-/// Different parts and symbols by first use. There is a place for 15 parts and for 24 symbols.
+/// The different parts and symbols, in the order of first uses: at most 15 parts and 24 symbols.
 #[derive(Drop)]
 pub(crate) struct FewValues {
     pub(crate) parts: Vec<SpanPart>,
     pub(crate) symbols: Vec<Symbol>,
 }
 
-// Where a part stands among others, if it does.
+// Returns the index of a part among others, if it is there.
 fn find_part(parts: &[SpanPart], part: &SpanPart) -> Option<usize>
     ensures at { IfSome result (λ index. slice_get parts.now index ≡ Some part.now) }
     ensures new { IfNone result (list_any (λ other. same_part other part.now) parts.now ≡ false) }
@@ -39,7 +39,7 @@ fn find_part(parts: &[SpanPart], part: &SpanPart) -> Option<usize>
     None
 }
 
-// Where a symbol stands among others, if it does. It is mostly none of them, so texts are compared at once.
+// Returns the index of a symbol among others, if it is there. It mostly is not, so this compares texts at once.
 fn find_symbol(symbols: &[Symbol], symbol: &Symbol) -> Option<usize>
     ensures at { IfSome result (λ index. slice_get symbols.now index ≡ Some symbol.now) }
     ensures new { IfNone result (list_any (λ other. bytes_eq other symbol.now) symbols.now ≡ false) }
@@ -53,7 +53,8 @@ fn find_symbol(symbols: &[Symbol], symbol: &Symbol) -> Option<usize>
     None
 }
 
-// Where a value stands that was looked for. One that was not found goes last, if fewer than `most` stand there.
+// Returns the index of a value, by the result of the search for it. Appends a value that was not found. Returns `None` if there are
+// already `most` values.
 fn put_last<T: Eq + Clone + Drop>(
     values: &mut Vec<T>,
     most: usize,
@@ -78,7 +79,7 @@ fn put_last<T: Eq + Clone + Drop>(
     Ok(Some(kept_index(index)))
 }
 
-// Whether the value stands at the index.
+// Returns whether the value is at the index.
 #[inline(always)]
 fn is_at<T: Eq>(values: &[T], index: usize, value: &T) -> bool
     requires { (x y : T) → T.eq x y ≡ true → x ≡ y }
@@ -90,8 +91,8 @@ fn is_at<T: Eq>(values: &[T], index: usize, value: &T) -> bool
     values[index] == *value
 }
 
-// Where the part of a span stands. One that is new goes last, if fewer than 15 stand there. It is first looked for at the
-// index of another use.
+// Returns the index of a span's part. Looks first at the index of another use, and appends a new part. Returns `None` if it is new and
+// there are already 15.
 #[inline(always)]
 fn note_part(parts: &mut Vec<SpanPart>, other: u32, span: &Span) -> Result<Option<u32>, AllocError>
     ensures parts { IfOk result (λ found. IfSome found (λ index. parts.new.items ≡ note_value same_part parts.old.items (part_of span.now))) }
@@ -106,8 +107,8 @@ fn note_part(parts: &mut Vec<SpanPart>, other: u32, span: &Span) -> Result<Optio
     put_last(parts, SHORT_PARTS, found, &part)
 }
 
-// Where a symbol stands. One that is new goes last, if fewer than 24 stand there. It is first looked for at the place that it
-// notes, and where it stands elsewhere it notes that.
+// Returns the index of a symbol. Looks first at the place that the symbol notes, and appends a new symbol. Returns `None` if it is new
+// and there are already 24. If the symbol is at another place, it notes that one.
 #[inline(always)]
 fn note_symbol(symbols: &mut Vec<Symbol>, symbol: &Symbol) -> Result<Option<u32>, AllocError>
     ensures symbols { IfOk result (λ found. IfSome found (λ index. symbols.new.items ≡ note_value bytes_eq symbols.old.items symbol.now)) }
@@ -121,7 +122,7 @@ fn note_symbol(symbols: &mut Vec<Symbol>, symbol: &Symbol) -> Result<Option<u32>
     note_elsewhere(symbols, symbol)
 }
 
-// The same, where it is not at the place that it notes.
+// The same for a symbol that is not at the place that it notes.
 #[inline(never)]
 fn note_elsewhere(symbols: &mut Vec<Symbol>, symbol: &Symbol) -> Result<Option<u32>, AllocError>
     ensures symbols { IfOk result (λ found. IfSome found (λ index. symbols.new.items ≡ note_value bytes_eq symbols.old.items symbol.now)) }
@@ -137,7 +138,7 @@ fn note_elsewhere(symbols: &mut Vec<Symbol>, symbol: &Symbol) -> Result<Option<u
 }
 
 impl FewValues {
-    /// No value has been met, and there is room for those of so many tokens.
+    /// Returns a list of no values, with room for those of that many tokens. Fails only if memory runs out.
     pub(crate) fn new(alloc: Global, tokens: usize) -> Result<FewValues, AllocError>
         ensures { IfOk result (λ values. HasNoted values [] []) }
     {

@@ -1,4 +1,4 @@
-//! The parts that tokens in numbers use, by their places, in the order of first use.
+//! The parts that interned tokens use, by their places, in the order of first uses.
 ghost use Rattle.std.specs.Prelude.{◌≡◌, ◌<◌, ◌≤◌, ◌^◌, ◌+◌, [], true, false, All, nat_eq, nat_lt, fold, length, count_by, IfOk, IfSome, IfNone, OnOk};
 ghost use Rattle.std.specs.Bool.{OnTrue};
 ghost use Rattle.std.specs.List.{list_any, range_with_len};
@@ -10,16 +10,16 @@ use std::alloc::{AllocError, Global};
 use tt_codec::LeafEntry;
 use tt_interned::InternedToken;
 
-/// The places of the parts that are used, and where each of them stands in this order.
+/// The places of the used parts in the order of first uses, and the rank of each in this order.
 #[derive(Drop)]
 pub(crate) struct FirstUses {
-    /// By first use.
+    /// The places, by rank.
     pub(crate) order: Vec<u32>,
-    /// By place. Of a part that is not used it says nothing.
+    /// The ranks, by place. The rank of a part that is not used has no meaning.
     pub(crate) ranks: Vec<u32>,
 }
 
-/// How many of the numbers are above 0.
+/// Returns how many of the numbers are above 0.
 pub(crate) fn count_used(numbers: &[usize]) -> usize
     ensures { result ≡ count_by (nat_lt 0) numbers.now }
 {
@@ -32,7 +32,7 @@ pub(crate) fn count_used(numbers: &[usize]) -> usize
     used
 }
 
-// The place of a leaf's part.
+// Returns the place of a leaf's part.
 #[inline(always)]
 fn leaf_place(entry: &LeafEntry) -> u32
     ensures { result ≡ leaf_place entry.now }
@@ -44,7 +44,7 @@ fn leaf_place(entry: &LeafEntry) -> u32
     }
 }
 
-// The places of a token's parts: of a header its open part and then its close part.
+// Returns the places of a token's parts: for a header its open part, then its close part.
 #[inline(always)]
 fn token_places(token: &InternedToken) -> (u32, Option<u32>)
     ensures { token_places token.now ≡ places_from result.0 result.1 }
@@ -56,7 +56,7 @@ fn token_places(token: &InternedToken) -> (u32, Option<u32>)
     }
 }
 
-// How many of the first places have been met, with the next use of a place; none where it is met out of turn.
+// Returns how many of the first places are used after the next use, which is at a place, or `None` if that use is out of order.
 #[inline(always)]
 fn met_with(met: usize, place: u32) -> Option<usize>
     ensures turn { IfSome result (λ more. note_value nat_eq (range_with_len 0 met) place ≡ range_with_len 0 more) }
@@ -72,7 +72,7 @@ fn met_with(met: usize, place: u32) -> Option<usize>
     Some(place + 1)
 }
 
-// The same with what the next token uses.
+// The same for all that the next token uses.
 #[inline(always)]
 fn met_with_token(met: usize, token: &InternedToken) -> Option<usize>
     ensures turn { IfSome result (λ more. fold (note_value nat_eq) (range_with_len 0 met) (token_places token.now) ≡ range_with_len 0 more) }
@@ -86,8 +86,8 @@ fn met_with_token(met: usize, token: &InternedToken) -> Option<usize>
     }
 }
 
-/// Whether the parts that the tokens use stand by first use as they are: the first at the place 0, the second at 1, and so on.
-/// It is seen once all of them have been met, of which there are so many, or one out of its turn.
+/// Returns whether the used parts are in the order of first uses already: the first one at the place 0, the second at 1, and so on. There
+/// are `used` of them. Stops as soon as all were used, or at the first one out of order.
 #[inline(never)]
 pub(crate) fn stand_by_first_use(tokens: &[InternedToken], used: usize) -> bool
     requires { used ≡ length (different nat_eq (part_places tokens.now)) }
@@ -108,7 +108,7 @@ pub(crate) fn stand_by_first_use(tokens: &[InternedToken], used: usize) -> bool
 }
 
 impl FirstUses {
-    // Whether the part at the place is used so far.
+    // Returns whether the part at the place was used so far.
     #[inline(always)]
     fn is_met(&self, place: u32) -> bool
         requires within { place < length self.now.ranks.items }
@@ -141,7 +141,7 @@ impl FirstUses {
         Ok(())
     }
 
-    // Notes what the next token uses.
+    // Notes all that the next token uses.
     #[inline(always)]
     fn meet_token(&mut self, token: &InternedToken) -> Result<(), AllocError>
         requires within { IsWithin (length self.old.ranks.items) token.now }
@@ -159,7 +159,7 @@ impl FirstUses {
         }
     }
 
-    // Notes what the tokens use, until all parts that are used have been met. None is noted before.
+    // Notes all that the tokens use, until all used parts are noted. None is noted before.
     #[inline(never)]
     fn meet_list(&mut self, tokens: &[InternedToken], used: usize) -> Result<(), AllocError>
         requires within { All (IsWithin (length self.old.ranks.items)) tokens.now }
@@ -179,8 +179,8 @@ impl FirstUses {
         Ok(())
     }
 
-    /// The order of the parts that the tokens use, of which there are so many, among all that they can name. It is found once
-    /// each of them has been met: the tokens behind are not read.
+    /// Returns the order of the parts that the tokens use. There are `used` of them, among all parts that they can name. Reads the tokens
+    /// only up to the last first use. Fails only if memory runs out.
     pub(crate) fn of_tokens(
         alloc: Global,
         tokens: &[InternedToken],

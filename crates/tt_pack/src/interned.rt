@@ -1,4 +1,4 @@
-//! The two tables of tokens that name values by places, and such tokens under these tables.
+//! The two tables of interned tokens, and such tokens in numbers under these tables.
 ghost use Rattle.std.specs.Prelude.{◌≡◌, ℕ, ◌+◌, ◌<◌, ◌≤◌, All, length, map, nat_eq, IfOk, IfErr};
 ghost use Rattle.std.specs.List.{AllZip};
 ghost use Rattle.tt_base.specs.Forest.{IsWhole};
@@ -23,19 +23,20 @@ use tt_base::{SpanPart, Symbol, TtFault};
 use tt_codec::{Entry, HeaderEntry, LeafEntry, MOST_SYMBOLS, SpanNumbers};
 use tt_interned::{CountedTokens, InternedToken};
 
-/// The tables of tokens in numbers, and where in them each value went that is named by its place.
+/// The tables of interned tokens, and the new index of each value, by its place.
 #[derive(Drop)]
 pub(crate) struct InternedTables<'a> {
     below: CountedTokens<'a>,
     pub(crate) parts: Vec<SpanPart>,
-    /// By place: the index of the part. Of a part that is not used it says nothing. There are none where each has stayed.
+    /// The indices of the parts, by place. That of a part that is not used has no meaning. The list is empty if each part keeps its
+    /// place.
     part_indices: Vec<u32>,
     pub(crate) symbols: Table<Symbol>,
     pub ghost few_parts: { length parts.items + 2 ≤ most_parts },
     pub ghost few_symbols: { length symbols.values.items ≤ most_symbols },
 }
 
-// The values at these places, with room for `more`.
+// Returns the values at these places, with room for `more`.
 fn values_at<T: Copy>(
     alloc: Global,
     values: &[T],
@@ -52,8 +53,8 @@ fn values_at<T: Copy>(
     Ok(found)
 }
 
-// The table of the parts that the tokens use, from their places by first use, with room for the top's two. Up to 15 stay as
-// they stand, so their numbers of uses are not copied.
+// Returns the table of the parts that the tokens use, by their places in the order of first uses, with room for the top's two. Up to 15
+// parts keep that order, so the code copies no numbers of uses for them.
 fn part_table(
     alloc: Global,
     below: CountedTokens<'_>,
@@ -73,7 +74,7 @@ fn part_table(
     Table::of_counts(alloc, &parts, &uses, SHORT_PARTS, TOP_PARTS)
 }
 
-// The new index of each index. Where none is noted, it stays.
+// Returns the new index of each index. An index without a new one stays.
 fn renumbered(indices: Vec<u32>, new_indices: &[u32]) -> Vec<u32>
     ensures { result.items ≡ map (new_index new_indices.now) indices.items }
 {
@@ -84,8 +85,8 @@ fn renumbered(indices: Vec<u32>, new_indices: &[u32]) -> Vec<u32>
     indices
 }
 
-// The table of the parts that the tokens use, of which there are so many, and by place the index of each in it. Mostly they
-// stand by first use as they are, and then their order is not sought.
+// Returns the table of the `used` parts that the tokens use, and the new index of each by place. The parts are mostly in the order of
+// first uses already; then the code does not look for that order.
 fn parts_by_place(
     alloc: Global,
     below: CountedTokens<'_>,
@@ -120,8 +121,8 @@ impl<'a> InternedTables<'a> {
     ghost use Rattle.tt_pack.specs.InternedTables.{list_in, tables_in, LeadsFrom, new_span, new_leaf, new_header};
     ghost use Rattle.tt_pack.specs.TablesOf.{AreNumbers};
 
-    /// The tables of the tokens, where their indices can be written and the parts leave room for the top's two
-    /// (docs/FORMATS.md).
+    /// Returns the tables of the tokens. Fails if there are too many parts, with the top's two, or too many symbols for their indices
+    /// (docs/FORMATS.md), or if memory runs out.
     pub(crate) fn of_tokens(
         alloc: Global,
         below: CountedTokens<'a>,
@@ -153,7 +154,7 @@ impl<'a> InternedTables<'a> {
         })
     }
 
-    // The numbers of a span, with the new index of its part.
+    // Returns the numbers of a span, with the new index of its part.
     #[inline(always)]
     fn span(&self, numbers: SpanNumbers) -> SpanNumbers
         ensures { result ≡ new_span self.now.part_indices.items numbers }
@@ -165,7 +166,7 @@ impl<'a> InternedTables<'a> {
         }
     }
 
-    // A leaf with the new indices.
+    // Returns a leaf with the new indices.
     #[inline(always)]
     fn leaf(&self, entry: LeafEntry) -> LeafEntry
         ensures { result ≡ new_leaf self.now.part_indices.items self.now.symbols.new_indices.items entry }
@@ -185,7 +186,7 @@ impl<'a> InternedTables<'a> {
         }
     }
 
-    // A header with the new indices, where what it holds takes so many bytes.
+    // Returns a header with the new indices. The tokens below it take `child_bytes` bytes.
     #[inline(always)]
     fn header(&self, entry: HeaderEntry, child_bytes: u32) -> HeaderEntry
         ensures { result ≡ new_header self.now.part_indices.items entry child_bytes }
@@ -209,12 +210,12 @@ impl Numbered for InternedTables<'_> {
 
     ghost leads = { LeadsFrom };
 
-    // As much as so many headers take, so that no pass counts it.
+    // Returns the bytes of as many headers as there are tokens, so no pass has to count the bytes.
     fn room(&self) -> usize {
         self.below.len().saturating_mul(MOST_HEADER_BYTES)
     }
 
-    // In the place of the call, and the kind is asked once, until the bytes are written.
+    // This is inline, so the code tests the kind only once before it writes the bytes.
     #[inline(always)]
     fn entry(&self, index: usize, written: &Writer) -> Entry {
         match &self.below.tokens()[index] {

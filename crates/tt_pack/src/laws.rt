@@ -1,4 +1,4 @@
-//! The bytes of one value alone, for tests and for readers of the format.
+//! The bytes of a single value, for tests and for readers of the format.
 
 ghost use Rattle.std.specs.Prelude.{◌≡◌, ◌+◌, ◌<◌, ◌^◌, length, IfOk, IfErr, MatchOption};
 ghost use Rattle.tt_tables.specs.Cost.{weight};
@@ -15,17 +15,17 @@ use tt_base::{SpanPart, Symbol, TokenTree, TtFault};
 use tt_codec::{Reference, SpanNumbers};
 use tt_tables::Tables;
 
-// No reference takes more bytes.
+// The largest number of bytes of a reference.
 const MOST_REFERENCE_BYTES: usize = 4;
 
-// No span takes more bytes.
+// The largest number of bytes of a span.
 const MOST_SPAN_BYTES: usize = 12;
 
-// No token takes more bytes.
+// The largest number of bytes of a token.
 const MOST_TOKEN_BYTES: usize = 33;
 
-/// The bytes that name a symbol: its index in a table, and a tag bit. The index has to be below 2^29 and the tag 0 or 1,
-/// which is seen by comparing. The only fault is `Memory`.
+/// Returns the bytes that name a symbol by its index in a table and a tag bit. The index is less than 2^29, and the tag is 0 or 1. Fails
+/// only if memory runs out (`Memory`).
 pub fn symbol_bytes(alloc: Global, index: u32, tag: u32) -> Result<Vec<u8>, TtFault>
     requires index { index < 2 ^ 29 }
     requires tag { tag < 2 }
@@ -38,9 +38,9 @@ pub fn symbol_bytes(alloc: Global, index: u32, tag: u32) -> Result<Vec<u8>, TtFa
     Ok(bytes.into_vec()?)
 }
 
-/// The bytes of a span: the index of its part, its start and its length, with two extra bits.
-/// `heavy` demands the longest form. The part has to be below 2^28 and the extra bits below 4, which is seen by comparing,
-/// and `start.checked_add(length)` has to be `Some`. The only fault is `Memory`.
+/// Returns the bytes of a span: the index of its part, its start and its length in bytes, with two extra bits. `heavy` demands the
+/// longest form. The part is less than 2^28, the extra bits are less than 4, and `start.checked_add(length)` is `Some`. Fails only if
+/// memory runs out (`Memory`).
 pub fn span_bytes(
     alloc: Global,
     part: u32,
@@ -65,10 +65,9 @@ pub fn span_bytes(
     Ok(bytes.into_vec()?)
 }
 
-/// The bytes of a token below the top, or `None` where the tables do not have a part or a symbol that it uses.
-/// A header takes the shortest of the formats that can hold it.
-/// Of the tables only the first 2^28 parts and 2^29 symbols count. What a header holds takes `child_bytes` bytes. There is no
-/// condition, and the only fault is `Memory`.
+/// Returns the bytes of a token below the top, or `None` if the tables do not have a part or a symbol that it uses. A header has the
+/// shortest format that can hold it. Only the first 2^28 parts and 2^29 symbols of the tables count. The tokens below a header take
+/// `child_bytes` bytes. Fails only if memory runs out (`Memory`).
 pub fn token_bytes(
     alloc: Global,
     token: &TokenTree,

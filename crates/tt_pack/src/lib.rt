@@ -1,4 +1,4 @@
-//! The packed form of token trees: how tokens are written as bytes and read back, and the tables that those bytes name.
+//! The packed form of token trees: bytes that name the entries of two tables. Writes tokens as bytes, and reads them back.
 #![tactic(auto)]
 
 mod counted;

@@ -12,7 +12,7 @@ use crate::writer::Writer;
 use tt_base::{SpanPart, Symbol};
 use tt_codec::Entry;
 
-/// Gives the tokens of a list in numbers, one at a time.
+/// The tokens of a list, each in numbers.
 pub(crate) trait Numbered {
     /// The flat list.
     ghost list: { Self → List TokenTree };
@@ -20,15 +20,15 @@ pub(crate) trait Numbered {
     /// The tables that the numbers name.
     ghost tables: { Self → Tables };
 
-    /// That it leads to where in the tables each value stands that a token uses.
+    /// What the type knows of its values: it has the index of each value that a token uses.
     ghost leads: { Self → Type 0 };
 
-    /// A size in which all tokens have room, or more than any block has.
+    /// Returns a number of bytes with room for all tokens, or more than any block of memory has.
     fn room(&self) -> usize
         requires { leads self.now }
         ensures { HasRoomForAll (list self.now) result };
 
-    /// The token at the index in numbers, where those behind it are written: by them a header knows how many bytes it holds.
+    /// Returns the token at the index in numbers. The tokens after it are written, so a header knows how many bytes its subtree takes.
     fn entry(&self, index: usize, written: &Writer) -> Entry
         requires index { index < length (list self.now) }
         requires few { length (list self.now) < 2 ^ 32 }
@@ -38,7 +38,7 @@ pub(crate) trait Numbered {
         requires written { HasWritten (tables self.now) (drop (index + 1) (list self.now)) written.now }
         ensures { IsEntryAt (tables self.now) (list self.now) index result };
 
-    /// The two tables. All else is let go.
+    /// Returns the two tables, and drops the rest.
     fn into_tables(self) -> (Vec<SpanPart>, Vec<Symbol>)
         ensures { tables_from result.0.items result.1.items ≡ tables self };
 }

@@ -1,4 +1,4 @@
-//! From a list to what is stored for it.
+//! Makes what is stored for a list.
 ghost use Rattle.std.specs.Prelude.{◌≡◌, ◌+◌, ◌≤◌, ◌++◌, ◌∷◌, [], true, length, IfOk, IfErr};
 ghost use Rattle.tt_back_buf.specs.Bytes.{bytes_of, room_of};
 ghost use Rattle.tt_base.specs.declared.fault.TtFault.TheVariants.{Memory};
@@ -17,7 +17,7 @@ use std::alloc::Global;
 use tt_base::{SpanPart, Subtree, Symbol, TtFault};
 use tt_codec::HeaderEntry;
 
-// The bytes of a header and of all that is written below it, and the parts below with the header's two behind them.
+// Returns the bytes of a header and of all that is written below it, and the parts below it with the header's two at the end.
 fn with_top(
     top: Subtree,
     writer: Writer,
@@ -39,7 +39,8 @@ fn with_top(
     Ok((bytes, parts))
 }
 
-/// The bytes, the parts and the symbols that are stored for a header and the tokens below it.
+/// Returns the bytes, the parts and the symbols that are stored for a header and the tokens below it. Fails if the bytes below it are too
+/// many, or if memory runs out.
 pub(crate) fn write_tree<N: Numbered + Drop>(
     alloc: Global,
     top: Subtree,
@@ -52,7 +53,7 @@ pub(crate) fn write_tree<N: Numbered + Drop>(
     ensures err { IfErr result (IsStoreFault (N.list numbers)) }
 {
     let writer = Writer::write_all(alloc, &numbers, top.len as usize)?;
-    // What stands for each token is let go before the bytes are copied, so that the two never take memory at once.
+    // Drops the numbers before it copies the bytes, so the two never take memory at once.
     let (parts, symbols) = numbers.into_tables();
     let (bytes, parts) = with_top(top, writer, parts)?;
     Ok((bytes, parts, symbols))

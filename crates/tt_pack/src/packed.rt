@@ -1,4 +1,4 @@
-//! A tree as it is stored, and the calls that make it and show it.
+//! A stored tree, and the calls that make it and show it.
 ghost use Rattle.std.specs.Prelude.{◌≡◌, ◌≤◌, ◌+◌, ◌*◌, ◌-◌, ◌∷◌, suc, length, drop, take, IfOk, IfErr, IsTrue, ◌↔◌, bytes_eq};
 ghost use Rattle.tt_base.specs.declared.fault.TtFault.TheVariants.{Memory};
 ghost use Rattle.tt_base.specs.declared.token_tree.TokenTree.TheVariants as token;
@@ -35,8 +35,8 @@ use std::marker::Model;
 use tt_base::{Refused, SpanPart, Subtree, Symbol, TokenTree, TtFault};
 use tt_tables::Tables;
 
-/// A token tree as bytes and two tables. A contract sees the tree; its bytes and tables are a function of it
-/// (docs/FORMATS.md), so equal trees are stored alike.
+/// A token tree as bytes and two tables. A contract sees the tree. The bytes and tables are a function of the tree (docs/FORMATS.md), so
+/// equal trees have equal bytes and tables.
 #[derive(Drop)]
 pub struct Packed {
     bytes: Vec<u8>,
@@ -61,8 +61,8 @@ impl Packed {
     ghost use Rattle.tt_pack.specs.StoredIn.{tables_stored};
     ghost use Rattle.tt_tables.specs.TablesOf.{tables_of};
 
-    /// The tree of a flat list. A list is refused where it is not that of one subtree, has too many span parts, too
-    /// many symbols or too many bytes, in this order (docs/FORMATS.md, "Limits"), or where memory is refused; it is then handed back.
+    /// Returns the tree of a flat list. Fails if the list is not that of exactly one subtree, or has too many span parts, too many
+    /// symbols or too many bytes, in this order (docs/FORMATS.md, "Limits"), or if memory runs out. A failure returns the list.
     pub fn pack(alloc: Global, tokens: Vec<TokenTree>) -> Result<Packed, Refused<Vec<TokenTree>>>
         ensures ok { IfOk result (λ stored. tokens.items ≡ flat_root stored) }
         ensures counts { IfOk result (λ stored. size stored.children ≤ most_tokens) }
@@ -79,9 +79,9 @@ impl Packed {
         }
     }
 
-    /// The tree of a flat list, as `pack` gives it, where each map gives every value its number of uses in the list
-    /// below the top. A value that is absent, or has the number 0, has none. The maps say nothing of the order. They tell for how
-    /// many values room is made at once; the uses are counted with the order, which only the list tells.
+    /// Returns the tree of a flat list, and fails, as `pack` does. Each map has the number of uses of every value in the list below the
+    /// top; a value that is not in the map, or has the number 0, has no use. The code takes memory at once for as many values as the maps
+    /// have. It counts the uses again, since only the list has their order.
     pub fn pack_counted(
         alloc: Global,
         tokens: Vec<TokenTree>,
@@ -105,7 +105,7 @@ impl Packed {
         }
     }
 
-    /// The tree of a flat list that stays with the caller, refused where `pack` refuses it.
+    /// Returns the tree of a flat list that stays with the caller. Fails as `pack` does.
     pub fn of_list(alloc: Global, tokens: &[TokenTree]) -> Result<Packed, TtFault>
         ensures ok { IfOk result (λ stored. (tokens.now ≡ flat_root stored) × (size stored.children ≤ most_tokens) × IsWithinLimits stored) }
         ensures err { IfErr result (IsPackFault tokens.now) }
@@ -113,7 +113,7 @@ impl Packed {
         Packed::of_list_with(alloc, tokens, FirstRoom::for_tokens(tokens.len()))
     }
 
-    /// The same, where the numbers of uses are known, as in `pack_counted`.
+    /// The same, with the numbers of uses as for `pack_counted`.
     pub fn of_list_counted(
         alloc: Global,
         tokens: &[TokenTree],
@@ -132,7 +132,7 @@ impl Packed {
         Packed::of_list_with(alloc, tokens, room)
     }
 
-    // The tree of a flat list. Where its uses are counted, there is this room at first.
+    // Returns the tree of a flat list. If the code counts uses, it takes memory for that many values at first.
     fn of_list_with(alloc: Global, tokens: &[TokenTree], room: FirstRoom) -> Result<Packed, TtFault>
         ensures ok { IfOk result (λ stored. (tokens.now ≡ flat_root stored) × (size stored.children ≤ most_tokens) × IsWithinLimits stored) }
         ensures err { IfErr result (IsPackFault tokens.now) }
@@ -147,7 +147,7 @@ impl Packed {
         Packed::of_numbered(alloc, *top, tables)
     }
 
-    // The tree of a header and the tokens below it.
+    // Returns the tree of a header and the tokens below it.
     fn of_numbered<N: Numbered + Drop>(
         alloc: Global,
         top: Subtree,
@@ -168,8 +168,8 @@ impl Packed {
         })
     }
 
-    /// The stored bytes: 33 of the top header, and then 5 to 33 of each token below it. Of the formats that can hold
-    /// a header below the top, none is shorter than its own.
+    /// Returns the stored bytes: 33 for the top's header, then 5 to 33 for each token below it. Each header below the top has the
+    /// shortest format that can hold it.
     pub fn bytes(&self) -> &[u8]
         ensures value { result.now ≡ (packed self.now).bytes }
         ensures range { IsInRange self.now }
@@ -181,8 +181,8 @@ impl Packed {
         self.bytes.as_slice()
     }
 
-    /// The span parts used below the top, and then the two of the top's spans. More than 15 stand by falling number of
-    /// uses, ties by first use.
+    /// Returns the span parts that the tokens below the top use, and then the two of the top's spans. If the tokens use more than 15,
+    /// those are ordered by number of uses, the largest first, and then by first use; otherwise by first use.
     pub fn parts(&self) -> &[SpanPart]
         ensures value { result.now ≡ (packed self.now).parts }
         ensures table { IsTable same_part short_parts (part_uses (flat self.now.children)) (take (length result.now - 2) result.now) }
@@ -190,8 +190,8 @@ impl Packed {
         self.parts.as_slice()
     }
 
-    /// The symbols used. More than 63 stand by falling number of uses, ties by first use: in no other order do the
-    /// references to them take fewer bytes.
+    /// Returns the symbols that the tokens use. If there are more than 63, they are ordered by number of uses, the largest first, and
+    /// then by first use; otherwise by first use. In no other order do the references to them take fewer bytes.
     pub fn symbols(&self) -> &[Symbol]
         ensures value { result.now ≡ (packed self.now).symbols }
         ensures table { IsTable bytes_eq short_symbols (symbol_uses (flat self.now.children)) result.now }
@@ -200,7 +200,7 @@ impl Packed {
         self.symbols.as_slice()
     }
 
-    /// The tables of its tokens.
+    /// Returns the tables of the tree's tokens.
     pub(crate) fn tables(&self) -> Tables<'_>
         ensures { tables_of result ≡ tables_stored self.now }
     {
@@ -210,14 +210,14 @@ impl Packed {
         }
     }
 
-    /// The number of tokens, the top's header among them.
+    /// Returns the number of tokens, with the top's header.
     pub fn len(&self) -> usize
         ensures { result ≡ suc (size self.now.children) }
     {
         self.len
     }
 
-    /// The same tree, stored once more.
+    /// Returns the same tree, stored again. Fails only if memory runs out.
     pub fn clone(&self, alloc: Global) -> Result<Packed, TtFault>
         ensures ok { IfOk result (λ copy. copy ≡ self.now) }
         ensures err { IfErr result (λ fault. fault ≡ Memory) }

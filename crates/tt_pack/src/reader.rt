@@ -1,4 +1,4 @@
-//! Reading what is stored, one token a call.
+//! Reads a stored tree, one token a call.
 ghost use Rattle.std.specs.Prelude.{◌≡◌, ◌≤◌, ◌⊎◌, ◌↔◌, length, drop, MatchOption, IfSome, Some, None, []};
 ghost use Rattle.tt_base.specs.Forest.{end, only};
 ghost use Rattle.tt_tables.specs.Meaning.{HasAhead, top_bytes};
@@ -12,15 +12,14 @@ use crate::packed::Packed;
 use crate::token_reader::TokenReader;
 use tt_base::TokenTree;
 
-// Where the bytes of the top header stand.
+// The offset of the top's header.
 const TOP_HEADER: usize = 0;
 
-/// How many they are.
+/// The number of bytes of the top's header.
 pub(crate) const TOP_BYTES: usize = 33;
 
-/// An offset in the bytes of a stored tree, from which its tokens are read one by one. A read decodes one token,
-/// takes no memory and searches nothing. A contract sees the trees ahead: at the start the whole tree, and
-/// behind its header the trees below it.
+/// An offset in the bytes of a stored tree, from which a caller reads token by token. A read decodes one token, takes no memory and makes
+/// no search. A contract sees the trees ahead: at the start the whole tree, and after its header the trees below it.
 #[derive(Clone, Copy)]
 pub struct Reader<'a> {
     tree: Option<&'a Packed>,
@@ -32,7 +31,7 @@ pub struct Reader<'a> {
 impl<'a> Reader<'a> {
     ghost use Rattle.tt_pack.specs.ReaderOf.{ahead_of, bytes_of, tables_of, offset_of, steps_of, StepsTo};
 
-    /// Before the whole tree.
+    /// Returns a reader before the whole tree.
     pub fn start(packed: &'a Packed) -> Reader<'a>
         ensures ahead { ahead_of result ≡ only packed.now }
         ensures bytes { bytes_of result ≡ (what_is_stored packed.now).bytes }
@@ -40,7 +39,7 @@ impl<'a> Reader<'a> {
         ensures offset { offset_of result ≡ 0 }
         ensures steps { steps_of result ≡ 0 }
     {
-        // Their contract says that no count of the tree is too large, which the reader rests on.
+        // the contract of `bytes` says that the tree is within the limits, which the reader needs
         let _bytes = packed.bytes();
         Reader {
             tree: Some(packed),
@@ -49,8 +48,8 @@ impl<'a> Reader<'a> {
         }
     }
 
-    /// Before the trees below the top, behind the bytes of its header, which is not decoded: it takes 33 bytes, whatever it
-    /// is (docs/FORMATS.md).
+    /// Returns a reader before the trees below the top. It does not decode the top's header, which always takes 33 bytes
+    /// (docs/FORMATS.md).
     pub fn below_top(packed: &'a Packed) -> Reader<'a>
         ensures ahead { ahead_of result ≡ packed.now.children }
         ensures bytes { bytes_of result ≡ (what_is_stored packed.now).bytes }
@@ -59,7 +58,7 @@ impl<'a> Reader<'a> {
         ensures left { drop top_bytes (bytes_of result) ≡ bytes (tables_of result) (ahead_of result) }
         ensures steps { steps_of result ≡ 0 }
     {
-        // As for `start`: their contract says that no count of the tree is too large.
+        // the contract of `bytes` says that the tree is within the limits, which the reader needs
         let _bytes = packed.bytes();
         Reader {
             tree: Some(packed),
@@ -68,7 +67,7 @@ impl<'a> Reader<'a> {
         }
     }
 
-    /// Before nothing, for a view of no tree.
+    /// Returns a reader at the end of no tree.
     pub fn empty() -> Reader<'a>
         ensures ahead { ahead_of result ≡ end }
         ensures bytes { bytes_of result ≡ [] }
@@ -83,7 +82,7 @@ impl<'a> Reader<'a> {
         }
     }
 
-    /// How many bytes are passed: none, or the top header at least.
+    /// Returns the number of bytes that the reader passed: 0, or at least the 33 of the top's header.
     pub fn place(&self) -> usize
         ensures value { result ≡ offset_of self.now }
         ensures inside { result ≤ length (bytes_of self.now) }
@@ -92,14 +91,14 @@ impl<'a> Reader<'a> {
         self.offset
     }
 
-    /// How many tokens were decoded on the way here; the count stays at its largest.
+    /// Returns how many tokens were decoded on the way to this place. The count stays at the largest `u64` once it is that.
     pub fn steps(&self) -> u64
         ensures { result ≡ steps_of self.now }
     {
         self.steps
     }
 
-    /// The next token, or `None` at the end of the bytes. Behind a header come the tokens that it holds.
+    /// Takes and returns the next token, or returns `None` at the end of the bytes. After a header come the tokens below it.
     #[inline(always)]
     pub fn advance(&mut self) -> Option<TokenTree>
         ensures token { result ≡ first_token (ahead_of self.old) }
@@ -116,8 +115,8 @@ impl<'a> Reader<'a> {
         tokens.token
     }
 
-    /// The next token with a reader that stands behind it, or `None` at the end of the bytes. This reader passes
-    /// all that a header holds, which the other one stands before.
+    /// Takes the next tree. Returns its token and a second reader, which is before the tokens below that token, or `None` at the end of
+    /// the bytes.
     #[inline(always)]
     pub fn advance_skip(&mut self) -> Option<(TokenTree, Reader<'a>)>
         ensures token { MatchOption result (first_token (ahead_of self.old) ≡ None) (λ found. first_token (ahead_of self.old) ≡ Some found.0) }

@@ -1,4 +1,4 @@
-//! The two tables of a list of tokens, and tokens in numbers under them.
+//! The two tables of a list of tokens, and the tokens in numbers under these tables.
 ghost use Rattle.std.specs.Prelude.{◌≡◌, ◌+◌, ◌≤◌, length, IfOk, IfErr, IfSome};
 ghost use Rattle.tt_tables.specs.Stored.{most_parts, most_symbols};
 ghost use Rattle.tt_tables.specs.Tables.{Knows};
@@ -15,7 +15,7 @@ use std::alloc::Global;
 use tt_base::{Leaf, SpanPart, Subtree, Symbol, TokenTree, TtFault};
 use tt_codec::{Entry, HeaderEntry, LeafEntry, SpanNumbers};
 
-/// The tables of a list of tokens, what each token uses, and how many bytes all can take.
+/// The tables of a list of tokens, the values that each token uses, and the number of bytes that all tokens can take.
 #[derive(Drop)]
 pub(crate) struct ListTables<'a> {
     tokens: &'a [TokenTree],
@@ -27,7 +27,7 @@ pub(crate) struct ListTables<'a> {
     pub ghost few_symbols: { length symbols.values.items ≤ most_symbols },
 }
 
-/// The index in the table that is noted at an index. Where none is, each value has stayed.
+/// Returns the new index of an index. An index without a new one stays.
 #[inline(always)]
 pub(crate) fn new_index_at(new_indices: &[u32], index: u32) -> u32
     ensures { result ≡ new_index new_indices.now index }
@@ -43,8 +43,9 @@ impl<'a> ListTables<'a> {
     ghost use Rattle.tt_tables.specs.Searches.{IsNamedLeaf, IsNamedHeader};
     ghost use Rattle.tt_pack.specs.TablesOf.{tokens_in, tables_of, HasUses, LeadsList, AreNumbers};
 
-    /// The tables of the tokens, where these are a whole list, their indices can be written and the parts leave room for
-    /// the top's two (docs/FORMATS.md). Where their uses are counted, there is this room at first.
+    /// Returns the tables of the tokens. Takes memory for as many values as `room` says, if the code counts uses. Fails if the tokens are
+    /// not a whole list, if there are too many parts, with the top's two, or too many symbols for their indices (docs/FORMATS.md), or if
+    /// memory runs out.
     pub(crate) fn of_tokens(
         alloc: Global,
         below: &'a [TokenTree],
@@ -61,8 +62,7 @@ impl<'a> ListTables<'a> {
         ListTables::of_counted(alloc, below, room)
     }
 
-    // The same, where there are few parts and symbols. All stand by first use then, so nothing is counted. There are none where
-    // there are more.
+    // The same for few parts and symbols. They are ordered by first use, so nothing is counted. Returns `None` if there are more.
     fn of_few(alloc: Global, below: &'a [TokenTree]) -> Result<Option<ListTables<'a>>, TtFault>
         ensures ok { IfOk result (λ found. IfSome found (AreNumbers tokens_in tables_of LeadsList below.now)) }
         ensures err { IfErr result (IsTableFault below.now) }
@@ -80,7 +80,7 @@ impl<'a> ListTables<'a> {
         }))
     }
 
-    // The same, where the numbers of uses are counted.
+    // The same, and counts the uses.
     fn of_counted(
         alloc: Global,
         below: &'a [TokenTree],
@@ -103,7 +103,7 @@ impl<'a> ListTables<'a> {
         })
     }
 
-    // A leaf in numbers.
+    // Returns a leaf in numbers.
     #[inline(always)]
     fn leaf_entry(&self, leaf: &Leaf, uses: TokenUses) -> LeafEntry
         requires known { Knows (tables_of self.now) (token.Leaf leaf.now) }
@@ -129,7 +129,7 @@ impl<'a> ListTables<'a> {
         }
     }
 
-    // A header in numbers, where what it holds takes so many bytes.
+    // Returns a header in numbers. The tokens below it take `child_bytes` bytes.
     #[inline(always)]
     fn header_entry(&self, subtree: Subtree, uses: TokenUses, child_bytes: u32) -> HeaderEntry
         requires known { Knows (tables_of self.now) (token.Subtree subtree) }
@@ -162,7 +162,7 @@ impl Numbered for ListTables<'_> {
         self.room
     }
 
-    // In the place of the call, and the kind is asked once, until the bytes are written.
+    // This is inline, so the code tests the kind only once before it writes the bytes.
     #[inline(always)]
     fn entry(&self, index: usize, written: &Writer) -> Entry {
         let uses = self.uses[index];

@@ -1,19 +1,19 @@
-//! The token at an offset of a stored tree.
+//! Reads the token at an offset of a stored tree.
 ghost use Rattle.std.specs.Prelude.{◌≤◌, length};
 
 use crate::packed::Packed;
 use tt_base::{IdentIsRaw, LitKind, Spacing, TokenTree};
 use tt_codec::{HeaderEntry, SpanNumbers, Visitor, visit_common_token, visit_token};
 
-/// Makes a token of its numbers as soon as they are read, by the tables of a tree.
+/// Makes a token from its numbers as soon as they are read, by the tables of a tree.
 #[derive(Drop)]
 pub(crate) struct TokenReader<'a> {
     tree: &'a Packed,
     /// The token, if one was decoded.
     pub(crate) token: Option<TokenTree>,
-    /// How many bytes are left behind the token.
+    /// The number of bytes after the token.
     pub(crate) left: usize,
-    /// How many of them hold what the token holds.
+    /// The number of bytes of the tokens below it; they come first.
     pub(crate) child_bytes: usize,
 }
 
@@ -71,7 +71,7 @@ impl<'a> TokenReader<'a> {
     ghost use Rattle.tt_pack.specs.StoredIn.{bytes_for};
     ghost use Rattle.tt_pack.specs.TokenAt.{DecodesAt};
 
-    /// Before any token of the tree.
+    /// Returns a reader that has no token yet.
     #[inline(always)]
     pub(crate) fn new(tree: &'a Packed) -> TokenReader<'a>
         ensures tree { result.tree.now ≡ tree.now }
@@ -85,7 +85,7 @@ impl<'a> TokenReader<'a> {
         }
     }
 
-    // Keeps the first token. The test tells the compiler that there is none yet to let go.
+    // Keeps the first token. The test shows the compiler that there is no older token to drop.
     #[inline(always)]
     fn keep(&mut self, token: TokenTree)
         ensures first { self.old.token ≡ None → self.new.token ≡ Some token }
@@ -97,8 +97,8 @@ impl<'a> TokenReader<'a> {
         }
     }
 
-    /// Decodes the token at the offset, if one lies ahead of it, by one call. It is written where the caller's reader
-    /// lies, in pieces, and copied from there by wider loads, which have to wait until the pieces are stored.
+    /// Decodes the token at the offset, if there is one, by a call. The call writes the token into the caller's reader in pieces. The
+    /// caller then copies it by wider loads, which wait until the pieces are stored.
     #[inline(never)]
     pub(crate) fn decode(&mut self, offset: usize)
         requires inside { offset ≤ length (bytes_for self.old.tree.now) }
@@ -109,9 +109,8 @@ impl<'a> TokenReader<'a> {
         visit_token(self, &bytes[offset..]);
     }
 
-    /// The same, with tokens of the common forms decoded in the place of the call, so that they go from registers to where the
-    /// caller wants them. Any other token is decoded apart, from its start: a reader that is lent to a call has to lie in
-    /// memory.
+    /// The same, but decodes tokens of the common forms inline, so that they go from registers to the caller's place. Decodes any other
+    /// token from its start in a reader of its own, since a reader that a call borrows must be in memory.
     #[inline(always)]
     pub(crate) fn decode_here(&mut self, offset: usize)
         requires inside { offset ≤ length (bytes_for self.old.tree.now) }

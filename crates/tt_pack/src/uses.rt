@@ -1,4 +1,4 @@
-//! What each token of a list uses, as one walk over the list finds it.
+//! The values that each token of a list uses, found in one pass over the list.
 ghost use Rattle.std.specs.Prelude.{◌≡◌, true, [], IfOk, IfErr, IfSome, IfNone, OnOk};
 ghost use Rattle.tt_base.specs.declared.token_tree.TokenTree.TheVariants as token;
 ghost use Rattle.tt_base.specs.Levels.{open_levels, TakesToken};
@@ -13,24 +13,24 @@ use crate::values::Values;
 use std::alloc::{AllocError, Global};
 use tt_base::{Leaf, Levels, Span, Subtree, Symbol, TokenTree, TtFault};
 
-/// What a token uses, by indices in the order of first uses.
+/// The values that a token uses, as indices in the order of first uses.
 #[derive(Debug, Clone, Copy, PartialEq)]
 pub(crate) struct TokenUses {
     /// The part of a leaf, or the open part of a header.
     pub(crate) part: u32,
-    /// The symbol of an ident or a literal, or the close part of a header. Of a punct it says nothing.
+    /// The symbol of an ident or a literal, or the close part of a header. That of a punct has no meaning.
     pub(crate) other: u32,
 }
 
-/// What each token of a list uses, and how many bytes all can take.
+/// The values that each token of a list uses, and the number of bytes that all tokens can take.
 #[derive(Drop)]
 pub(crate) struct ListUses {
     pub(crate) tokens: Vec<TokenUses>,
     pub(crate) room: usize,
 }
 
-// Meets a part and a symbol. Tokens side by side mostly have one part, so a part is first looked for where that of the token
-// before stands, which is `before`.
+// Adds a use of a part and a use of a symbol. Tokens side by side mostly have the same part, so this looks first at `before`, the index
+// of the part of the token before. Returns `None` if a value has no place.
 #[inline(always)]
 fn meet_both<V: Values>(
     values: &mut V,
@@ -52,7 +52,7 @@ fn meet_both<V: Values>(
 }
 
 impl ListUses {
-    // What a leaf uses, and the most bytes that it can take; nothing where there is no place for a value.
+    // Adds the uses of a leaf, and the largest number of bytes that it can take. Returns `None` if a value has no place.
     #[inline(always)]
     fn meet_leaf<V: Values>(
         &mut self,
@@ -85,7 +85,7 @@ impl ListUses {
         }
     }
 
-    // The same of a header.
+    // The same for a header.
     #[inline(always)]
     fn meet_header<V: Values>(
         &mut self,
@@ -109,7 +109,8 @@ impl ListUses {
         Ok(Some(TokenUses { part, other }))
     }
 
-    // The same of one more token, if it fits behind those before it. Its kind is asked once, so each arm asks the levels.
+    // The same for the next token. Fails if it does not fit after those before it, or if memory runs out. The code tests the kind of the
+    // token only once, so each arm calls `levels`.
     #[inline(always)]
     fn meet_token<V: Values>(
         &mut self,
@@ -142,8 +143,9 @@ impl ListUses {
         }
     }
 
-    /// What the tokens use, if they are a whole list; nothing where there is no place for a value. It is seen in the same pass
-    /// that they are a whole list, and how many bytes they can take. No value has been met before.
+    /// Returns the values that the tokens use, or `None` if a value has no place. `values` has no values yet. The same pass checks that
+    /// the tokens are a whole list, and counts the bytes that they can take. Fails if they are not a whole list (`NotOneSubtree`), or if
+    /// memory runs out.
     #[inline(never)]
     pub(crate) fn of_tokens<V: Values>(
         alloc: Global,

@@ -1,4 +1,4 @@
-//! Writing a list of tokens, from the last to the first.
+//! Writes a list of tokens, from the last to the first.
 ghost use Rattle.std.specs.Prelude.{◌≡◌, ◌⊎◌, ◌+◌, ◌<◌, ◌≤◌, ◌^◌, ◌++◌, ◌∷◌, true, length, take, drop, IfOk, IfErr, OnOk, []};
 ghost use Rattle.std.specs.List.{AllByRecursion};
 ghost use Rattle.tt_back_buf.specs.Bytes.{bytes_of, room_of};
@@ -18,21 +18,22 @@ use tt_back_buf::BackBuf;
 use tt_base::TtFault;
 use tt_codec::{Entry, HeaderEntry};
 
-// The most bytes below the top.
+// The largest number of bytes below the top.
 const MOST_BYTES: usize = 4294967295;
 
 /// The bytes of the last tokens of a list.
 #[derive(Drop)]
 pub(crate) struct Writer {
     bytes: BackBuf,
-    /// How many bytes each end piece of these tokens takes, the shortest first.
+    /// The number of bytes of the last n of these tokens, for each n, the smallest first.
     sums: Vec<u32>,
 }
 
 impl Writer {
     ghost use Rattle.tt_pack.specs.WriterOf.{HasWritten, HasPut};
 
-    /// A writer that has written nothing, and has room for so many bytes and a top. There are so many tokens.
+    /// Returns a writer that has written nothing. It has room for `room` bytes and a top, and for the numbers of `tokens` tokens. Fails
+    /// only if memory runs out.
     pub(crate) fn new(alloc: Global, room: usize, tokens: usize) -> Result<Writer, TtFault>
         ensures ok { IfOk result (λ writer. (tables : Tables) → HasWritten tables [] writer) }
         ensures room { IfOk result (λ writer. (room_of writer.bytes < 2 ^ 63) × (room + 33 ≤ room_of writer.bytes)) }
@@ -44,7 +45,7 @@ impl Writer {
         Ok(Writer { bytes, sums })
     }
 
-    /// How many bytes the last so many tokens take.
+    /// Returns how many bytes the `len` tokens that were written last take.
     #[inline(always)]
     pub(crate) fn held_bytes(&self, len: usize) -> u32
         requires { CanHold self.now.sums.items len }
@@ -54,7 +55,8 @@ impl Writer {
         self.sums[last] - self.sums[last - len]
     }
 
-    /// Writes a token in numbers before those that are written. In the place of the call, so that its kind is asked once.
+    /// Writes a token in numbers before those that are written. Fails if the bytes are too many, or if memory runs out. This is inline,
+    /// so the code tests the kind of the token only once.
     #[inline(always)]
     pub(crate) fn put(&mut self, entry: Entry) -> Result<(), TtFault>
         requires fits { EntryFits entry }
@@ -70,7 +72,7 @@ impl Writer {
         Ok(())
     }
 
-    // Writes the token before those that are written.
+    // Writes the token at an index before those that are written.
     fn put_next<N: Numbered>(&mut self, numbers: &N, index: usize) -> Result<(), TtFault>
         requires index { index < length (N.list numbers.now) }
         requires few { length (N.list numbers.now) < 2 ^ 32 }
@@ -87,7 +89,7 @@ impl Writer {
         self.put(entry)
     }
 
-    /// All bytes, with a header before them that is written in full. The sums are let go.
+    /// Returns all bytes, after a header in its longest format. Drops the numbers of bytes.
     pub(crate) fn finish(self, top: HeaderEntry) -> BackBuf
         requires fits { HeaderFits top }
         requires room { 33 ≤ room_of self.bytes }
@@ -98,15 +100,15 @@ impl Writer {
         bytes
     }
 
-    /// How many bytes are written.
+    /// Returns the number of bytes that are written.
     pub(crate) fn len(&self) -> usize
         ensures { result ≡ length (bytes_of self.now.bytes) }
     {
         self.bytes.len()
     }
 
-    /// Writes all tokens, of which there are so many, from the last to the first. As the passes before it this is a call, so
-    /// that each has the registers for itself.
+    /// Writes all `len` tokens, from the last to the first. Fails if the bytes are too many, or if memory runs out. This is a call, as
+    /// the passes before it are, so that each pass has the registers for itself.
     #[inline(never)]
     pub(crate) fn write_all<N: Numbered>(
         alloc: Global,

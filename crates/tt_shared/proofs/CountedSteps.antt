@@ -1,9 +1,11 @@
 -- Steps of the walks of an owner (`specs/Counting.antt`). c leads to the count and the value x. Assumes `Logic`.
---     word, told, opened, made_word      an owner's one word
---     Parts, Word, Shown, Lent       entries: the parts that are out, with what shuts the invariant;  a word behind a `&`, and what shuts that;  a part behind a `&`
---     owner_had, lent_out      an owner by value, or behind a `&`, gives the count: below the full one with the invariant open, or full for good
---     counted_up, counted_down, kept, ends      the invariant is shut with one owner more, one less, the count filled, or none left
---     made_full      an owner of a full count.        word_back, lent_back      what was taken of a `&` is given back
+--     word, told, opened, made_word      the one word of an owner
+--     Parts, Word, Shown, Lent       entries: the parts that owners have, with what shuts the invariant;
+--         a word in a `&`, with what shuts it;  a part in a `&`
+--     owner_had, lent_out      an owner by value, or in a `&`, gives the count: below the full one with the invariant open,
+--         or full for ever
+--     counted_up, counted_down, kept, ends      the invariant is shut after one owner more, one less, the count filled, or none left
+--     made_full      an owner with a full count.        word_back, lent_back      what was taken from a `&` is given back
 --     counted_sees      what a `&` to an owner shows
 use Rattle.std.proofs.Common.{◌≡◌, ℕ, ◌+◌, ◌-◌, ◌^◌, ◌<◌, ◌≤◌, ◌⊎◌, inl, inr, Bool, true, false, List, [], ◌∷◌, ◌++◌, arith, sym, ap, ◌∙◌, refl}
 use seplogic.Ra.Ura.{Ura}
@@ -43,7 +45,7 @@ use Rattle.tt_shared.specs.Counting.{full, frees, Block, key, counts, lies, ther
 use Rattle.tt_shared.proofs.OwnersLent.{sees_laws, stays_laws, marked_sees_laws}
 use Rattle.tt_shared.specs.contracts.counted.Counted as counted
 
--- the names of the invariant's two lifetimes; the second is of weak owners, of which there are none
+-- the names of the invariant's two lifetimes; the second is that of weak owners, and there are none
 abbrev pub Id : Type 0
 Id = ℕ × ℕ
 
@@ -89,7 +91,7 @@ module _ (R : RattleType) (c : Ptr) (x : R.Denot) where
   abbrev pub Owner : Fml
   Owner = (counted.the_row R).own_val (record { block = c; value = x }) (word c ∷ [])
 
-  -- n parts are out, and what shuts the invariant and gives back the part E of the thread's token
+  -- the owners have n parts, and what shuts the invariant and gives back the part E of the thread's token
   abbrev pub Parts : {M : Type 1} {𝓤 : Ura M} (𝓛 : Logic 𝓤) → Mask → Id → ℕ → Item 𝓤
   Parts 𝓛 E a n = ‵ (parts a n) ⊛ ‵ (weaks a 1) ⊛ raw (rc.Shut 64 (key R c x) (strong R c x) weak (there R c x) ftrue ftrue 𝓛 a E)
 
@@ -97,14 +99,14 @@ module _ (R : RattleType) (c : Ptr) (x : R.Denot) where
   abbrev Below : {M : Type 1} {𝓤 : Ura M} (𝓛 : Logic 𝓤) → Type 0 → List (Item 𝓤) → Goal 𝓤 𝓛.H → Mask → Id → Share → Type 1
   Below 𝓛 K Γ G E a s = (n b o : ℕ) → c ≡ block_ptr b o → 0 < n → n < full → Seq K 𝓛 (‵ (cell full_share b o n) ∷ Parts 𝓛 E a n ∷ ‵ (flft (a.0 ∷ []) s) ∷ Γ) G
 
-  -- the word's cell behind a `&`, and what gives the token back for it
+  -- the word's cell in a `&`, and what gives the token back for it
   abbrev pub Word : {M : Type 1} {𝓤 : Ura M} (𝓛 : Logic 𝓤) → Share → ℕ → ℕ → Item 𝓤
   Word 𝓛 q b o = ‵ (cell_at q (Data R).mir (word c ∷ []) b o)
 
   abbrev pub Shown : {M : Type 1} {𝓤 : Ura M} (𝓛 : Logic 𝓤) → Lft → Share → Share → ℕ → ℕ → Item 𝓤
   Shown 𝓛 κ q r b o = ‵ ((Data R).own_val (c, tt) (word c ∷ [])) ⊛ Shut 𝓛 κ q (part_at (Data R) r (c, tt) b o)
 
-  -- the part of an owner behind a `&`, taken for a while
+  -- the part of an owner in a `&`, taken for a while
   abbrev pub Lent : {M : Type 1} {𝓤 : Ura M} (𝓛 : Logic 𝓤) → Lft → Share → Id → Share → Item 𝓤
   Lent 𝓛 κ q a s = ‵ (flft (a.0 ∷ []) s) ⊛ ‵ (fobor κ q (flft (a.0 ∷ []) s))
 
@@ -156,7 +158,7 @@ module _ (R : RattleType) (c : Ptr) (x : R.Denot) {M : Type 1} {𝓤 : Ura M} {�
 module _ (R : RattleType) (L : RowLaws R) (c : Ptr) (x : R.Denot) {M : Type 1} {𝓤 : Ura M} (𝓛 : Logic 𝓤) where
   open 𝓛 use {H}
 
-  -- a part is borrowed for good, so the lifetime never ends
+  -- a part is borrowed for ever, so the lifetime never ends
   for_good : (a : Id) → ent 𝓤 (sep 𝓤 (sem 𝓛 (part R c x a)) (sem 𝓛 (sees R c x (a.0 ∷ [])))) (H.⇛ (sem 𝓛 (sees R c x [])))
   for_good a = qed 𝓛 (‵ (part R c x a) ∷ ‵ (sees R c x (a.0 ∷ [])) ∷ []) ∵ updating ! $ fpick ! (λ s. fpick ! (λ _. bor_new ! tt [] $ bor_fracture ! tt (λ q. flft (a.0 ∷ []) q) s $
       now ! $ keep ! (0 ∷ 2 ∷ []) $ by ! (moves_from 𝓛 (sees R c x) (sees_laws R L c x) [] (a.0 ∷ []) (a.0 ∷ []) (meet_⊑_left (a.0 ∷ []) []))))
@@ -178,7 +180,7 @@ module _ (R : RattleType) (L : RowLaws R) (c : Ptr) (x : R.Denot) {M : Type 1} {
 module _ (R : RattleType) (L : RowLaws R) (c : Ptr) (x : R.Denot) {M : Type 1} {𝓤 : Ura M} {𝓛 : Logic 𝓤} {K : Type 0} {Γ : List (Item 𝓤)} {G : Goal 𝓤 𝓛.H} where
   open 𝓛 use {H, A}
 
-  -- the full count and the value stay for good
+  -- the full count and the value stay for ever
   fills : K → Soaks G → (a : Id) (n b o : ℕ) → c ≡ block_ptr b o
       → Step K 𝓛 (‵ (ftok every) ∷ ‵ (stays R c x []) ∷ Γ) G (‵ (cell full_share b o full) ∷ Parts R c x 𝓛 every a n ∷ ‵ (part R c x a) ∷ ‵ (marked_sees R c x (a.0 ∷ [])) ∷ Γ) G
   fills t z a n b o e = step (λ next. move t (3 ∷ []) $ fsplit t $ drop t $ move t (3 ∷ 0 ∷ []) $ use2 𝓛 (later (‵ (sees R c x []))) (for_good R L c x 𝓛 a) $ await t z $ move t (1 ∷ []) $
@@ -269,7 +271,7 @@ module _ (R : RattleType) (L : RowLaws R) (c : Ptr) (x : R.Denot) {M : Type 1} {
   open 𝓛 use {H, A}
 
   module _ (κ : Lft) (q : Share) (b o : ℕ) (E : Mask) (has : E (key R c x) ≡ true) where
-    -- an owner behind a `&` is counted or not
+    -- an owner in a `&` is counted or not
     lent_at_first : K → Soaks G → (r : Share)
         → ((a : Id) (s : Share) (n cb co : ℕ) → c ≡ block_ptr cb co → 0 < n → n < full
         → Seq K 𝓛 (‵ (cell full_share cb co n) ∷ Parts R c x 𝓛 E a n ∷ ‵ (box R c x a) ∷ ‵ (marked_sees R c x (a.0 ∷ [])) ∷ Word R c x 𝓛 r b o ∷ Shown R c x 𝓛 κ (Share.left q) r b o ∷ Lent R c x 𝓛 κ (Share.right q) a s ∷ Γ) G)

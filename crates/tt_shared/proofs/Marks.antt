@@ -1,5 +1,6 @@
--- The mark of a block (`specs/Counting.antt`): its invariant's number tells a name, and the name tells the value. Assumes `Logic`.
---     one_name      an invariant's number is kept for one name alone
+-- The mark of a block (`specs/Counting.antt`): its invariant's number determines a name, and the name determines the value. Assumes
+-- `Logic`.
+--     one_name      an invariant's number belongs to one name only
 --     begins      the invariant of a first owner, and the block's mark
 use Rattle.std.proofs.Common.{◌≡◌, ℕ, ◌+◌, ◌-◌, ◌*◌, ◌^◌, ◌<◌, ◌≤◌, ◌⊎◌, inl, inr, Bool, true, [], ◌∷◌, arith, refl, sym, subst, ◌∙◌, lit<, zero, suc}
 use Rattle.std.proofs.Math.Nat.{mul-le-mul_left, mul-le-mul_right, mul-suc, suc-mul, le-mul_of_pos_right, eq-or-lt_of_le}
@@ -40,7 +41,7 @@ one_rest : (s t d e : ℕ) → d ≤ s → e ≤ t → s * s + d ≡ t * t + e �
 one_rest s t d e ds et same (inl less) = let far = square-lt s t less in absurd (omega (arith, ds, same, far))
 one_rest s t d e ds et same (inr more) = elim (eq-or-lt_of_le more) [ inl is ↦ (let square : t * t ≡ s * s = (λ i. is i * is i) in omega (arith, same, square)) | inr less ↦ (let far = square-lt t s less in absurd (omega (arith, et, same, far))) ]
 
--- an invariant's number is kept for one name alone
+-- an invariant's number belongs to one name only
 pub one_name : (δ ε j : ℕ) → IsNumberOf δ j → IsNumberOf ε j → δ ≡ ε
 one_name δ ε j a b =
     let s = δ + a.0 in let t = ε + b.0 in let p : δ ≤ s = omega arith in let q : ε ≤ t = omega arith in
@@ -50,7 +51,7 @@ one_name δ ε j a b =
 module _ {M : Type 1} {𝓤 : Ura M} (𝓛 : Logic 𝓤) (δ : GName) (I : Fml) where
   open 𝓛 use {H, A}
 
-  -- a new invariant gets one of the numbers that are kept for δ
+  -- a new invariant gets one of the numbers that belong to δ
   numbered : ent 𝓤 (sem 𝓛 I) (H.⇛ (ex 𝓤 (λ (j : ℕ). guard 𝓤 (IsNumberOf δ j) (A.named j I))))
   numbered = via 𝓤 _ (qed 𝓛 (‵ I ∷ []) ∵ each ! (λ (j : ℕ). all 𝓤 (λ (_ : IsNumberOf δ j). sem 𝓛 I)) (λ j. each ! (λ (_ : IsNumberOf δ j). sem 𝓛 I) (λ _. done !)))
       (𝓛.invs.named_among (IsNumberOf δ) (λ n. let s = δ + n in let past : s ≤ s * s = le-square s in (s * s + δ, omega (arith, past), (n, refl))) (λ _. I))

@@ -1,6 +1,7 @@
--- Two owners of one block (`specs/Counting.antt`) show one value, or its count is full for good. Assumes `Logic`, and that what may be written is had once.
---     Good      the count of a block is full for good.        not_good      whoever may write the count knows that it is not
---     Judged, judges      two owners behind `&`s are of two blocks, or show one value, or their count is full for good
+-- Two owners of one block (`specs/Counting.antt`) show one value, or its count is full for ever. Assumes `Logic`, and that a cell that
+-- may be written has one owner.
+--     Good      the count of a block is full for ever.        not_good      a walk that may write the count knows that it is not
+--     Judged, judges      two owners in `&`s own two blocks, or show one value, or their count is full for ever
 use Rattle.std.proofs.Common.{◌≡◌, ℕ, ◌+◌, ◌⊎◌, inl, inr, Bool, true, false, List, [], ◌∷◌, arith, refl, sym, ◌∙◌, subst}
 use mathlib.Core.HLevel.{⊥_prop}
 use mathlib.Core.List.{mem-cons, not-mem-nil}
@@ -39,19 +40,19 @@ use Rattle.tt_shared.proofs.CountedSteps.{cell, counted_sees}
 use Rattle.tt_shared.proofs.Marks.{one_name}
 use Rattle.tt_shared.proofs.OwnersLent.{stays_laws, counted_laws}
 
--- the count of the block is full for good
+-- the count of the block is full for ever
 abbrev pub Good : Ptr → Fml
 Good c = lent_at usize (c +ₚ 0) full []
 
 module _ {M : Type 1} {𝓤 : Ura M} (𝓛 : Logic 𝓤) (𝓜 : Model 𝓤 𝓛.H) where
   open 𝓛 use {H, A}
 
-  -- a cell that may be written is had by nobody else
+  -- nothing else has a cell that may be written
   two_cells : (b o n m : ℕ) (q : Share) → ent 𝓤 (sep 𝓤 (sem 𝓛 (cell full_share b o n)) (sem 𝓛 (cell q b o m))) (never 𝓤)
   two_cells b o n m q = qed 𝓛 (‵ (cell full_share b o n) ∷ ‵ (cell q b o m) ∷ []) ∵ use1 𝓛 (raw (H.room (ty_int w64) b (o + 0))) (𝓛.laws.at_room (ty_int w64) b (o + 0) (vint w64 n)) $
       by ! (𝓜.room_at (ty_int w64) (ty_int w64) b (o + 0) (o + 0) (o + 0) q (vint w64 m) (omega arith, omega arith) (omega arith, omega arith))
 
-  -- so is a whole count
+  -- nothing else has a whole count
   two_counts : (R : RattleType) (c : Ptr) (x y : R.Denot) (n m : ℕ) → ent 𝓤 (sep 𝓤 (sem 𝓛 (counts R c x n)) (sem 𝓛 (counts R c y m))) (never 𝓤)
   two_counts R c x y n m = qed 𝓛 (‵ (counts R c x n) ∷ ‵ (counts R c y m) ∷ []) ∵ in_a_block ! c (λ p. counts R p x n) (id⊢ 𝓤 (never 𝓤)) (λ b o e.
       rewrite ! 1 (λ (p : Ptr). ‵ (counts R p y m)) e refl $ use1 𝓛 (‵ (cell full_share b o n)) (uint_out 𝓛 full_share w64 n b (o + 0)) $ move ! (1 ∷ []) $
@@ -74,7 +75,7 @@ module _ {M : Type 1} {𝓤 : Ura M} (𝓛 : Logic 𝓤) (𝓜 : Model 𝓤 𝓛
     abbrev Count : R.Denot → ℕ × ℕ → GName → Lft → Share → ℕ → SProp 𝓤
     Count x a γ μ r n = sep 𝓤 (sem 𝓛 (counts R c x n)) (wand 𝓤 (sem 𝓛 (counts R c x n)) (sep 𝓤 (sem 𝓛 (inside R c x a γ)) (A.lft μ r)))
 
-    -- what is found in the invariant of a living block: the count, or that it is full for good
+    -- what a walk finds in the invariant of a living block: the count, or that it is full for ever
     abbrev Found : R.Denot → ℕ × ℕ → GName → Lft → Share → Bool → SProp 𝓤
     Found x a γ μ r true = ex 𝓤 (Count x a γ μ r)
     Found x a γ μ r false = sep 𝓤 (sem 𝓛 (inside R c x a γ)) (sep 𝓤 (A.lft μ r) (sem 𝓛 (Good c)))
@@ -92,16 +93,16 @@ module _ {M : Type 1} {𝓤 : Ura M} (𝓛 : Logic 𝓤) (𝓜 : Model 𝓤 𝓛
       abbrev Counted : Bool × ℕ × ℕ → Fml
       Counted = rc.counted 64 (key R c x) (strong R c x) weak (there R c x) ftrue ftrue a
 
-      -- what goes with the count
+      -- what belongs to the count
       abbrev Rest : Bool × ℕ × ℕ → Fml
       Rest t = fsep (weak t.2) (fsep (rc.value 64 (key R c x) (strong R c x) weak (there R c x) ftrue ftrue a t.0 t.1) (rc.weaks 64 (key R c x) (strong R c x) weak (there R c x) ftrue ftrue a t.2))
 
-      -- the count and all that goes with it are the invariant again
+      -- the count and all that belongs to it are the invariant again
       again : (t : Bool × ℕ × ℕ) → ent 𝓤 (sep 𝓤 (sem 𝓛 (strong R c x t.1)) (sep 𝓤 (sem 𝓛 (Rest t)) (sem 𝓛 (out γ)))) (sem 𝓛 Inside)
       again t = qed 𝓛 (‵ (strong R c x t.1) ∷ ‵ (Rest t) ∷ ‵ (out γ) ∷ []) ∵ fjoin ! $ fpack ! (Bool × ℕ × ℕ) Counted t $ fpack ! Bool (rc.state 64 (key R c x) (strong R c x) weak (there R c x) ftrue ftrue a) true $
           fjoin ! $ fpack ! Bool (slot (key R c x) Inv γ) true $ done !
 
-      -- `finds`, where the block lives
+      -- `finds` for a block that lives
       at_count : (t : Bool × ℕ × ℕ) (counting : Bool) → ent 𝓤 (sep 𝓤 (sem 𝓛 (strong_state R c x t.1 counting)) (sep 𝓤 (sem 𝓛 (Rest t)) (sep 𝓤 (sem 𝓛 (out γ)) (sep 𝓤 (A.lft μ r) (A.tok E))))) Answer
       at_count t true = qed 𝓛 (‵ (strong_state R c x t.1 true) ∷ ‵ (Rest t) ∷ ‵ (out γ) ∷ ‵ (flft μ r) ∷ ‵ (ftok E) ∷ []) ∵ fsplit ! $ flt_l ! (λ low. move ! (4 ∷ []) $ frame ! $ show ! (Found x a γ μ r) true $ show ! (Count x a γ μ r) t.1 $ frame ! $
           assume ! (‵ (counts R c x t.1)) $ flt_i ! t.1 full low $ fjoin ! $ fpack ! Bool (strong_state R c x t.1) true $ move ! (0 ∷ 1 ∷ 2 ∷ []) $ use3 𝓛 (‵ Inside) (again t) $ done !)
@@ -109,13 +110,13 @@ module _ {M : Type 1} {𝓤 : Ura M} (𝓛 : Logic 𝓤) (𝓜 : Model 𝓤 𝓛
           use1 𝓛 (‵ (stays R c x []) ⊛ ‵ (stays R c x [])) (contraction 𝓛 (stays R c x) (stays_laws R L c x) []) $ split ! $ fpack ! Bool (strong_state R c x t.1) false $ move ! (0 ∷ 2 ∷ 3 ∷ []) $ use3 𝓛 (‵ Inside) (again t) $ frame ! $
           move ! (1 ∷ []) $ frame ! $ fsplit ! $ keep ! (0 ∷ []) $ done !
 
-      -- `finds`, where the invariant is shut
+      -- `finds` for an invariant that is shut
       at_life : (lives : Bool) → ent 𝓤 (sep 𝓤 (sem 𝓛 (rc.state 64 (key R c x) (strong R c x) weak (there R c x) ftrue ftrue a lives)) (sep 𝓤 (sem 𝓛 (out γ)) (sep 𝓤 (A.lft μ r) (A.tok E)))) Answer
       at_life true = qed 𝓛 (‵ (rc.state 64 (key R c x) (strong R c x) weak (there R c x) ftrue ftrue a true) ∷ ‵ (out γ) ∷ ‵ (flft μ r) ∷ ‵ (ftok E) ∷ []) ∵ fpick ! (λ t. fsplit ! $ fpick ! (λ counting. by ! (at_count t counting)))
       at_life false = qed 𝓛 (‵ (rc.state 64 (key R c x) (strong R c x) weak (there R c x) ftrue ftrue a false) ∷ ‵ (out γ) ∷ ‵ (flft μ r) ∷ ‵ (ftok E) ∷ []) ∵ fsplit ! $ use1 𝓛 (‵ (fdead μ)) (𝓛.lfts.dead-incl μ (a.0 ∷ []) below) $
           keep ! (3 ∷ 0 ∷ []) $ by ! (via 𝓤 (never 𝓤) (𝓛.lfts.lft-dead μ r) (never_e 𝓤 Answer))
 
-      -- `finds`, where the invariant is shut or open
+      -- `finds` for an invariant that is shut or open
       at_slot : (held : Bool) → ent 𝓤 (sep 𝓤 (sem 𝓛 (slot (key R c x) Inv γ held)) (sep 𝓤 (A.lft μ r) (A.tok E))) Answer
       at_slot true = qed 𝓛 (‵ (fsep Inv (out γ)) ∷ ‵ (flft μ r) ∷ ‵ (ftok E) ∷ []) ∵ fsplit ! $ fpick ! (λ lives. by ! (at_life lives))
       at_slot false = qed 𝓛 (‵ (ftok (just (key R c x))) ∷ ‵ (flft μ r) ∷ ‵ (ftok E) ∷ []) ∵ keep ! (2 ∷ 0 ∷ []) $ by ! (via 𝓤 (never 𝓤) (𝓛.invs.tok_once E (just (key R c x)) (key R c x) has (just_self (key R c x))) (never_e 𝓤 Answer))
@@ -128,7 +129,7 @@ module _ {M : Type 1} {𝓤 : Ura M} (𝓛 : Logic 𝓤) (𝓜 : Model 𝓤 𝓛
     two_invs : (i j : ℕ) (P Q : Fml) → ¬ (i ≡ j) → Apart ((i, P) ∷ (j, Q) ∷ [])
     two_invs i j P Q other = ((λ m. Or.elim ⊥_prop ((mem-cons {a = i} {b = j} {l = []}).0 m) other (λ y. not-mem-nil y)), ((λ m. not-mem-nil m), tt))
 
-    -- two living blocks at one place: with two invariants, the count is full for good
+    -- two living blocks at one place: with two invariants, the count is full for ever
     module _ (x y : R.Denot) (n m : Names) (μ μ' : Lft) (r r' : Share) (below : Incl μ (n.0.0 ∷ [])) (below' : Incl μ' (m.0.0 ∷ [])) where
       abbrev One : Fml
       One = inside R c x n.0 n.1
@@ -145,24 +146,24 @@ module _ {M : Type 1} {𝓤 : Ura M} (𝓛 : Logic 𝓤) (𝓜 : Model 𝓤 𝓛
       abbrev Closed : SProp 𝓤
       Closed = sep 𝓤 (sem 𝓛 (bodies Both)) Left
 
-      -- both invariants are shut again, and the count is full for good
+      -- both invariants are shut again, and the count is full for ever
       closes : ent 𝓤 (sep 𝓤 (sem 𝓛 One) (sep 𝓤 (sem 𝓛 Two) (sep 𝓤 (A.lft μ r) (sep 𝓤 (A.lft μ' r') (sep 𝓤 (A.tok E) (sem 𝓛 (Good c))))))) Closed
       closes = qed 𝓛 (‵ One ∷ ‵ Two ∷ ‵ (flft μ r) ∷ ‵ (flft μ' r') ∷ ‵ (ftok E) ∷ ‵ (Good c) ∷ []) ∵ use0 𝓛 (‵ ftrue) (id⊢ 𝓤 (emp 𝓤)) $ move ! (1 ∷ 2 ∷ 0 ∷ []) $ fjoin3 ! $ done !
 
-      -- `clash`, where the first count is known and the second is looked at
+      -- `clash` after the first count is known, at the second
       at_second : (k : ℕ) (full_too : Bool) → ent 𝓤 (sep 𝓤 (Found y m.0 m.1 μ' r' full_too) (sep 𝓤 (A.tok E) (sep 𝓤 (sem 𝓛 (counts R c x k)) (wand 𝓤 (sem 𝓛 (counts R c x k)) (sep 𝓤 (sem 𝓛 One) (A.lft μ r)))))) Closed
       at_second k true = qed 𝓛 (some (λ (l : ℕ). ‵ (counts R c y l) ⊛ raw (wand 𝓤 (sem 𝓛 (counts R c y l)) (sep 𝓤 (sem 𝓛 Two) (A.lft μ' r')))) ∷ ‵ (ftok E) ∷ ‵ (counts R c x k) ∷ raw (wand 𝓤 (sem 𝓛 (counts R c x k)) (sep 𝓤 (sem 𝓛 One) (A.lft μ r))) ∷ []) ∵
           pick ! (λ l. split ! $ keep ! (0 ∷ 3 ∷ []) $ by ! (via 𝓤 (never 𝓤) (two_counts R c y x l k) (never_e 𝓤 Closed)))
       at_second k false = qed 𝓛 ((‵ Two ⊛ ‵ (flft μ' r') ⊛ ‵ (Good c)) ∷ ‵ (ftok E) ∷ ‵ (counts R c x k) ∷ raw (wand 𝓤 (sem 𝓛 (counts R c x k)) (sep 𝓤 (sem 𝓛 One) (A.lft μ r))) ∷ []) ∵ split3 ! $ move ! (4 ∷ 5 ∷ []) $
           use2 𝓛 (‵ One ⊛ ‵ (flft μ r)) (apply∗ 𝓤 (sem 𝓛 (counts R c x k)) (sep 𝓤 (sem 𝓛 One) (A.lft μ r))) $ split ! $ move ! (0 ∷ 2 ∷ 1 ∷ 3 ∷ 5 ∷ 4 ∷ []) $ by ! closes
 
-      -- `clash`, where the first count is looked at
+      -- `clash` at the first count
       at_first : (full_too : Bool) → ent 𝓤 (sep 𝓤 (Found x n.0 n.1 μ r full_too) (sep 𝓤 (A.tok E) (sep 𝓤 (sem 𝓛 Two) (A.lft μ' r')))) Closed
       at_first true = qed 𝓛 (some (λ (k : ℕ). ‵ (counts R c x k) ⊛ raw (wand 𝓤 (sem 𝓛 (counts R c x k)) (sep 𝓤 (sem 𝓛 One) (A.lft μ r)))) ∷ ‵ (ftok E) ∷ ‵ Two ∷ ‵ (flft μ' r') ∷ []) ∵ pick ! (λ k. split ! $ move ! (3 ∷ 4 ∷ 2 ∷ []) $
           use3 𝓛 (‵ (ftok E) ⊛ some (λ (b : Bool). raw (Found y m.0 m.1 μ' r' b))) (finds y m.0 m.1 μ' r' below') $ split ! $ move ! (1 ∷ []) $ pick ! (λ b. by ! (at_second k b)))
       at_first false = qed 𝓛 ((‵ One ⊛ ‵ (flft μ r) ⊛ ‵ (Good c)) ∷ ‵ (ftok E) ∷ ‵ Two ∷ ‵ (flft μ' r') ∷ []) ∵ split3 ! $ move ! (0 ∷ 4 ∷ 1 ∷ 5 ∷ 3 ∷ 2 ∷ []) $ by ! closes
 
-      -- two living blocks at one place, with invariants of two numbers, have a count that is full for good
+      -- two living blocks at one place, with invariants of two numbers, have a count that is full for ever
       clash : ¬ (n.3 ≡ m.3) → ent 𝓤 (sep 𝓤 (A.named n.3 One) (sep 𝓤 (A.named m.3 Two) (sep 𝓤 (A.lft μ r) (sep 𝓤 (A.lft μ' r') (A.tok E))))) (H.⇛ Left)
       clash other = let Z : SProp 𝓤 = upd 𝓤 Closed in
           via 𝓤 (sep 𝓤 (sem 𝓛 (invs Both)) (wand 𝓤 (sem 𝓛 (bodies Both)) Z)) (qed 𝓛 (‵ (fnamed n.3 One) ∷ ‵ (fnamed m.3 Two) ∷ ‵ (flft μ r) ∷ ‵ (flft μ' r') ∷ ‵ (ftok E) ∷ []) ∵ use0 𝓛 (‵ ftrue) (id⊢ 𝓤 (emp 𝓤)) $
@@ -174,12 +175,12 @@ module _ {M : Type 1} {𝓤 : Ura M} (𝓛 : Logic 𝓤) (𝓜 : Model 𝓤 𝓛
     abbrev Marked : R.Denot → Lft → Share → Names × Lft × Share → SProp 𝓤
     Marked x κ q i = guard 𝓤 (Incl i.1 (i.0.0.0 ∷ [])) (sep 𝓤 (sem 𝓛 (marked R c x i.0)) (sep 𝓤 (A.lft i.1 i.2) (wand 𝓤 (A.lft i.1 i.2) (H.⇛ (A.lft κ q)))))
 
-    -- what a `&` to an owner tells of its block: a mark, or that the count is full for good
+    -- what a `&` to an owner shows of its block: a mark, or that the count is full for ever
     abbrev Told : R.Denot → Lft → Share → Bool → SProp 𝓤
     Told x κ q true = ex 𝓤 (Marked x κ q)
     Told x κ q false = sep 𝓤 (sem 𝓛 (Good c)) (A.lft κ q)
 
-    -- `tells`, of an owner that is counted or not
+    -- `tells` for an owner that is counted or not
     tells_at : (x : R.Denot) (κ : Lft) (q : Share) (counting : Bool) → ent 𝓤 (sep 𝓤 (sem 𝓛 (lent_owner R c x counting κ)) (A.lft κ q)) (H.⇛ (ex 𝓤 (Told x κ q)))
     tells_at x κ q true = qed 𝓛 (‵ (lent_owner R c x true κ) ∷ ‵ (flft κ q) ∷ []) ∵ updating ! $ fpick ! (λ a. fsplit3 ! $ move ! (0 ∷ 3 ∷ []) $ shr_bor-open ! tt (tokens_halve 𝓛 (a.0 ∷ [])) (λ s.
         -- [the open borrow; the part; the invariant; what is seen]
@@ -189,12 +190,12 @@ module _ {M : Type 1} {𝓤 : Ura M} (𝓛 : Logic 𝓤) (𝓜 : Model 𝓤 𝓛
         use2 𝓛 (later (‵ (flft (a.0 ∷ []) s))) (apply∗ 𝓤 (A.lft t.0 t.1) (H.⇛ (A.lft (a.0 ∷ []) s))) $ await ! tt $ move ! (2 ∷ 0 ∷ []) $ obor_close ! tt $ now ! $ move ! (1 ∷ []) $ keep ! (0 ∷ []) $ done !)))))
     tells_at x κ q false = qed 𝓛 (‵ (stays R c x []) ∷ ‵ (flft κ q) ∷ []) ∵ updating ! $ now ! $ show ! (Told x κ q) false $ fsplit ! $ frame ! $ drop ! $ done !
 
-    -- a `&` to an owner tells of its block
+    -- a `&` to an owner shows one of these two of its block
     tells : (x : R.Denot) (κ : Lft) (q : Share) → ent 𝓤 (sep 𝓤 (sem 𝓛 (counted_shares R c x κ)) (A.lft κ q)) (H.⇛ (ex 𝓤 (Told x κ q)))
     tells x κ q = qed 𝓛 (‵ (counted_shares R c x κ) ∷ ‵ (flft κ q) ∷ []) ∵ fpick ! (λ counting. by ! (tells_at x κ q counting))
 
     module _ (x y : R.Denot) (κ κ' : Lft) (q q' : Share) where
-      -- two owners show one value, or the count is full for good
+      -- two owners show one value, or the count is full for ever
       abbrev Agreed : Bool → SProp 𝓤
       Agreed true = fact 𝓤 (x ≡ y)
       Agreed false = sem 𝓛 (Good c)
@@ -205,21 +206,21 @@ module _ {M : Type 1} {𝓤 : Ura M} (𝓛 : Logic 𝓤) (𝓜 : Model 𝓤 𝓛
       abbrev Way : Lft → Share → Lft → Share → SProp 𝓤
       Way μ r ν s = wand 𝓤 (A.lft μ r) (H.⇛ (A.lft ν s))
 
-      -- what is agreed, with the tokens given back
+      -- that result, with the tokens given back
       goes_out : (μ μ' : Lft) (r r' : Share) (b : Bool)
           → ent 𝓤 (sep 𝓤 (A.lft μ r) (sep 𝓤 (Way μ r κ q) (sep 𝓤 (A.lft μ' r') (sep 𝓤 (Way μ' r' κ' q') (sep 𝓤 (A.tok E) (Agreed b)))))) (H.⇛ Out)
       goes_out μ μ' r r' b = qed 𝓛 (‵ (flft μ r) ∷ raw (Way μ r κ q) ∷ ‵ (flft μ' r') ∷ raw (Way μ' r' κ' q') ∷ ‵ (ftok E) ∷ raw (Agreed b) ∷ []) ∵ updating ! $
           use2 𝓛 (later (‵ (flft κ q))) (apply∗ 𝓤 (A.lft μ r) (H.⇛ (A.lft κ q))) $ await ! tt $ move ! (1 ∷ 2 ∷ []) $
           use2 𝓛 (later (‵ (flft κ' q'))) (apply∗ 𝓤 (A.lft μ' r') (H.⇛ (A.lft κ' q'))) $ await ! tt $ now ! $ move ! (1 ∷ []) $ frame ! $ frame ! $ frame ! $ show ! Agreed b $ done !
 
-      -- one name tells one value
+      -- a name determines its value
       one_value : (δ ε : GName) → δ ≡ ε → ent 𝓤 (sep 𝓤 (A.res δ (R.coded.code x)) (A.res ε (R.coded.code y))) (fact 𝓤 (x ≡ y))
       one_value δ ε same = qed 𝓛 (‵ (fres δ (R.coded.code x)) ∷ ‵ (fres ε (R.coded.code y)) ∷ []) ∵ rewrite ! 0 (λ (η : GName). ‵ (fres η (R.coded.code x))) same refl $
           use2 𝓛 (given (R.coded.code x ≡ R.coded.code y) (raw (emp 𝓤))) (via 𝓤 _ (sep→conj 𝓤 (A.res ε (R.coded.code x)) (A.res ε (R.coded.code y))) (𝓛.names.res_one ε (R.coded.code x) (R.coded.code y))) $ learn ! (λ e.
           by ! (fact_i 𝓤 (x ≡ y) (emp 𝓤) (R.coded.inj x y e)))
 
       module _ (n m : Names) (μ μ' : Lft) (r r' : Share) (below : Incl μ (n.0.0 ∷ [])) (below' : Incl μ' (m.0.0 ∷ [])) (its : IsNumberOf n.2 n.3) (its' : IsNumberOf m.2 m.3) where
-        -- `agree`, where the two numbers are the same or not
+        -- `agree` for numbers that are the same or not
         decided : Dec (n.3 ≡ m.3)
             → ent 𝓤 (sep 𝓤 (A.named n.3 (inside R c x n.0 n.1)) (sep 𝓤 (A.named m.3 (inside R c y m.0 m.1)) (sep 𝓤 (A.res n.2 (R.coded.code x)) (sep 𝓤 (A.res m.2 (R.coded.code y))
             (sep 𝓤 (A.lft μ r) (sep 𝓤 (A.lft μ' r') (sep 𝓤 (Way μ r κ q) (sep 𝓤 (Way μ' r' κ' q') (A.tok E))))))))) (H.⇛ Out)
@@ -229,13 +230,13 @@ module _ {M : Type 1} {𝓤 : Ura M} (𝓛 : Logic 𝓤) (𝓜 : Model 𝓤 𝓛
             updating ! $ move ! (0 ∷ 1 ∷ 4 ∷ 5 ∷ 8 ∷ []) $ group ! 5 $ use1 𝓛 (later (‵ (flft μ r) ⊛ ‵ (flft μ' r') ⊛ ‵ (ftok E) ⊛ ‵ (Good c))) (clash x y n m μ μ' r r' below below' other) $ await ! tt $ split3 ! $ move ! (2 ∷ []) $ split ! $
             keep ! (2 ∷ 6 ∷ 3 ∷ 7 ∷ 0 ∷ 1 ∷ []) $ group ! 6 $ use1 𝓛 (later (raw Out)) (goes_out μ μ' r r' false) $ await ! tt $ now ! $ done !
 
-      -- `agree`, where the first count is full for good
+      -- `agree` for a first count that is full for ever
       first_good : (d : Bool) → ent 𝓤 (sep 𝓤 (sep 𝓤 (sem 𝓛 (Good c)) (A.lft κ q)) (sep 𝓤 (Told y κ' q' d) (A.tok E))) (H.⇛ Out)
       first_good true = qed 𝓛 ((‵ (Good c) ⊛ ‵ (flft κ q)) ∷ some (λ (i : Names × Lft × Share). given (Incl i.1 (i.0.0.0 ∷ [])) (‵ (marked R c y i.0) ⊛ ‵ (flft i.1 i.2) ⊛ raw (Way i.1 i.2 κ' q'))) ∷ ‵ (ftok E) ∷ []) ∵ updating ! $
           move ! (1 ∷ []) $ pick ! (λ i. learn ! (λ _. split3 ! $ drop ! $ use2 𝓛 (later (‵ (flft κ' q'))) (apply∗ 𝓤 (A.lft i.1 i.2) (H.⇛ (A.lft κ' q'))) $ await ! tt $ move ! (1 ∷ []) $ split ! $ now ! $ move ! (1 ∷ 2 ∷ 3 ∷ 0 ∷ []) $ frame ! $ frame ! $ frame ! $ show ! Agreed false $ done !))
       first_good false = qed 𝓛 ((‵ (Good c) ⊛ ‵ (flft κ q)) ∷ (‵ (Good c) ⊛ ‵ (flft κ' q')) ∷ ‵ (ftok E) ∷ []) ∵ updating ! $ split ! $ move ! (2 ∷ []) $ split ! $ now ! $ move ! (3 ∷ 1 ∷ 4 ∷ 0 ∷ []) $ frame ! $ frame ! $ frame ! $ show ! Agreed false $ keep ! (0 ∷ []) $ done !
 
-      -- `agree`, from what both owners tell
+      -- `agree` from what both owners show
       at_told : (b b' : Bool) → ent 𝓤 (sep 𝓤 (Told x κ q b) (sep 𝓤 (Told y κ' q' b') (A.tok E))) (H.⇛ Out)
       at_told true true = qed 𝓛 (some (λ (i : Names × Lft × Share). given (Incl i.1 (i.0.0.0 ∷ [])) (‵ (marked R c x i.0) ⊛ ‵ (flft i.1 i.2) ⊛ raw (Way i.1 i.2 κ q))) ∷ some (λ (i : Names × Lft × Share). given (Incl i.1 (i.0.0.0 ∷ [])) (‵ (marked R c y i.0) ⊛ ‵ (flft i.1 i.2) ⊛ raw (Way i.1 i.2 κ' q'))) ∷ ‵ (ftok E) ∷ []) ∵
           pick ! (λ i. learn ! (λ below. split3 ! $ fpick ! (λ its. fsplit ! $ move ! (4 ∷ []) $ pick ! (λ k. learn ! (λ below'. split3 ! $ fpick ! (λ its'. fsplit ! $
@@ -245,7 +246,7 @@ module _ {M : Type 1} {𝓤 : Ura M} (𝓛 : Logic 𝓤) (𝓜 : Model 𝓤 𝓛
           pick ! (λ i. learn ! (λ _. split3 ! $ drop ! $ use2 𝓛 (later (‵ (flft κ q))) (apply∗ 𝓤 (A.lft i.1 i.2) (H.⇛ (A.lft κ q))) $ await ! tt $ move ! (1 ∷ []) $ split ! $ now ! $ move ! (2 ∷ 1 ∷ 3 ∷ 0 ∷ []) $ frame ! $ frame ! $ frame ! $ show ! Agreed false $ done !))
       at_told false b' = qed 𝓛 ((‵ (Good c) ⊛ ‵ (flft κ q)) ∷ raw (Told y κ' q' b') ∷ ‵ (ftok E) ∷ []) ∵ by ! (first_good b')
 
-      -- two owners of one block show one value, or the count is full for good
+      -- two owners of one block show one value, or the count is full for ever
       agree : ent 𝓤 (sep 𝓤 (sem 𝓛 (counted_shares R c x κ)) (sep 𝓤 (sem 𝓛 (counted_shares R c y κ')) (sep 𝓤 (A.lft κ q) (sep 𝓤 (A.lft κ' q') (A.tok E))))) (H.⇛ Out)
       agree = qed 𝓛 (‵ (counted_shares R c x κ) ∷ ‵ (counted_shares R c y κ') ∷ ‵ (flft κ q) ∷ ‵ (flft κ' q') ∷ ‵ (ftok E) ∷ []) ∵ updating ! $ move ! (0 ∷ 2 ∷ []) $
           use2 𝓛 (later (some (λ (b : Bool). raw (Told x κ q b)))) (tells x κ q) $ await ! tt $ move ! (1 ∷ 2 ∷ []) $ use2 𝓛 (later (some (λ (b : Bool). raw (Told y κ' q' b)))) (tells y κ' q') $ await ! tt $ pick ! (λ b'. move ! (1 ∷ []) $ pick ! (λ b.
@@ -254,11 +255,11 @@ module _ {M : Type 1} {𝓤 : Ura M} (𝓛 : Logic 𝓤) (𝓜 : Model 𝓤 𝓛
 module _ (R : RattleType) (L : RowLaws R) (c d : Ptr) (x y : R.Denot) {M : Type 1} {𝓤 : Ura M} (𝓛 : Logic 𝓤) (𝓜 : Model 𝓤 𝓛.H) where
   open 𝓛 use {H, A}
 
-  -- what is known of two owners
+  -- what a walk knows of two owners
   abbrev pub Relation : Type 0
   Relation = (¬ (key R c x ≡ key R d y)) ⊎ ((c ≡ d) × (x ≡ y))
 
-  -- they are of two blocks, or show one value, or the first one's count is full for good
+  -- they own two blocks, or show one value, or the first one's count is full for ever
   abbrev pub Judged : Bool → SProp 𝓤
   Judged true = fact 𝓤 Relation
   Judged false = sem 𝓛 (Good c)
@@ -281,12 +282,12 @@ module _ (R : RattleType) (L : RowLaws R) (c d : Ptr) (x y : R.Denot) {M : Type 
     abbrev Starts : SProp 𝓤
     Starts = sep 𝓤 (sem 𝓛 (counted_shares R c x κ)) (sep 𝓤 (sem 𝓛 (counted_shares R d y κ')) (sep 𝓤 (A.lft κ q) (sep 𝓤 (A.lft κ' q') (A.tok every))))
 
-    -- `judged`, where both have one block
+    -- `judged` for owners of one block
     at_agreed : c ≡ d → (b : Bool) → ent 𝓤 (Agreed 𝓛 𝓜 R L c every refl x y κ κ' q q' b) (ex 𝓤 Judged)
     at_agreed e true = qed 𝓛 (raw (fact 𝓤 (x ≡ y)) ∷ []) ∵ heard ! (x ≡ y) (λ v. show ! Judged true $ suffices ! (emp 𝓤) (fact_i 𝓤 Relation (emp 𝓤) (inr (e, v))) $ done !)
     at_agreed e false = qed 𝓛 (‵ (Good c) ∷ []) ∵ show ! Judged false $ done !
 
-    -- `judged`, where both have one block or not
+    -- `judged` for owners of one block or of two
     at_keys : InBlock c → InBlock d → Dec (key R c x ≡ key R d y) → ent 𝓤 Starts (H.⇛ Ends)
     at_keys in_c in_d (no other) = qed 𝓛 (‵ (counted_shares R c x κ) ∷ ‵ (counted_shares R d y κ') ∷ ‵ (flft κ q) ∷ ‵ (flft κ' q') ∷ ‵ (ftok every) ∷ []) ∵ updating ! $ now ! $ keep ! (2 ∷ 3 ∷ 4 ∷ []) $ frame ! $ frame ! $ frame ! $
         show ! Judged true $ suffices ! (emp 𝓤) (fact_i 𝓤 Relation (emp 𝓤) (inl other)) $ done !
@@ -295,7 +296,7 @@ module _ (R : RattleType) (L : RowLaws R) (c d : Ptr) (x y : R.Denot) {M : Type 
         use1 𝓛 (later (‵ (flft κ q) ⊛ ‵ (flft κ' q') ⊛ ‵ (ftok every) ⊛ some (λ (b : Bool). raw (Agreed 𝓛 𝓜 R L c every refl x y κ κ' q q' b)))) (agree 𝓛 𝓜 R L c every refl x y κ κ' q q') $ await ! tt $ now ! $
         split3 ! $ frame ! $ frame ! $ split ! $ frame ! $ pick ! (λ b. by ! (at_agreed same b))
 
-    -- of two owners behind `&`s one of three things is known
+    -- one of the three holds for two owners in `&`s
     judged : ent 𝓤 Starts (H.⇛ Ends)
     judged = qed 𝓛 (‵ (counted_shares R c x κ) ∷ ‵ (counted_shares R d y κ') ∷ ‵ (flft κ q) ∷ ‵ (flft κ' q') ∷ ‵ (ftok every) ∷ []) ∵
         use1 𝓛 (given (InBlock c) (‵ (counted_shares R c x κ))) (lies_in_block c x κ) $ learn ! (λ in_c. move ! (1 ∷ []) $ use1 𝓛 (given (InBlock d) (‵ (counted_shares R d y κ'))) (lies_in_block d y κ') $ learn ! (λ in_d. move ! (1 ∷ 0 ∷ []) $
@@ -317,7 +318,7 @@ module _ (R : RattleType) (L : RowLaws R) (c d : Ptr) (x y : R.Denot) {M : Type 
 module _ {M : Type 1} {𝓤 : Ura M} {𝓛 : Logic 𝓤} {K : Type 0} {Γ : List (Item 𝓤)} {G : Goal 𝓤 𝓛.H} where
   open 𝓛 use {H, A}
 
-  -- a count that may be written is not full for good
+  -- a count that may be written is not full for ever
   pub not_good : K → Soaks G → (𝓜 : Model 𝓤 𝓛.H) (c : Ptr) (n b o : ℕ) → c ≡ block_ptr b o → Seq K 𝓛 (‵ (cell full_share b o n) ∷ ‵ (Good c) ∷ Γ) G
   not_good t z 𝓜 c n b o e = move t (1 ∷ []) $ rewrite t 0 (λ (p : Ptr). ‵ (Good p)) e refl $ fsplit t $ drop t $ hide t $ use0 𝓛 (‵ (flft [] full_share)) (𝓛.lfts.lft-nil full_share) $ move t (1 ∷ 0 ∷ []) $
       looks t z usize (uint_Copied 𝓛 w64).opens full b (o + 0) (λ q vs. move t (1 ∷ []) $ fsplit t $ feq_l t (λ is. move t (1 ∷ []) $ rewrite t 0 (λ (us : List Val). ‵ (cell_at q usize.mir us b (o + 0))) is refl $
@@ -338,6 +339,6 @@ module _ (R : RattleType) (L : RowLaws R) (c d : Ptr) (x y : R.Denot) {M : Type 
     known true = heard t (Relation R L c d x y 𝓛 𝓜) related
     known false = use1 𝓛 (‵ (Good c)) (id⊢ 𝓤 (sem 𝓛 (Good c))) $ move t (1 ∷ 0 ∷ []) $ not_good t z 𝓜 c n b o e
 
-    -- whoever may write the first one's count knows two owners to be of two blocks, or to show one value
+    -- a walk that may write the first one's count knows that two owners own two blocks, or show one value
     pub knows : Seq K 𝓛 (some (λ (j : Bool). raw (Judged R L c d x y 𝓛 𝓜 j)) ∷ ‵ (cell full_share b o n) ∷ Γ) G
     knows = pick t known

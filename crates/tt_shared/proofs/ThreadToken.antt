@@ -1,7 +1,7 @@
 -- A walk that has the thread's token in hand, with which it may open an invariant. Assumes `Logic`.
 --     with_token       the clauses, with the token in the `requires` and in the `ensures`
---     token_proved     a walk over these meets the contract, which does not speak of the token
---     follows_arm      what runs after an arm in the midst of a block: the rest of the block, and then the code behind it
+--     token_proved     a walk over these meets the contract, which does not mention the token
+--     follows_arm      what runs after an arm inside a block: the rest of the block, and then the code after it
 use Rattle.std.proofs.Common.{List, subst}
 use seplogic.Ra.Ura.{Ura}
 use base.Logic.{SProp, ent, via, fst∗, snd∗}

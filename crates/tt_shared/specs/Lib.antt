@@ -1,3 +1,3 @@
--- A value with several owners: what contracts see of it, and what an owner has.
+-- A value with several owners: what contracts see, and what an owner has.
 pub mod Counting
 pub mod Shared

@@ -5,7 +5,7 @@ ghost use Rattle.std_alloc.specs.Box.Ownership.{box_owns};
 use std::alloc::Allocator;
 use std::marker::Model;
 
-// A box as its pointer and what frees it. It is no `Drop`, so it has to be made a box again, or kept.
+// A box, as its pointer and the allocator that frees it. It is no `Drop`, so the owner makes it a box again, or keeps it.
 pub(crate) struct Block<T, A: Allocator> {
     pub(crate) at: *mut T,
     pub(crate) alloc: A,

@@ -1,4 +1,4 @@
-//! Owners, and how many there are.
+//! Owners of a value, and their count.
 ghost use Rattle.std.specs.Prelude.{◌≡◌, IfOk, IfSome, IsTrue};
 ghost use Rattle.tt_shared.specs.Counting.{counted_owns, counted_shares};
 
@@ -6,8 +6,8 @@ use crate::block::Block;
 use std::alloc::{AllocError, Global};
 use std::marker::Model;
 
-// One owner of a value. The block is the count of the owners and the value. A count that is full stays full,
-// and the block is then never freed. It is no `Drop`, so it has to be released.
+// One owner of a value. The block holds the count of the owners and the value. A full count stays full, and the block is then never
+// freed. This is no `Drop`, so each owner calls `release`.
 pub(crate) struct Counted<T> {
     block: *mut (usize, T),
     pub(crate) ghost value: { T },
@@ -20,7 +20,7 @@ impl<T> Model for Counted<T> {
 }
 
 impl<T: Drop> Counted<T> {
-    // The first owner.
+    // Returns the first owner. Fails only if memory runs out.
     pub(crate) fn new(alloc: Global, value: T) -> Result<Counted<T>, AllocError>
         ensures { IfOk result (λ c. c.value ≡ value) }
     {
@@ -44,7 +44,7 @@ impl<T> Counted<T> {
         unsafe { &(*self.block).1 }
     }
 
-    // One more owner, which a full count does not count.
+    // Returns one more owner. A full count does not change.
     pub(crate) fn share(&self) -> Counted<T>
         ensures { result.value ≡ self.now.value }
     {
@@ -58,8 +58,8 @@ impl<T> Counted<T> {
         Counted { block }
     }
 
-    // Whether both are owners of one value. Pointers to two blocks may not be compared. So this writes 0 to the one
-    // count, which no count of owners is, and looks at the other. A full count stays as it is, and the answer is then no.
+    // Returns whether both own one block. Pointers to two blocks may not be compared. So this writes 0 to the one count, which is the
+    // count of no block, and reads the other. A full count stays as it is, and the result is then false.
     pub(crate) fn ptr_eq(&self, other: &Counted<T>) -> bool
         ensures { IsTrue result → self.now.value ≡ other.now.value }
     {
@@ -76,7 +76,7 @@ impl<T> Counted<T> {
         }
     }
 
-    // Fills the count, so that the value stays for good.
+    // Fills the count, so that the value is never freed, and returns the value.
     pub(crate) fn keep(&self) -> &'static T
     where
         T: 'static,
@@ -91,7 +91,7 @@ impl<T> Counted<T> {
         }
     }
 
-    // Gives this owner up. The last one gets the block.
+    // Gives this owner up. Returns the block if this was the last owner.
     pub(crate) fn release(self, alloc: Global) -> Option<Block<(usize, T), Global>>
         ensures { IfSome result (λ block. block.value.1 ≡ self.value) }
     {

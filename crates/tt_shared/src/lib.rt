@@ -1,4 +1,4 @@
-//! A value on the heap with several owners. Raw pointers stand here alone.
+//! A value on the heap with several owners. Only this crate and `tt_back_buf` have raw pointers.
 #![tactic(auto)]
 
 mod block;

@@ -5,15 +5,15 @@ ghost use Rattle.tt_shared.specs.Shared.{shared_value};
 use crate::counted::Counted;
 use std::alloc::{AllocError, Global};
 
-/// One of the owners of a value. A clone is one more owner: it takes no memory and cannot fail.
-/// The last owner frees the value. A value that ever has 2^64 - 1 owners stays for good.
+/// One of the owners of a value. A clone is one more owner, takes no memory and cannot fail. The last owner frees the value. A value that
+/// once had 2^64 - 1 owners is never freed.
 pub struct Shared<T> {
     counted: Counted<T>,
     alloc: Global,
 }
 
 impl<T: Drop> Shared<T> {
-    /// The first owner.
+    /// Returns the first owner of a value. Fails only if memory runs out.
     pub fn new(alloc: Global, value: T) -> Result<Shared<T>, AllocError>
         ensures { IfOk result (λ shared. shared_value shared ≡ value) }
     {
@@ -23,14 +23,14 @@ impl<T: Drop> Shared<T> {
 }
 
 impl<T> Shared<T> {
-    /// The value that the owners share.
+    /// Returns the value that the owners share.
     pub fn get(&self) -> &T
         ensures { result.now ≡ shared_value self.now }
     {
         self.counted.value()
     }
 
-    /// One more owner.
+    /// Returns one more owner. Takes no memory.
     pub fn share(&self) -> Shared<T>
         ensures { shared_value result ≡ shared_value self.now }
     {
@@ -40,14 +40,14 @@ impl<T> Shared<T> {
         }
     }
 
-    /// Whether both are known to be owners of one value. Of a value that stays for good the answer is no.
+    /// Returns true only if both own one value. Always returns false for a value that is never freed.
     pub fn ptr_eq(&self, other: &Shared<T>) -> bool
         ensures { IsTrue result → shared_value self.now ≡ shared_value other.now }
     {
         self.counted.ptr_eq(&other.counted)
     }
 
-    /// The value, which stays for good from then on.
+    /// Returns the value, which is then never freed.
     pub(crate) fn keep(&self) -> &'static T
     where
         T: 'static,

@@ -1,4 +1,4 @@
-//! When a shared value goes.
+//! When a shared value is freed.
 use crate::Shared;
 use std::collections::VecDeque;
 use std::mem::size_of;
@@ -46,7 +46,7 @@ fn a_thousand_owners_go_in_mixed_order(rt: HostRuntime) -> Result<(), Fail> {
     Ok(())
 }
 
-// No test can make as many owners as the count holds, so this one fills it.
+// No test can make as many owners as the count can hold, so this one fills the count.
 #[test]
 fn a_full_count_stays_full(rt: HostRuntime) -> Result<(), Fail> {
     let first = Shared::new(rt.alloc(), 5u8)?;

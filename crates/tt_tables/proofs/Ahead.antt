@@ -1,4 +1,4 @@
--- What the token that is read at an offset says of the trees ahead of it.
+-- The token that is read at an offset, and the trees ahead of the offset.
 use Rattle.std.proofs.Common.{◌≡◌, ℕ, zero, suc, ◌+◌, ◌<◌, ◌≤◌, Bool, true, bytes_eq, List, [], ◌∷◌, ◌++◌, length, drop, get_or, None, length-append, length-drop, append-nil, append_assoc, refl, ap, subst, sym, ◌∙◌, arith}
 use Rattle.std.specs.List.{AllByRecursion}
 use Rattle.std.proofs.Math.Seq.{drop-append_seam, drop-length}
@@ -36,7 +36,7 @@ use Rattle.tt_tables.proofs.TreesAlike.{reads_alike, fewer_in_node, fewer_behind
 
 -- ---- moving on in the bytes
 
--- Behind the first bytes at an offset stand the others.
+-- The bytes from an offset on are the first of them, and then the others.
 drop_first : (all : List ℕ) (offset : ℕ) (first rest : List ℕ) (next : ℕ) → offset ≤ length all → drop offset all ≡ first ++ rest → next + length rest ≡ length all → drop next all ≡ rest
 drop_first all offset first rest next inside e moved =
     ap (λ n. drop n all) there ∙ sym (drop-drop (length first) offset all) ∙ ap (drop (length first)) e ∙ drop-append_seam first rest
@@ -44,7 +44,7 @@ drop_first all offset first rest next inside e moved =
     there : next ≡ offset + length first
     there = omega (arith, moved, inside, ap length e, length-drop offset all, length-append first rest)
 
--- Trees whose bytes are left behind the top header lie ahead.
+-- Trees whose bytes come after the top's header are ahead.
 pub ahead_at : (tables : Tables) (all : List ℕ) (next : ℕ) (trees : Forest) → 33 ≤ next → next ≤ length all → drop next all ≡ bytes tables trees → CanName tables trees
     → length (bytes tables trees) ≤ 4294967295 → IsAhead tables all next trees
 ahead_at tables all zero trees top inside e named few = absurd (omega arith)
@@ -89,16 +89,16 @@ module _ (tables : Tables) (all : List ℕ) (root : Root)
   unfolding packed
   stored_symbols = ap (λ s. s.symbols) stored.2
 
-  -- The tables are those of what is below the top, with the top's two parts behind.
+  -- The tables are those of the trees below the top, with the top's two parts at the end.
   stored_tables : with_more below top_parts [] ≡ tables
   stored_tables = λ i. record { parts = sym stored_parts i; symbols = (append-nil below.symbols ∙ sym stored_symbols) i }
 
-  -- The bytes below the top are also those by all the tables.
+  -- All the tables give the trees below the top the same bytes.
   pub below_bytes : bytes tables root.children ≡ bytes_below root.children
   below_bytes =
       ap (λ t. bytes t root.children) (sym stored_tables) ∙ bytes-more below top_parts [] root.children (can_name_below root stored.0 stored.1).2
 
-  -- All the tables can name what is below the top.
+  -- All the tables can name the trees below the top.
   pub below_named : CanName tables root.children
   below_named = (
     omega (arith, stored.1.parts, ap length stored_parts),
@@ -108,11 +108,11 @@ module _ (tables : Tables) (all : List ℕ) (root : Root)
     stored.0.1,
   )
 
-  -- The top header is read first, and then stand the bytes below the top.
+  -- The top's header is read first, and the bytes below the top follow it.
   pub top_read : entry_at all ≡ token_read (of_header (top_of root)) (bytes tables root.children)
   top_read = ap entry_at stored_bytes ∙ top_again root stored.0 stored.1 ∙ ap (token_read (of_header (top_of root))) (sym below_bytes)
 
-  -- The top header's two parts are the last two of the table.
+  -- The top's two parts are the last two of the table.
   pub top_parts_last : ((top_of root).opening.part + 2 ≡ length tables.parts) × ((top_of root).closing.part + 1 ≡ length tables.parts)
   top_parts_last = (omega (arith, ap length stored_parts, length-root_parts root), omega (arith, ap length stored_parts, length-root_parts root))
 
@@ -121,7 +121,7 @@ module _ (tables : Tables) (all : List ℕ) (root : Root)
   top_length =
       omega (arith, ap length stored_bytes, ap length below_bytes, length-append (format_4 true (top_of root)) (bytes_below root.children), heavy_length (top_of root))
 
-  -- The numbers of the top header find it: its two parts stand last in the table.
+  -- The numbers of the top's header find that header: its two parts are the last ones of the table.
   top_finds : FindsSubtree tables (top_of root) (record { delimiter = root.delimiter; len = size root.children })
   top_finds =
       record {
@@ -140,7 +140,7 @@ module _ (tables : Tables) (all : List ℕ) (root : Root)
       drop_first all 0 (format_4 true (top_of root)) (bytes tables root.children) 33 (omega arith)
       (stored_bytes ∙ ap (λ list. format_4 true (top_of root) ++ list) (sym below_bytes)) top_length
 
-  -- The trees below the top lie ahead of offset 33.
+  -- The trees below the top are ahead of offset 33.
   pub below_ahead : IsAhead tables all 33 root.children
   below_ahead =
       ahead_at tables all 33 root.children (omega arith) (omega (arith, top_length)) top_drop below_named (omega (arith, stored.1.bytes, ap length below_bytes))
@@ -168,7 +168,7 @@ module _ (tables : Tables) (all : List ℕ) (root : Root)
           ahead_at tables all (length all) end (omega (arith, top_length)) (omega arith) (drop-length all ∙ sym (bytes-end tables))
           (below_named.0, below_named.1, tt, tt) (omega (arith, ap length (bytes-end tables)))
 
--- ---- behind the top
+-- ---- after the top
 
 module _ (tables : Tables) (all : List ℕ) (offset : ℕ) where
   end_ahead : IsAhead tables all (suc offset) end → length all ≤ suc offset
@@ -270,7 +270,8 @@ nothing_read : entry_at [] ≡ None
 unfolding entry_at span_at
 nothing_read = refl
 
--- What is read at an offset tells what lies ahead: nothing, or the first token and where the trees behind it lie.
+-- If a token is read at an offset, it is the first one ahead, and the trees after it are ahead of the next offset; otherwise no trees are
+-- ahead.
 pub ahead_read : (tables : Tables) (all : List ℕ) (offset : ℕ) (trees : Forest) → IsAhead tables all offset trees → TokenAhead tables all offset trees (entry_at (drop offset all))
 ahead_read tables all zero end ahead =
     subst (TokenAhead tables all 0 end) (sym (ap entry_at ahead ∙ nothing_read)) (refl, omega (arith, ap length ahead))
@@ -287,29 +288,29 @@ ahead_read tables all (suc offset) (leaf it rest) ahead =
 ahead_read tables all (suc offset) (node delimiter children rest) ahead =
     subst (TokenAhead tables all (suc offset) (node delimiter children rest)) (sym (node_read tables all offset delimiter children rest ahead)) (node_ahead tables all offset delimiter children rest ahead)
 
--- Where no bytes are left, nothing lies ahead.
+-- If no bytes are left, no trees are ahead.
 pub none_ahead : (tables : Tables) (all : List ℕ) (offset : ℕ) (trees : Forest) → IsAhead tables all offset trees → length all ≤ offset → trees ≡ end
 none_ahead tables all offset trees ahead passed =
     let read : TokenAhead tables all offset trees None =
     subst (TokenAhead tables all offset trees) (ap entry_at (drop_all offset all passed) ∙ nothing_read) (ahead_read tables all offset trees ahead) in
     read.0
 
--- Where nothing lies ahead, no bytes are left.
+-- If no trees are ahead, no bytes are left.
 pub end_is_passed : (tables : Tables) (all : List ℕ) (offset : ℕ) → IsAhead tables all offset end → length all ≤ offset
 end_is_passed tables all zero ahead = omega (arith, ap length ahead)
 end_is_passed tables all (suc offset) ahead = end_ahead tables all offset ahead
 
--- What was read at an offset as a leaf lies ahead of it.
+-- A leaf that is read at an offset is ahead of it.
 pub leaf_is_ahead : (tables : Tables) (all : List ℕ) (offset : ℕ) (trees : Forest) (entry : LeafEntry) (rest : List ℕ) → IsAhead tables all offset trees
     → entry_at (drop offset all) ≡ token_read (of_leaf entry) rest → LeafAhead tables all offset trees entry rest
 leaf_is_ahead tables all offset trees entry rest ahead e = subst (TokenAhead tables all offset trees) e (ahead_read tables all offset trees ahead)
 
--- What was read at an offset as a header lies ahead of it, with its children.
+-- A header that is read at an offset is ahead of it, with its children.
 pub node_is_ahead : (tables : Tables) (all : List ℕ) (offset : ℕ) (trees : Forest) (entry : HeaderEntry) (rest : List ℕ) → IsAhead tables all offset trees
     → entry_at (drop offset all) ≡ token_read (of_header entry) rest → NodeAhead tables all offset trees entry rest
 node_is_ahead tables all offset trees entry rest ahead e = subst (TokenAhead tables all offset trees) e (ahead_read tables all offset trees ahead)
 
--- What was read at the start as a header names the last two parts of the table.
+-- A header that is read at the start names the last two parts of the table.
 pub start_parts_last : (tables : Tables) (all : List ℕ) (trees : Forest) (entry : HeaderEntry) (rest : List ℕ) → IsAhead tables all 0 trees
     → entry_at all ≡ token_read (of_header entry) rest → (entry.opening.part + 2 ≡ length tables.parts) × (entry.closing.part + 1 ≡ length tables.parts)
 start_parts_last tables all end entry rest ahead e = cc (sym e ∙ ap entry_at ahead ∙ nothing_read)
@@ -324,7 +325,7 @@ start_parts_last tables all (node delimiter children end) entry rest ahead e =
     let last = top_parts_last tables all root ahead in
     (ap (λ it. it.opening.part + 2) (sym entries) ∙ last.0, ap (λ it. it.closing.part + 1) (sym entries) ∙ last.1)
 
--- Where no token is read, nothing lies ahead.
+-- If no token is read, no trees are ahead.
 pub none_read : (tables : Tables) (all : List ℕ) (offset : ℕ) (trees : Forest) → IsAhead tables all offset trees
     → entry_at (drop offset all) ≡ None → (trees ≡ end) × (length all ≤ offset)
 none_read tables all offset trees ahead e = subst (TokenAhead tables all offset trees) e (ahead_read tables all offset trees ahead)

@@ -1,4 +1,4 @@
--- What new ids give on small trees.
+-- The new ids of small trees.
 use Rattle.std.proofs.Common.{◌≡◌, ℕ, [], ◌∷◌, get_or, refl, ap, le-add_right, arith}
 use Rattle.std.proofs.lemmas.Bool.{true≢false}
 use Rattle.std.specs.List.{IsDistinct}
@@ -44,23 +44,23 @@ three_ids : stored_ids (ids_changed (record { 0 = 9 } ∷ record { 0 = 9 } ∷ r
 unfolding three_parts table
 three_ids = refl
 
--- two parts below the top that differ in their ids alone, and a top like them
+-- two parts below the top that differ only in their ids, and a top with the same parts
 two_parts : Root
 two_parts = record { delimiter = delimiter Parenthesis (of_id 3) (of_id 4); children = leaf (semicolon 1) (leaf (semicolon 2) end) }
 
--- all become one
+-- all parts become equal
 all_one : stored_ids (ids_changed (record { 0 = 0 } ∷ record { 0 = 0 } ∷ record { 0 = 0 } ∷ record { 0 = 0 } ∷ []) two_parts)
     ≡ record { 0 = 0 } ∷ record { 0 = 0 } ∷ record { 0 = 0 } ∷ []
 unfolding two_parts table
 all_one = refl
 
--- each takes its own
+-- each part takes its own id
 exchanged : ids_changed (record { 0 = 2 } ∷ record { 0 = 1 } ∷ record { 0 = 4 } ∷ record { 0 = 3 } ∷ []) two_parts
     ≡ record { delimiter = delimiter Parenthesis (of_id 4) (of_id 3); children = leaf (semicolon 2) (leaf (semicolon 1) end) }
 unfolding two_parts table
 exchanged = refl
 
--- each keeps apart from the other
+-- all entries stay different
 stays_apart : KeepApart (record { 0 = 2 } ∷ record { 0 = 1 } ∷ record { 0 = 4 } ∷ record { 0 = 3 } ∷ []) two_parts
 unfolding two_parts table IsDistinct
 stays_apart = ((refl, tt), (tt, tt))
@@ -70,7 +70,7 @@ same_bytes : (packed (ids_changed (record { 0 = 2 } ∷ record { 0 = 1 } ∷ rec
 unfolding two_parts table packed bytes span_bytes
 same_bytes = refl
 
--- where all become one, they do not keep apart
+-- if all become equal, they are not different
 becomes_one : KeepApart (record { 0 = 0 } ∷ record { 0 = 0 } ∷ record { 0 = 0 } ∷ record { 0 = 0 } ∷ []) two_parts → ⊥
 unfolding two_parts table IsDistinct
 becomes_one apart = true≢false apart.0.0

@@ -1,4 +1,4 @@
--- No order of the values used costs less than their table.
+-- No order of the used values costs less than their table.
 use Rattle.std.proofs.Common.{◌≡◌, ℕ, suc, ◌+◌, ◌*◌, ◌-◌, ◌/◌, ◌%◌, ◌^◌, ◌<◌, ◌≤◌, bytes_eq, w16, Bool, true, false, not, cond, ◌⊎◌, inl, inr, List, [], ◌∷◌, length, filter, nat_lt, nat_le, refl, ap, sym, subst, ◌∙◌, add-zero, zero-add, arith}
 use Rattle.std.specs.Int.{to_le_bytes}
 use Rattle.std.specs.List.{AllByRecursion, IsDistinct, sum_by}
@@ -44,7 +44,7 @@ weight_first index few = by_test (nat_lt index 64) refl
     by_test true e = refl
     by_test false e = omega (arith, ltb-false _ _ e)
 
--- The more goes with the less.
+-- A sum of two products is not larger with the larger factor beside the smaller one.
 exchange : (a b less more : ℕ) → a ≤ b → less ≤ more → a * more + b * less ≤ a * less + b * more
 exchange a b less more h k =
     subst (λ n. a * n + b * less ≤ a * less + b * n) rest
@@ -59,7 +59,7 @@ exchange a b less more h k =
     multiplied : (p d q e : ℕ) → p * (q + e) + (p + d) * q ≤ p * q + (p + d) * (q + e)
     multiplied p d q e = omega arith
 
--- `same` tells whether two values are equal
+-- `same` is whether two values are equal
 module _ {X : Type 0} (same : X → X → Bool) (sound : (x y : X) → same x y ≡ true → x ≡ y) (complete : (x : X) → same x x ≡ true) where
   -- ---- a list without one of its values
 
@@ -72,7 +72,7 @@ module _ {X : Type 0} (same : X → X → Bool) (sound : (x y : X) → same x y 
   without_none x [] h = refl
   without_none x (y ∷ ys) h = ap (λ t. cond (not t) (y ∷ without x ys) (without x ys)) h.0 ∙ ap (λ zs. y ∷ zs) (without_none x ys h.1)
 
-  -- Of a list of different values only x goes.
+  -- A list of different values loses only x.
   without_first : (x y : X) (ys : List X) → same x y ≡ true → AllByRecursion (λ z. same y z ≡ false) ys → without x (y ∷ ys) ≡ ys
   without_first x y ys e h =
       ap (λ t. cond (not t) (y ∷ without x ys) (without x ys)) e
@@ -116,12 +116,12 @@ module _ {X : Type 0} (same : X → X → Bool) (sound : (x y : X) → same x y 
 
   -- ---- lists of the same different values
 
-  -- the two lists hold the same
+  -- the two lists have the same values
   pub record HoldSame (xs ys : List X) : Type 0 where
     pub there : (z : X) → Member z xs → Member z ys
     pub back : (z : X) → Member z ys → Member z xs
 
-  -- x is none of those behind it
+  -- x is none of the values after it
   apart : (x z : X) (xs : List X) → AllByRecursion (λ y. same x y ≡ false) xs → Member z xs → same x z ≡ false
   apart x z xs h m = member_all (λ y. same x y ≡ false) xs h z m
 
@@ -162,13 +162,13 @@ module _ {X : Type 0} (same : X → X → Bool) (sound : (x y : X) → same x y 
   -- ---- costs
 
   module _ (uses : List X) (indices : ℕ) where
-    -- at two indices next to each other it costs no more to have x before y
+    -- At two neighbouring indices, the cost is not larger with x before y.
     abbrev GoesFirst : X → X → Type 0
     GoesFirst x y = (index : ℕ) → suc index < indices
         → weight index * uses_of same uses x + weight (suc index) * uses_of same uses y
         ≤ weight index * uses_of same uses y + weight (suc index) * uses_of same uses x
 
-    -- It costs no more to have x first, where it goes before all others.
+    -- The cost is not larger with x first, if x is before all others in the order of the table.
     to_front : (index : ℕ) (x : X) (ys : List X) → index + length ys ≤ indices → IsDistinct same ys → Member x ys
         → ((y : X) → Member y ys → same x y ≡ false → GoesFirst x y)
         → weight index * uses_of same uses x + cost_from same (suc index) uses (without x ys) ≤ cost_from same index uses ys
@@ -200,7 +200,7 @@ module _ {X : Type 0} (same : X → X → Bool) (sound : (x y : X) → same x y 
             room : suc index < indices
             room = omega (arith, few, length-without x ys h.1 k)
 
-    -- A list in which each goes before all that follow costs no more than another of the same values.
+    -- A list in which each value is before all that follow costs no more than another list of the same values.
     cheapest_in_order : (index : ℕ) (xs ys : List X) → index + length xs ≤ indices → IsInOrder same GoesFirst xs
         → IsDistinct same xs → IsDistinct same ys → HoldSame xs ys → cost_from same index uses xs ≤ cost_from same index uses ys
     unfolding IsDistinct
@@ -229,7 +229,7 @@ module _ {X : Type 0} (same : X → X → Bool) (sound : (x y : X) → same x y 
   uses_further : (x : X) (uses : List X) (y : X) → uses_of same (x ∷ uses) y ≡ cond (same y x) 1 0 + uses_of same uses y
   uses_further x uses y = sum_by-cons (λ z. cond (same y z) 1 0) x uses
 
-  -- It costs nothing in an order without the value.
+  -- The use adds nothing to the cost of an order without the value.
   cost_stays : (index : ℕ) (x : X) (uses order : List X) → AllByRecursion (λ y. same x y ≡ false) order
       → cost_from same index (x ∷ uses) order ≡ cost_from same index uses order
   cost_stays index x uses [] h = refl
@@ -240,7 +240,7 @@ module _ {X : Type 0} (same : X → X → Bool) (sound : (x y : X) → same x y 
       count : uses_of same (x ∷ uses) y ≡ uses_of same uses y
       count = uses_further x uses y ∙ ap (λ t. cond t 1 0 + uses_of same uses y) (same_no_back x y h.0) ∙ omega arith
 
-  -- It costs the weight of the value's index.
+  -- The use adds the weight of the value's index to the cost.
   cost_grows : (index : ℕ) (x : X) (uses order : List X) → IsDistinct same order → IsIn same order x
       → cost_from same index (x ∷ uses) order ≡ weight (index + index_in (same x) order) + cost_from same index uses order
   unfolding IsDistinct
@@ -273,7 +273,7 @@ module _ {X : Type 0} (same : X → X → Bool) (sound : (x y : X) → same x y 
   cost_none index [] = refl
   cost_none index (y ∷ order) = omega (arith, cost_none (suc index) order)
 
-  -- An order costs what the references of all uses weigh.
+  -- The cost of an order is the sum of the weights of the references of all uses.
   pub cost_of_uses : (uses order : List X) → AllByRecursion (IsIn same order) uses → IsDistinct same order
       → sum_by (λ x. weight (index_in (same x) order)) uses ≡ cost same uses order
   cost_of_uses [] order h once = sym (cost_none 0 order)
@@ -288,7 +288,7 @@ module _ {X : Type 0} (same : X → X → Bool) (sound : (x y : X) → same x y 
 
   -- ---- the table
 
-  -- Values in order are different, if none stands before itself.
+  -- Values in order are different, if no value is before itself.
   pub distinct_order : (B : X → X → Type 0) → ((x : X) → B x x → ⊥) → (xs : List X) → IsInOrder same B xs → IsDistinct same xs
   unfolding IsDistinct
   distinct_order B none [] h = tt
@@ -302,7 +302,7 @@ module _ {X : Type 0} (same : X → X → Bool) (sound : (x y : X) → same x y 
           by_test true e = absurd (none x (subst (B x) (sym (sound x y e)) k.0))
           by_test false e = refl
 
-  -- No value stands before itself.
+  -- No value is before itself.
   pub not_before : (short count : ℕ) (uses : List X) (x : X) → Before same short count uses x x → ⊥
   not_before short count uses x h = by_length (nat_le count short) refl
     where
@@ -314,7 +314,7 @@ module _ {X : Type 0} (same : X → X → Bool) (sound : (x y : X) → same x y 
       by_length true e = omega (arith, h.0 (leb-true _ _ e))
       by_length false e = more (h.1 (leb-false _ _ e))
 
-  -- Of two values, the one that stands before the other in the table goes first.
+  -- A value that is before another in a table goes first.
   before_goes_first : (count : ℕ) (uses : List X) (x y : X) → Before same 63 count uses x y → GoesFirst uses count x y
   before_goes_first count uses x y h index room = by_length (nat_le count 63) refl
     where
@@ -331,7 +331,7 @@ module _ {X : Type 0} (same : X → X → Bool) (sound : (x y : X) → same x y 
           rw (here, next) (omega arith)
       by_length false e = exchange (weight index) (weight (suc index)) (uses_of same uses y) (uses_of same uses x) (weight_grows index) (no_less (h.1 (leb-false _ _ e)))
 
-  -- A table is an order of the values used.
+  -- A table is an order of the used values.
   table_order : (uses table : List X) → IsTable same 63 uses table → IsOrderOf same uses table
   table_order uses table is =
       record {
@@ -340,7 +340,7 @@ module _ {X : Type 0} (same : X → X → Bool) (sound : (x y : X) → same x y 
         once = distinct_order (Before same 63 (length table) uses) (not_before 63 (length table) uses) table is.in_order;
       }
 
-  -- Two orders of the same uses hold the same.
+  -- Two orders of the same uses have the same values.
   orders_same : (uses xs ys : List X) → IsOrderOf same uses xs → IsOrderOf same uses ys → HoldSame xs ys
   orders_same uses xs ys h k =
       record { there = λ z m. carried xs ys h.has_no_other k.has_all z m; back = λ z m. carried ys xs k.has_no_other h.has_all z m }

@@ -1,4 +1,4 @@
--- What indices and orders cost at the limits, beside numbers that were worked out by hand.
+-- The weights of indices and the costs of orders at the limits. The numbers were worked out by hand.
 use Rattle.std.proofs.Common.{◌≡◌, ℕ, List, [], ◌∷◌, ◌++◌, nat_eq, refl, lit<, not-le_of_lt}
 use Rattle.std.specs.List.{range_with_len}
 use Rattle.std.proofs.lemmas.Bool.{eqb-true, eq-eqb}
@@ -14,7 +14,7 @@ weights = (refl, refl, refl, refl, refl)
 abbrev used : (n last : ℕ) → List ℕ
 used n last = range_with_len 0 n ++ last ∷ []
 
--- The 65th index weighs two, and the 8,193rd four. A value used twice does best in front of them.
+-- The 65th index weighs two, and the 8,193rd four. A value with two uses costs least before them.
 costs : (cost nat_eq (used 63 62) (range_with_len 0 63) ≡ 64)
     × (cost nat_eq (used 64 63) (63 ∷ range_with_len 0 63) ≡ 65)
     × (cost nat_eq (used 65 64) (64 ∷ range_with_len 0 64) ≡ 67)
@@ -23,7 +23,7 @@ costs : (cost nat_eq (used 63 62) (range_with_len 0 63) ≡ 64)
     × (cost_from nat_eq 8191 (7 ∷ 8 ∷ 7 ∷ []) (8 ∷ 7 ∷ []) ≡ 10)
 costs = (refl, refl, refl, refl, refl, refl)
 
--- The table of 65 values, the last used twice, is the cheapest order, and the order of first use is not.
+-- The table of 65 values, the last of which has two uses, is the cheapest order, and the order of first uses is not.
 table_is_cheapest : IsCheapest nat_eq (used 65 64) (64 ∷ range_with_len 0 64)
 unfolding table
 table_is_cheapest =
@@ -33,6 +33,6 @@ table_is_cheapest =
 first_use_is_not : IsCheapest nat_eq (used 65 64) (range_with_len 0 65) → ⊥
 first_use_is_not h = not-le_of_lt (lit< tt) (h.1 (64 ∷ range_with_len 0 64) table_is_cheapest.0)
 
--- A list without one of the values costs less, but is no order.
+-- A list without one of the values costs less, and is no order.
 one_missing_is_not : IsCheapest nat_eq (1 ∷ 2 ∷ []) (1 ∷ []) → ⊥
 one_missing_is_not h = not-le_of_lt (lit< tt) h.0.has_all.1.0

@@ -1,13 +1,13 @@
--- A value that is inserted, and whose number is then set where it was there.
+-- A value is inserted, and its number is set if it was there before.
 use Rattle.std.proofs.Common.{◌≡◌, ℕ, suc, Bool, true, false, cond, Some, None, List, [], ◌∷◌, slice_get, refl, ap, sym}
 use Rattle.std.specs.Map.{keys_of, lookup}
 use Rattle.indexmap.specs.IndexMap.{insert_entry, set_value_at}
 use Rattle.tt_tables.specs.Entering.{entered}
 use Rattle.tt_tables.specs.TableOrder.{index_in}
 
--- `same` tells whether two values are equal
+-- `same` is whether two values are equal
 module _ {X : Type 0} (same : X → X → Bool) (new : ℕ) (again : ℕ → ℕ) where
-  -- A value that is there is entered once the number of its entry is set.
+  -- If the value is there, the entries with another number for it are those after it.
   pub entered_again : (entries : List (X × ℕ)) (x : X) (n : ℕ) → lookup (same x) entries ≡ Some n
       → set_value_at (insert_entry same entries x new) (index_in (same x) (keys_of entries)) (again n) ≡ entered same new again entries x
   entered_again [] x n there = absurd (cc there)
@@ -26,7 +26,7 @@ module _ {X : Type 0} (same : X → X → Bool) (new : ℕ) (again : ℕ → ℕ
           number = cc there
       by_test false there later = ap (λ rest. entry ∷ rest) (later there)
 
-  -- One that is new is entered as it is inserted.
+  -- If the value is new, the entries with it at the end are those after it.
   pub entered_new : (entries : List (X × ℕ)) (x : X) → lookup (same x) entries ≡ None → insert_entry same entries x new ≡ entered same new again entries x
   entered_new [] x none = refl
   entered_new (entry ∷ entries) x none = by_test (same x entry.0) none (entered_new entries x)
@@ -37,7 +37,7 @@ module _ {X : Type 0} (same : X → X → Bool) (new : ℕ) (again : ℕ → ℕ
       by_test true none later = absurd (cc none)
       by_test false none later = ap (λ rest. entry ∷ rest) (later none)
 
-  -- It stands where it is found first, or last.
+  -- The value is at the place of its first entry, or at the last one.
   pub stands_entered : ((x y : X) → same x y ≡ true → x ≡ y) → (entries : List (X × ℕ)) (x : X)
       → slice_get (keys_of (entered same new again entries x)) (index_in (same x) (keys_of entries)) ≡ Some x
   stands_entered sound [] x = refl

@@ -16,7 +16,7 @@ use Rattle.tt_tables.specs.Tables.{Tables, Knows, numbers_of_span, index_of_symb
 use Rattle.tt_tables.specs.Uses.{same_part}
 use Rattle.tt_tables.proofs.TokenTables.{part_sound, text_sound}
 
--- What stands at the numbers that was found passes the test.
+-- The value at the index that was found passes the test.
 pub found_there : {X : Type 0} (test : X → Bool) (xs : List X) (other : X) → index_in test xs < length xs → test (get_or xs (index_in test xs) other) ≡ true
 found_there test [] other found = absurd (none found)
   where
@@ -30,7 +30,7 @@ found_there test (x ∷ xs) other found = by_test (test x) refl found (found_the
     by_test true e found later = e
     by_test false e found later = later (omega arith)
 
--- What stands at an index is found there.
+-- A value at an index is found.
 get_found : {X : Type 0} (xs : List X) (i : ℕ) (x : X) → i < length xs → ((other : X) → get_or xs i other ≡ x) → slice_get xs i ≡ Some x
 get_found [] i x h e = absurd (none h)
   where
@@ -76,11 +76,11 @@ pub numbers_find : (tables : Tables) (part : ℕ) (span : Span) → part < lengt
     → FindsSpan tables (span_numbers part span) span
 numbers_find tables part span listed there = record { part = get_found tables.parts part _ listed there; start = refl; length = refl }
 
--- The last but one of a list.
+-- The last but one item of a list.
 pub last_but_one : {X : Type 0} (xs : List X) (a b other : X) → get_or (xs ++ a ∷ b ∷ []) (length xs) other ≡ a
 last_but_one xs a b other = get_or-append_seam xs a (b ∷ []) other
 
--- The last of a list.
+-- The last item of a list.
 pub last_of : {X : Type 0} (xs : List X) (a b other : X) → get_or (xs ++ a ∷ b ∷ []) (suc (length xs)) other ≡ b
 last_of xs a b other =
     ap (λ list. get_or list (suc (length xs)) other) (sym (append_assoc xs (a ∷ []) (b ∷ [])))

@@ -1,4 +1,4 @@
--- A token that was made of what numbers name is the token that they name.
+-- A token made from what numbers name is the token that they name.
 use Rattle.std.proofs.Common.{◌≡◌, ℕ, ◌+◌, ◌-◌, Some, List, ap, sym, ◌∙◌, arith}
 use Rattle.std.specs.List.{slice_get}
 use Rattle.tt_base.specs.declared.leaf.Leaf.{Leaf}
@@ -24,7 +24,7 @@ leaf_in_range (leaf.Literal it) range = range
 leaf_in_range (leaf.Punct it) range = range.0
 leaf_in_range (leaf.Ident it) range = range
 
--- A span that was made of what numbers name is the span that they name.
+-- A span made from what numbers name is the span that they name.
 pub span_made : (tables : Tables) (numbers : SpanNumbers) (part : SpanPart) (range : TextRange) (span : Span)
     → slice_get tables.parts numbers.part ≡ Some part → start_of range ≡ numbers.start → end_of range ≡ numbers.start + numbers.length
     → FindsSpan tables numbers span → span_in part range ≡ span
@@ -40,7 +40,7 @@ span_made tables numbers part range span at start end found =
     long : end_of range - start_of range ≡ end_of span.range - start_of span.range
     long = omega (arith, start, end, found.length)
 
--- A literal that was made of what numbers name is the leaf that they name.
+-- A literal made from what numbers name is the leaf that they name.
 pub literal_made : (tables : Tables) (symbol : ℕ) (kind : LitKind) (suffix_len : ℕ) (numbers : SpanNumbers) (text : List ℕ) (span : Span) (made : Literal) (it : Leaf)
     → slice_get tables.symbols symbol ≡ Some text → span ≡ leaf_span it → IsLiteral made text span kind suffix_len
     → FindsLeaf tables (literal symbol kind suffix_len numbers) it → leaf.Literal made ≡ it

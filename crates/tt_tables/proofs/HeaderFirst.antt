@@ -11,7 +11,7 @@ use Rattle.tt_base.proofs.EndPieces.{join-front-behind, header_holds, unflat-dro
 use Rattle.tt_tables.proofs.Naming.{bytes-join}
 use Rattle.tt_base.proofs.WholeLists.{end_piece}
 
--- The header counts the bytes of what it holds.
+-- The header counts the bytes of the tokens below it.
 pub header_first : (tables : Tables) (s : Subtree) (tokens : List TokenTree) → IsWhole (token.Subtree s ∷ tokens)
     → bytes tables (unflat (token.Subtree s ∷ tokens))
     ≡ token_bytes tables (token.Subtree s) (length (bytes tables (unflat tokens)) - length (bytes tables (unflat (drop s.len tokens))))

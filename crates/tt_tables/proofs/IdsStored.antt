@@ -1,4 +1,4 @@
--- New ids that keep the entries below the top apart change the table of span parts, and nothing else of what is stored.
+-- If the entries below the top stay different with new ids, the ids change only the table of span parts of what is stored.
 use Rattle.std.proofs.Common.{◌≡◌, ℕ, suc, ◌+◌, ◌-◌, ◌≤◌, Bool, true, false, cond, bytes_eq, List, [], ◌∷◌, ◌++◌, map, length, take, get_or, refl, ap, ap₂, sym, subst, ◌∙◌, arith}
 use Rattle.std.proofs.lemmas.Bool.{true≢false}
 use Rattle.std.proofs.Math.Seq.{take-append_seam}
@@ -35,13 +35,13 @@ use Rattle.tt_tables.proofs.TokenTables.{part_sound, part_complete, part_table_i
 
 -- ---- the entries
 
--- As many entries.
+-- There are as many entries as before.
 pub length-parts_with_ids : (ids : List ErasedFileAstId) (parts : List SpanPart) → length (parts_with_ids ids parts) ≡ length parts
 length-parts_with_ids ids [] = refl
 length-parts_with_ids [] (part ∷ parts) = refl
 length-parts_with_ids (id ∷ ids) (part ∷ parts) = ap suc (length-parts_with_ids ids parts)
 
--- The last two have ids of their own.
+-- The last two entries have ids of their own.
 with_last : (parts : List SpanPart) (ids : List ErasedFileAstId) (opens closes : SpanPart)
     → parts_with_ids ids (parts ++ opens ∷ closes ∷ [])
     ≡ parts_with_ids ids parts
@@ -58,7 +58,7 @@ with_last (part ∷ parts) (id ∷ ids) opens closes =
     further : suc (length parts + 1) ≡ suc (length parts) + 1
     further = omega arith
 
--- Behind an entry that is another part the rest decides.
+-- The id of a part after an entry that is another part comes from the rest.
 by_rest : (id : ErasedFileAstId) (ids : List ErasedFileAstId) (entry : SpanPart) (parts others : List SpanPart) → AllByRecursion (λ part. same_part entry part ≡ false) others
     → map (part_by (id ∷ ids) (entry ∷ parts)) others ≡ map (part_by ids parts) others
 by_rest id ids entry parts [] all = refl
@@ -72,7 +72,7 @@ by_rest id ids entry parts (part ∷ others) all = ap₂ ◌∷◌ (by_test (sam
     by_test true e = absurd (true≢false (sym (part_complete entry) ∙ ap (same_part entry) (sym (part_sound part entry e)) ∙ all.0))
     by_test false e = refl
 
--- By the entry of each part, and by place: the same, where no part stands twice.
+-- The ids by part and by place are the same, if no part comes twice.
 by_entry : (ids : List ErasedFileAstId) (parts : List SpanPart) → IsDistinct same_part parts → map (part_by ids parts) parts ≡ parts_with_ids ids parts
 unfolding IsDistinct
 by_entry ids [] once = refl
@@ -96,7 +96,7 @@ module _ (ids : List ErasedFileAstId) (root : Root) (apart : KeepApart ids root)
   abbrev texts : List (List ℕ)
   texts = symbol_table (flat root.children)
 
-  -- no part stands twice in the table
+  -- no part comes twice in the table
   once : IsDistinct same_part old
   once =
       distinct_order same_part part_sound part_complete _ (not_before same_part part_sound part_complete short_parts (length old) (part_uses (flat root.children))) old
@@ -105,7 +105,7 @@ module _ (ids : List ErasedFileAstId) (root : Root) (apart : KeepApart ids root)
   new_entries : map (part_by ids old) old ≡ parts_with_ids ids old
   new_entries = by_entry ids old once
 
-  -- parts that are in the table stay apart
+  -- parts of the table stay different
   kept : (a b : SpanPart) → IsIn same_part old a → IsIn same_part old b → same_part (part_by ids old a) (part_by ids old b) ≡ same_part a b
   kept = names_apart same_part part_sound part_complete (part_by ids old) old (subst (IsDistinct same_part) (sym new_entries) apart)
 
@@ -180,7 +180,7 @@ module _ (ids : List ErasedFileAstId) (root : Root) (apart : KeepApart ids root)
       ap (λ ps. ps ++ part_of (ids_changed ids root).delimiter.open_span ∷ part_of (ids_changed ids root).delimiter.close ∷ []) parts_now
       ∙ sym (with_last old ids (part_of root.delimiter.open_span) (part_of root.delimiter.close))
 
-  -- What is stored is what was stored, under the entries with their new ids.
+  -- What is stored is the same as before, with the entries with their new ids.
   pub packed-ids_changed : packed (ids_changed ids root) ≡ under_parts (parts_with_ids ids (root_parts root)) (packed root)
   unfolding packed
   packed-ids_changed i =
@@ -191,7 +191,7 @@ module _ (ids : List ErasedFileAstId) (root : Root) (apart : KeepApart ids root)
         len = suc (sized i);
       }
 
-  -- Its counts are those that it had.
+  -- Its counts are the same as before.
   limits_stay : IsWithinLimits root → IsWithinLimits (ids_changed ids root)
   limits_stay limits =
       record {
@@ -201,7 +201,7 @@ module _ (ids : List ErasedFileAstId) (root : Root) (apart : KeepApart ids root)
         bytes = omega (arith, ap length below, limits.bytes);
       }
 
--- A token that was in range is so with other ids.
+-- A token in range is in range with other ids.
 token_in_range : (ids : List ErasedFileAstId) (parts : List SpanPart) (it : TokenTree) → TokenInRange it → TokenInRange (respanned_token (span_by ids parts) it)
 token_in_range ids parts (token.Leaf (leaf_of.Literal it)) range = range
 token_in_range ids parts (token.Leaf (leaf_of.Punct it)) range = range
@@ -213,7 +213,7 @@ all_in_range : (ids : List ErasedFileAstId) (parts : List SpanPart) (tokens : Li
 all_in_range ids parts [] range = tt
 all_in_range ids parts (it ∷ tokens) range = (token_in_range ids parts it range.0, all_in_range ids parts tokens range.1)
 
--- So is a tree.
+-- A tree in range is in range with other ids.
 range_stays : (ids : List ErasedFileAstId) (root : Root) → IsInRange root → IsInRange (ids_changed ids root)
 range_stays ids root range = (
   range.0,
@@ -234,11 +234,11 @@ parts_below root =
     count : length (root_parts root) - 2 ≡ length (part_table (flat root.children))
     count = omega (arith, length-root_parts root)
 
--- So are those that are stored.
+-- The same for the stored parts.
 pub stored_below : (stored : Stored) (root : Root) → IsStored stored root → take (length stored.parts - 2) stored.parts ≡ part_table (flat root.children)
 stored_below stored root is = ap (λ parts. take (length parts - 2) parts) (ap (λ s. s.parts) is.2 ∙ parts_of root) ∙ parts_below root
 
--- Where a tree is stored, the tree with new ids is stored by its bytes and symbols, under the entries with these ids.
+-- If a tree is stored, the tree with new ids is stored as its bytes and symbols, and the entries with these ids.
 pub ids_stored : (stored : Stored) (root : Root) (ids : List ErasedFileAstId) (parts : List SpanPart) → IsStored stored root → KeepApart ids root
     → parts ≡ parts_with_ids ids stored.parts → IsStored (under_parts parts stored) (ids_changed ids root)
 ids_stored stored root ids parts is apart new = (

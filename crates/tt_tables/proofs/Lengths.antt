@@ -1,4 +1,4 @@
--- How many bytes tokens and trees take.
+-- The number of bytes of tokens and trees.
 use Rattle.std.proofs.Common.{◌≡◌, ℕ, suc, ◌+◌, ◌*◌, ◌^◌, ◌/◌, ◌%◌, ◌≤◌, Bool, true, false, cond, ◌==◌, nat_lt, nat_le, List, [], ◌∷◌, ◌++◌, Some, None, length, length-append, lit≤, arith, w16}
 use Rattle.std.specs.Int.{to_le_bytes}
 use Rattle.tt_base.specs.declared.literal.LitKind.{LitKind}
@@ -19,7 +19,7 @@ use Rattle.tt_codec.specs.SpanNumbers.{fits_one_word, fits_two_words, light_span
 use Rattle.tt_tables.specs.Stored.{bytes, bytes_below, packed}
 use Rattle.tt_tables.specs.Tables.{Tables, entry_of, token_bytes, tables_for}
 
--- so many bytes
+-- the list has that many bytes
 abbrev pub IsBetween : (low high : ℕ) → List ℕ → Type 0
 IsBetween low high bytes = (low ≤ length bytes) × (length bytes ≤ high)
 
@@ -132,7 +132,7 @@ bytes_length tables (node delimiter children rest) =
     first : List ℕ
     first = token_bytes tables (header delimiter (size children)) (length (bytes tables children))
 
--- A stored tree takes 33 bytes for its top header, and 5 to 33 for each token below it.
+-- A stored tree takes 33 bytes for the top's header, and 5 to 33 for each token below it.
 pub packed_length : (root : Root) → IsBetween (33 + 5 * size root.children) (33 * suc (size root.children)) (packed root).bytes
 unfolding packed
 packed_length root =

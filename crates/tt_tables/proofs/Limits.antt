@@ -1,4 +1,4 @@
--- A tree is within the limits exactly if its list has none of the faults that speak of them.
+-- A tree is within the limits exactly if its list has none of the faults for them.
 use Rattle.std.proofs.Common.{◌≡◌, ℕ, ◌<◌, ◌≤◌, ◌↔◌, Bool, true, false, nat_lt, refl, subst, arith}
 use Rattle.std.proofs.lemmas.Bool.{ltb-true, ltb-false}
 use Rattle.tt_base.specs.declared.fault.TtFault.TheVariants.{TooManySpanParts, TooManySymbols, TooManyBytes}
@@ -14,7 +14,7 @@ at_most n most none = by_test (nat_lt most n) refl
     by_test true e = absurd (none (ltb-true most n e))
     by_test false e = omega (arith, ltb-false most n e)
 
--- the tree's list has not too many span parts, symbols or bytes
+-- the tree's list does not have too many span parts, symbols or bytes
 abbrev pub HasNoLimitFault : Root → Type 0
 HasNoLimitFault root =
     (IsPackFault (flat_root root) TooManySpanParts → ⊥) × (IsPackFault (flat_root root) TooManySymbols → ⊥)

@@ -1,4 +1,4 @@
--- A token is known by its numbers, where the tables have all that it uses.
+-- The numbers of a token determine it, if the tables have all values that it uses.
 use Rattle.std.proofs.Common.{◌≡◌, ℕ, suc, ◌-◌, ◌<◌, ◌≤◌, Bool, true, false, cond, bytes_eq, List, [], ◌∷◌, ◌++◌, length, refl, ap, sym, ◌∙◌, arith, IsCharBoundary}
 use Rattle.std.proofs.Props.{props}
 use Rattle.std.specs.Coded.{le_prop}
@@ -18,7 +18,7 @@ use Rattle.tt_tables.specs.Uses.{same_part}
 use Rattle.tt_base.proofs.Ranges.{same_range}
 use Rattle.tt_tables.proofs.TokenTables.{part_sound, text_sound}
 
--- A index found in a list is the same where more follows.
+-- An index that a list has is the same in a longer list.
 pub index_in-more : {X : Type 0} (test : X → Bool) (xs ys : List X) → index_in test xs < length xs → index_in test (xs ++ ys) ≡ index_in test xs
 index_in-more test [] ys found = absurd (none found)
   where
@@ -32,7 +32,7 @@ index_in-more test (x ∷ xs) ys found = by_test (test x) found (index_in-more t
     by_test true found later = refl
     by_test false found later = ap suc (later (omega arith))
 
--- Two tests that find one index both pass the value there.
+-- If two tests find one index, the value at that index passes both.
 pub same_index : {X : Type 0} (f g : X → Bool) (xs : List X) → index_in f xs < length xs → index_in f xs ≡ index_in g xs
     → (x : X) × (f x ≡ true) × (g x ≡ true)
 same_index f g [] found e = absurd (none found)
@@ -62,7 +62,7 @@ symbol_is symbols a b found e =
     let (x, p, q) = same_index (bytes_eq a) (bytes_eq b) symbols found e in
     text_sound a x p ∙ sym (text_sound b x q)
 
--- Spans of one part that start alike and are as long are equal.
+-- Spans with the same part, start and length are equal.
 pub span_from : (a b : Span) → part_of a ≡ part_of b → start_of a.range ≡ start_of b.range
     → end_of a.range - start_of a.range ≡ end_of b.range - start_of b.range → a ≡ b
 span_from a b part start long = λ i. record { range = range i; anchor = (part i).anchor; ctx = (part i).ctx }

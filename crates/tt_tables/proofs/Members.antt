@@ -1,4 +1,4 @@
--- Which values stand in a table.
+-- The values of a table.
 use Rattle.std.proofs.Common.{◌≡◌, ℕ, suc, ◌<◌, Bool, true, false, not, cond, ◌⊎◌, inl, inr, List, [], ◌∷◌, length, filter, nat_lt, nat_le, refl, ap, sym, ◌∙◌, arith}
 use Rattle.std.specs.List.{AllByRecursion}
 use Rattle.tt_tables.specs.TableOrder.{index_in, different, insert_falling, falling, uses_of, table}
@@ -8,7 +8,7 @@ abbrev pub Member : {X : Type 0} → X → List X → Type 0
 Member x [] = ⊥
 Member x (y ∷ ys) = (x ≡ y) ⊎ Member x ys
 
--- `same` tells whether two values are equal
+-- `same` is whether two values are equal
 module _ {X : Type 0} (same : X → X → Bool) (sound : (x y : X) → same x y ≡ true → x ≡ y) (complete : (x : X) → same x x ≡ true) where
   pub member_found : (x : X) (xs : List X) → Member x xs → index_in (same x) xs < length xs
   member_found x [] h = absurd h
@@ -64,7 +64,7 @@ module _ {X : Type 0} (same : X → X → Bool) (sound : (x y : X) → same x y 
       by_test true = member-different x uses h
       by_test false = member-falling (uses_of same uses) x (different same uses) (member-different x uses h)
 
-  -- All of one list are in another, where each of its values is one of the other.
+  -- All values of one list are in another, if the other has each of them.
   pub all_found : (xs values : List X) → ((x : X) → Member x xs → Member x values) → AllByRecursion (λ x. index_in (same x) values < length values) xs
   all_found [] values h = tt
   all_found (x ∷ xs) values h = (member_found x values (h x (inl refl)), all_found xs values (λ y m. h y (inr m)))

@@ -43,7 +43,7 @@ leaf_fits tables (one.Punct it) few few_symbols knows range = (range.1, numbers_
 leaf_fits tables (one.Ident it) few few_symbols knows range =
     (omega (arith, knows.symbols.0), numbers_fit tables it.span few knows.parts.0 range)
 
--- A header's numbers can be written, where it holds few tokens and bytes.
+-- A header's numbers can be written, if it has few tokens and bytes below it.
 pub header_fits : (tables : Tables) (it : Subtree) (child_bytes : ℕ) → length tables.parts ≤ 2 ^ 28 → Knows tables (token.Subtree it)
     → TokenInRange (token.Subtree it) → it.len < 2 ^ 32 → child_bytes < 2 ^ 32 → HeaderFits (header_entry tables it child_bytes)
 header_fits tables it child_bytes few knows range tokens small =
@@ -54,11 +54,11 @@ header_fits tables it child_bytes few knows range tokens small =
       child_bytes = small;
     }
 
--- The first token's numbers can be written: of a leaf.
+-- A leaf that comes first has numbers that can be written.
 pub first_leaf_fits : (tables : Tables) (it : Leaf) (rest : Forest) → CanName tables (leaf it rest) → EntryFits (entry_of tables (token.Leaf it) 0)
 first_leaf_fits tables it rest named = leaf_fits tables it named.0 named.1 named.2.0 named.3.0
 
--- The first token's numbers can be written: of a header.
+-- A header that comes first has numbers that can be written.
 pub first_header_fits : (tables : Tables) (delimiter : Delimiter) (children rest : Forest) → CanName tables (node delimiter children rest)
     → length (bytes tables children) < 2 ^ 32 → EntryFits (entry_of tables (header delimiter (size children)) (length (bytes tables children)))
 first_header_fits tables delimiter children rest named small =
@@ -67,7 +67,7 @@ first_header_fits tables delimiter children rest named small =
 
 -- ---- parts of trees
 
--- Two lists of trees that can be named can be named together.
+-- Two lists of trees that tables can name are a list that they can name.
 pub can_name_join : (tables : Tables) (f g : Forest) → CanName tables f → CanName tables g → CanName tables (join f g)
 can_name_join tables f g named others = (
   named.0,
@@ -76,7 +76,7 @@ can_name_join tables f g named others = (
   subst (AllByRecursion TokenInRange) (sym (flat-join f g)) (all_join TokenInRange (flat f) (flat g) named.3 others.3),
 )
 
--- The trees behind a leaf.
+-- The trees after a leaf.
 pub can_name_behind : (tables : Tables) (it : Leaf) (rest : Forest) → CanName tables (leaf it rest) → CanName tables rest
 can_name_behind tables it rest named = (named.0, named.1, named.2.1, named.3.1)
 
@@ -89,7 +89,7 @@ can_name_children tables delimiter children rest named = (
   (all_split TokenInRange (flat children) (flat rest) named.3.1).0,
 )
 
--- The trees behind a node.
+-- The trees after a node.
 pub can_name_rest : (tables : Tables) (delimiter : Delimiter) (children rest : Forest) → CanName tables (node delimiter children rest) → CanName tables rest
 can_name_rest tables delimiter children rest named = (
   named.0,
@@ -98,14 +98,14 @@ can_name_rest tables delimiter children rest named = (
   (all_split TokenInRange (flat children) (flat rest) named.3.1).1,
 )
 
--- What is left behind the first token.
+-- The trees after the first token.
 pub can_name_after_token : (tables : Tables) (trees : Forest) → CanName tables trees → CanName tables (after_token trees)
 can_name_after_token tables end named = named
 can_name_after_token tables (leaf it rest) named = can_name_behind tables it rest named
 can_name_after_token tables (node delimiter children rest) named =
     can_name_join tables children rest (can_name_children tables delimiter children rest named) (can_name_rest tables delimiter children rest named)
 
--- What is left behind the first tree.
+-- The trees after the first tree.
 pub can_name_after_tree : (tables : Tables) (trees : Forest) → CanName tables trees → CanName tables (after_tree trees)
 can_name_after_tree tables end named = named
 can_name_after_tree tables (leaf it rest) named = can_name_behind tables it rest named
@@ -118,12 +118,12 @@ pub bytes-end : (tables : Tables) → bytes tables end ≡ []
 unfolding bytes
 bytes-end tables = refl
 
--- The bytes of a leaf and the trees behind it.
+-- The bytes of a leaf and of the trees after it.
 pub bytes-leaf : (tables : Tables) (it : Leaf) (rest : Forest) → bytes tables (leaf it rest) ≡ token_bytes tables (token.Leaf it) 0 ++ bytes tables rest
 unfolding bytes
 bytes-leaf tables it rest = refl
 
--- The bytes of a node and the trees behind it: its header, and then its children.
+-- The bytes of a node and of the trees after it: its header, and then its children.
 pub bytes-node : (tables : Tables) (delimiter : Delimiter) (children rest : Forest)
     → bytes tables (node delimiter children rest)
     ≡ token_bytes tables (header delimiter (size children)) (length (bytes tables children)) ++ (bytes tables children ++ bytes tables rest)
@@ -144,9 +144,9 @@ bytes-join tables (node delimiter children rest) g =
     first : List ℕ
     first = token_bytes tables (header delimiter (size children)) (length (bytes tables children)) ++ bytes tables children
 
--- ---- more entries behind those of the tables
+-- ---- more entries after those of the tables
 
--- the tables with more entries behind
+-- the tables with more entries at the end
 abbrev pub with_more : Tables → List SpanPart → List (List ℕ) → Tables
 with_more tables parts symbols = record { parts = tables.parts ++ parts; symbols = tables.symbols ++ symbols }
 
@@ -162,7 +162,7 @@ module _ (tables : Tables) (parts : List SpanPart) (symbols : List (List ℕ)) w
         length = end_of span.range - start_of span.range;
       }
 
-  -- A known token has the same numbers.
+  -- A token of these tables has the same numbers.
   pub entry_of-more : (it : TokenTree) (child_bytes : ℕ) → Knows tables it → entry_of larger it child_bytes ≡ entry_of tables it child_bytes
   entry_of-more (token.Leaf (one.Literal it)) child_bytes knows =
       ap₂ (λ symbol numbers. of_leaf (literal symbol it.kind it.suffix_len numbers))
@@ -175,7 +175,7 @@ module _ (tables : Tables) (parts : List SpanPart) (symbols : List (List ℕ)) w
       ap₂ (λ opening closing. of_header (record { opening = opening; closing = closing; kind = it.delimiter.kind; len = it.len; child_bytes = child_bytes }))
       (numbers-more it.delimiter.open_span knows.parts.0) (numbers-more it.delimiter.close knows.parts.1.0)
 
-  -- Known trees have the same bytes.
+  -- Trees of these tables have the same bytes.
   pub bytes-more : (trees : Forest) → AllByRecursion (Knows tables) (flat trees) → bytes larger trees ≡ bytes tables trees
   unfolding bytes
   bytes-more end knows = refl

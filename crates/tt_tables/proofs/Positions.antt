@@ -1,11 +1,11 @@
--- Where a value is found in a list.
+-- The place of a value in a list.
 use Rattle.std.proofs.Common.{◌≡◌, ◌+◌, ◌<◌, suc, Bool, true, false, cond, not, Some, None, nat_lt, List, [], ◌∷◌, length, refl, arith}
 use Rattle.std.specs.List.{position, position_or_len}
 use Rattle.std.proofs.lemmas.Bool.{ltb-true, ltb-false}
 use Rattle.tt_tables.specs.TableOrder.{index_in}
 use Rattle.tt_tables.specs.Searches.{IsIndex}
 
--- The first index that passes, in two words.
+-- The first index that passes, by two words.
 pub same_index : {X : Type 0} (p : X → Bool) (xs : List X) → position_or_len p xs ≡ index_in p xs
 same_index p [] = refl
 same_index p (x ∷ xs) = by_test (p x) (same_index p xs)
@@ -14,7 +14,7 @@ same_index p (x ∷ xs) = by_test (p x) (same_index p xs)
     by_test true e = refl
     by_test false e = omega arith
 
--- What `position` gives is the index of the first that passes.
+-- The result of `position` is the index of the first item that passes.
 pub position_is_index : {X : Type 0} (p : X → Bool) (xs : List X) → IsIndex p xs (position p xs)
 position_is_index p xs = by_test (nat_lt (position_or_len p xs) (length xs)) refl
   where

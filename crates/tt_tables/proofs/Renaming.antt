@@ -1,4 +1,4 @@
--- A renaming that keeps values apart keeps how often each is used, which is used first, and so their table.
+-- A renaming that keeps values different keeps their numbers of uses, the order of their first uses, and so their table.
 use Rattle.std.proofs.Common.{◌≡◌, ℕ, suc, ◌+◌, Bool, true, false, not, cond, inl, inr, List, [], ◌∷◌, length, map, filter, nat_lt, nat_le, refl, ap, ap₂, sym, ◌∙◌}
 use Rattle.std.proofs.lemmas.Bool.{true≢false}
 use Rattle.std.proofs.lemmas.List.{length-map}
@@ -9,9 +9,9 @@ use Rattle.tt_tables.proofs.Members.{Member}
 use Rattle.tt_tables.proofs.TableOrder.{all_different, all_falling}
 use Rattle.tt_tables.proofs.TableUnique.{found_member}
 
--- `same` tells whether two values are equal, and h gives each another name
+-- `same` is whether two values are equal, and h gives each value another name
 module _ {X : Type 0} (same : X → X → Bool) (sound : (x y : X) → same x y ≡ true → x ≡ y) (complete : (x : X) → same x x ≡ true) (h : X → X) where
-  -- ---- values that stay apart
+  -- ---- values that stay different
 
   same_swapped : (x y : X) → same x y ≡ false → same y x ≡ false
   same_swapped x y e = by_test (same y x) refl
@@ -20,7 +20,7 @@ module _ {X : Type 0} (same : X → X → Bool) (sound : (x y : X) → same x y 
       by_test true f = absurd (true≢false (sym (complete x) ∙ ap (same x) (sym (sound y x f)) ∙ e))
       by_test false f = refl
 
-  -- What is not the name of any is not that of one.
+  -- A value that is none of the names is not the name of one of the values.
   no_name : (z y : X) (xs : List X) → AllByRecursion (λ n. same z n ≡ false) (map h xs) → Member y xs → same z (h y) ≡ false
   no_name z y [] all m = absurd m
   no_name z y (x ∷ xs) all (inl e) = ap (λ w. same z (h w)) e ∙ all.0
@@ -34,7 +34,7 @@ module _ {X : Type 0} (same : X → X → Bool) (sound : (x y : X) → same x y 
   different_names (z ∷ zs) once x y (inr m) (inl b) e = same_swapped (h y) (h x) (ap (λ w. same (h w) (h x)) b ∙ no_name (h z) x zs once.0 m)
   different_names (z ∷ zs) once x y (inr m) (inr n) e = different_names zs once.1 x y m n e
 
-  -- Where all names of a list are different, equal names are those of equal values.
+  -- If all names of a list are different, equal names are those of equal values.
   pub names_apart : (xs : List X) → IsDistinct same (map h xs) → (x y : X) → IsIn same xs x → IsIn same xs y → same (h x) (h y) ≡ same x y
   names_apart xs once x y m n = by_test (same x y) refl
     where
@@ -45,14 +45,14 @@ module _ {X : Type 0} (same : X → X → Bool) (sound : (x y : X) → same x y 
 
   -- ---- lists of such values
 
-  -- the values of M stay apart
+  -- the values of M stay different
   module _ (M : X → Type 0) (apart : (x y : X) → M x → M y → same (h x) (h y) ≡ same x y) where
-    -- A value stands where it stood.
+    -- A value stays at its place.
     pub index-renamed : (x : X) (xs : List X) → M x → AllByRecursion M xs → index_in (same (h x)) (map h xs) ≡ index_in (same x) xs
     index-renamed x [] m all = refl
     index-renamed x (y ∷ ys) m all = ap₂ (λ t n. cond t 0 (suc n)) (apart x y m all.0) (index-renamed x ys m all.1)
 
-    -- It is used as often.
+    -- It has as many uses.
     uses-renamed : (x : X) (xs : List X) → M x → AllByRecursion M xs → uses_of same (map h xs) (h x) ≡ uses_of same xs x
     uses-renamed x [] m all = refl
     uses-renamed x (y ∷ ys) m all =
@@ -81,7 +81,7 @@ module _ {X : Type 0} (same : X → X → Bool) (sound : (x y : X) → same x y 
         (ap (filter (λ z. not (same (h x) z))) (different-renamed xs all.1)
         ∙ filter-renamed x (different same xs) all.0 (all_different same sound complete M xs all.1))
 
-    -- each weighs what it weighed
+    -- each value has the weight that it had
     module _ (new old : X → ℕ) (agree : (x : X) → M x → new (h x) ≡ old x) where
       insert-renamed : (x : X) (ys : List X) → M x → AllByRecursion M ys → insert_falling same new (h x) (map h ys) ≡ map h (insert_falling same old x ys)
       insert-renamed x [] m all = refl
@@ -100,7 +100,7 @@ module _ {X : Type 0} (same : X → X → Bool) (sound : (x y : X) → same x y 
           ap (insert_falling same new (h x)) (falling-renamed xs all.1)
           ∙ insert-renamed x (falling same old xs) all.0 (all_falling same sound complete old (IsEarlier same xs) M xs all.1)
 
-    -- The table holds the new names in the old order.
+    -- The table has the new names in the old order.
     pub table-renamed : (short : ℕ) (uses : List X) → AllByRecursion M uses → table same short (map h uses) ≡ map h (table same short uses)
     unfolding table
     table-renamed short uses all =

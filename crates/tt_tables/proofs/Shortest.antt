@@ -1,4 +1,4 @@
--- Of the formats that can hold a header, none is shorter than the one taken.
+-- The format of a header is the shortest that can hold it.
 use Rattle.std.proofs.Common.{◌≡◌, ℕ, ◌+◌, ◌*◌, ◌/◌, ◌%◌, ◌≤◌, Bool, true, false, cond, ◌&&◌, ◌==◌, nat_le, inl, inr, List, ◌∷◌, ◌++◌, length, drop, length-append, refl, ap, sym, subst, ◌∙◌, arith}
 use Rattle.std.proofs.Math.Seq.{drop-append_seam}
 use Rattle.std.proofs.lemmas.Bool.{true≢false}
@@ -17,7 +17,7 @@ use Rattle.tt_tables.specs.Tables.{Tables, entry_of, token_bytes, tables_for}
 use Rattle.tt_codec.proofs.HeaderReading.{format_1_facts}
 use Rattle.tt_tables.proofs.Lengths.{heavy_length}
 
--- how many bytes a span takes, by what its first word leaves
+-- the number of bytes of a span, by its rests
 abbrev span_count : (part length start : ℕ) → ℕ
 span_count part length start =
     cond (part == 0 && length == 0 && start == 0) 4 (cond (nat_le part 2047 && nat_le length 1023 && nat_le start 1023) 8 12)
@@ -32,7 +32,7 @@ span_counted numbers = by_form (fits_one_word numbers) (fits_two_words numbers)
     by_form false false = refl
 
 module _ (it : HeaderEntry) where
-  -- how many bytes the span of the opening takes
+  -- the number of bytes of the open span
   abbrev opening : ℕ
   opening = length (span_bytes false 0 it.opening)
 
@@ -74,7 +74,7 @@ module _ (it : HeaderEntry) where
       than other (inr (inr (inl h))) = omega (arith, three h.0, ap length h.1)
       than other (inr (inr (inr h))) = omega (arith, four, ap length h)
 
-  -- The format that is taken is the shortest that can hold the header.
+  -- The format of the header is the shortest that can hold it.
   pub shortest : IsShortest it (header_bytes it)
   unfolding header_bytes
   shortest = by_form (has_format_1 it) refl (has_format_2 it) refl (has_format_3 it) refl
@@ -110,7 +110,7 @@ shortest_headers tables (node delimiter children rest) = (
   shortest_headers tables rest,
 )
 
--- In a stored tree each header below the top has them.
+-- In a stored tree each header below the top has its shortest bytes.
 pub stored_shortest : (root : Root) → HasShortestHeaders (tables_for (flat root.children)) root.children (drop 33 (packed root).bytes)
 unfolding packed
 stored_shortest root =

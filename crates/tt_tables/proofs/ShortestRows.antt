@@ -1,4 +1,4 @@
--- Which bytes of two headers are the shortest, beside bytes that were worked out by hand.
+-- The shortest bytes of two headers. They were worked out by hand.
 use Rattle.std.proofs.Common.{ℕ, List, codes, inl, inr, refl, lit<, not-le_of_lt}
 use Rattle.tt_base.specs.declared.delimiter.DelimiterKind.TheVariants.{Parenthesis}
 use Rattle.tt_codec.specs.declared.entry.HeaderEntry.{HeaderEntry}
@@ -10,7 +10,7 @@ use Rattle.tt_codec.proofs.ByteRows.{at}
 use Rattle.tt_base.proofs.Samples.{hex}
 use Rattle.tt_tables.proofs.Shortest.{shortest}
 
--- parentheses that hold nothing
+-- parentheses without tokens inside
 abbrev empty : (opening closing : SpanNumbers) → HeaderEntry
 empty opening closing = record { opening = opening; closing = closing; kind = Parenthesis; len = 0; child_bytes = 0 }
 

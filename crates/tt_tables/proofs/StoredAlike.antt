@@ -1,4 +1,4 @@
--- What is stored tells the tree, and what lies ahead of an offset tells the trees ahead.
+-- What is stored determines the tree, and the bytes from an offset on determine the trees ahead.
 use Rattle.std.proofs.Common.{◌≡◌, ℕ, zero, suc, ◌+◌, ◌^◌, ◌<◌, true, List, [], ◌∷◌, length, drop, length-append, refl, ap, subst, sym, ◌∙◌, arith}
 use Rattle.std.proofs.Props.{props}
 use Rattle.std.specs.Coded.{Coded, Coded-set, code_by, coded×, coded_list, coded_ℕ, le_prop, ×_prop}
@@ -29,7 +29,7 @@ use Rattle.tt_tables.proofs.TreesAlike.{reads_alike, seam, trees_alike}
 
 -- ---- the top
 
--- the top header of a tree in numbers
+-- the top's header of a tree in numbers
 abbrev pub top_of : Root → HeaderEntry
 top_of root = top_entry (length (tables_for (flat root.children)).parts) root.delimiter (size root.children) (length (bytes_below root.children))
 
@@ -41,7 +41,7 @@ length-root_parts root =
 top_numbers_fit : (part : ℕ) (span : Span) → part < 2 ^ 28 → SpanInRange span → SpanFits (span_numbers part span)
 top_numbers_fit part span few range = record { part = few; start = range.0; length = omega (arith, range.1) }
 
--- The top header's numbers can be written.
+-- The top's header has numbers that can be written.
 pub top_fits : (root : Root) → IsInRange root → IsWithinLimits root → HeaderFits (top_of root)
 top_fits root range limits =
     record {
@@ -51,7 +51,7 @@ top_fits root range limits =
       child_bytes = omega (arith, limits.bytes);
     }
 
--- The tables of a tree can name all below its top.
+-- The tables of a tree can name all trees below its top.
 pub can_name_below : (root : Root) → IsInRange root → IsWithinLimits root → CanName (tables_for (flat root.children)) root.children
 can_name_below root range limits = (
   omega (arith, limits.parts, length-root_parts root),
@@ -60,7 +60,7 @@ can_name_below root range limits = (
   range.1,
 )
 
--- The top header is read again.
+-- The top's header is read again.
 pub top_again : (root : Root) → IsInRange root → IsWithinLimits root → entry_at (root_bytes root) ≡ token_read (of_header (top_of root)) (bytes_below root.children)
 top_again root range limits = format_4_again true (top_of root) (bytes_below root.children) (top_fits root range limits)
 
@@ -111,14 +111,14 @@ roots_alike a b range_a limits_a range_b limits_b same_bytes same_parts same_sym
         (omega (arith, limits_a.bytes))
         (firsts.1 ∙ ap (λ t. bytes t b.children) (sym tables))
 
--- What is stored tells the tree.
+-- What is stored determines the tree.
 pub stored_alike : (stored : Stored) (a b : Root) → IsStored stored a → IsStored stored b → a ≡ b
 unfolding packed
 stored_alike stored a b is_a is_b =
     let same : packed a ≡ packed b = sym is_a.2 ∙ is_b.2 in
     roots_alike a b is_a.0 is_a.1 is_b.0 is_b.1 (ap (λ s. s.bytes) same) (ap (λ s. s.parts) same) (ap (λ s. s.symbols) same)
 
--- ---- one meaning at most
+-- ---- at most one tree
 
 -- what is stored, as a tuple
 abbrev pub stored_code : Coded Stored
@@ -155,21 +155,21 @@ is_stored-prop stored root x y =
       Coded-set stored_code stored (packed root) x.2 y.2 i,
     )
 
--- One tree at most is meant, so a meaning can stand in a ghost field.
+-- At most one tree is stored, so this is a proposition, as a ghost field must be.
 pub HasMeaning-prop : (stored : Stored) → IsProp (HasMeaning stored)
 HasMeaning-prop stored a b = Σ_prop_path (λ root. is_stored-prop stored root) (stored_alike stored a.0 b.0 a.1 b.1)
 
--- The tree meant is the one that is stored.
+-- This tree is the one that is stored.
 pub meaning_is : (stored : Stored) (meaning : HasMeaning stored) (root : Root) → IsStored stored root → meaning.0 ≡ root
 meaning_is stored meaning root is = stored_alike stored meaning.0 root meaning.1 is
 
--- ---- what lies ahead
+-- ---- the trees ahead
 
 nothing_stored : (root : Root) → [] ≡ root_bytes root → ⊥
 nothing_stored root e =
     omega (arith, ap length e, length-append (format_4 true (top_of root)) (bytes_below root.children), heavy_length (top_of root))
 
--- At the start lies one tree, or none.
+-- At the start one tree is ahead, or none.
 pub start_alike : (tables : Tables) (all : List ℕ) (f g : Forest) → IsAtStart tables all f → IsAtStart tables all g → f ≡ g
 unfolding packed
 start_alike tables all end end x y = refl
@@ -192,7 +192,7 @@ start_alike tables all (node delimiter children end) (node other inner end) x y 
     (sym (ap (λ s. s.symbols) x.2) ∙ ap (λ s. s.symbols) y.2) in
     λ i. node (same i).delimiter (same i).children end
 
--- What lies ahead of an offset is one list of trees.
+-- Only one list of trees is ahead of an offset.
 pub ahead_alike : (tables : Tables) (all : List ℕ) (offset : ℕ) (f g : Forest) → IsAhead tables all offset f → IsAhead tables all offset g → f ≡ g
 ahead_alike tables all zero f g x y = start_alike tables all f g x y
 ahead_alike tables all (suc offset) f g x y = trees_alike tables f g x.named y.named (omega (arith, x.few)) (sym x.left ∙ y.left)
@@ -220,10 +220,10 @@ is_ahead-prop tables all (suc offset) trees =
       few = le_prop x.few y.few i;
     }
 
--- One list of trees at most lies ahead, so it can stand in a ghost field.
+-- At most one list of trees is ahead, so this is a proposition, as a ghost field must be.
 pub HasAhead-prop : (tables : Tables) (all : List ℕ) (offset : ℕ) → IsProp (HasAhead tables all offset)
 HasAhead-prop tables all offset a b = Σ_prop_path (λ trees. is_ahead-prop tables all offset trees) (ahead_alike tables all offset a.0 b.0 a.1 b.1)
 
--- The trees ahead are those that lie there.
+-- The trees ahead are the ones that are shown to be ahead.
 pub ahead_is : (tables : Tables) (all : List ℕ) (offset : ℕ) (ahead : HasAhead tables all offset) (trees : Forest) → IsAhead tables all offset trees → ahead.0 ≡ trees
 ahead_is tables all offset ahead trees is = ahead_alike tables all offset ahead.0 trees ahead.1 is

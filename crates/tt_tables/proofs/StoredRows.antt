@@ -1,4 +1,4 @@
--- What is stored for two small trees, beside bytes that were worked out by hand.
+-- What is stored for two small trees. The bytes were worked out by hand.
 use Rattle.std.proofs.Common.{◌≡◌, [], ◌∷◌, codes, refl}
 use Rattle.tt_base.specs.declared.delimiter.DelimiterKind.TheVariants.{Brace, Invisible, InvisibleOpaque}
 use Rattle.tt_base.specs.declared.ident.IdentIsRaw.TheVariants.{No}
@@ -19,7 +19,7 @@ use Rattle.tt_base.proofs.Samples.{span, hex}
 abbrev part : SpanPart
 part = part_of (span 0 0)
 
--- an invisible delimiter round nothing
+-- an invisible delimiter with nothing inside
 empty : Root
 empty = record { delimiter = delimiter Invisible (span 0 0) (span 0 0); children = end }
 
@@ -49,7 +49,7 @@ a = leaf_of.Ident (record { sym = codes "a"; span = span 2 1; is_raw = No })
 abbrev semicolon : Leaf
 semicolon = leaf_of.Punct (record { char = 59; spacing = Alone; span = span 3 1 })
 
--- a brace round an ident and a semicolon
+-- braces around an ident and a semicolon
 statement : Root
 statement = record { delimiter = delimiter Brace (span 0 1) (span 5 1); children = leaf a (leaf semicolon end) }
 

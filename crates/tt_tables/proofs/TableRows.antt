@@ -1,4 +1,4 @@
--- What the definition of the tables computes at its two limits.
+-- The tables at their two limits.
 use Rattle.std.proofs.Common.{◌≡◌, ℕ, zero, suc, List, [], ◌∷◌, ◌++◌, nat_eq, refl}
 use Rattle.tt_tables.specs.TableOrder.{table}
 
@@ -7,7 +7,7 @@ abbrev numbers : (n i : ℕ) → List ℕ
 numbers zero i = []
 numbers (suc n) i = i ∷ numbers n (suc i)
 
--- With 15 values, or 63, the last is used twice and stays last. With one more value it comes first.
+-- With 15 values, or 63, the last one has two uses and stays last. With one value more it comes first.
 tables : (table nat_eq 15 (numbers 15 0 ++ 14 ∷ []) ≡ numbers 15 0)
     × (table nat_eq 15 (numbers 16 0 ++ 15 ∷ []) ≡ 15 ∷ numbers 15 0)
     × (table nat_eq 63 (numbers 63 0 ++ 62 ∷ []) ≡ numbers 63 0)

@@ -1,4 +1,4 @@
--- The two tables of tokens are what their order says, and no other list is.
+-- The two tables of tokens are in order, and no other lists are such tables.
 use Rattle.std.proofs.Common.{◌≡◌, ℕ, true, bytes_eq, List, refl, rules}
 use Rattle.std.proofs.lemmas.Slice.Eq.{bytes_eq-Decides}
 use Rattle.tt_base.specs.contracts.span.SpanPartEq.TheImpl.Laws as part_eq

@@ -1,4 +1,4 @@
--- A tree whose top gets another delimiter is stored in as many bytes: all but the top header's and the last two parts stay.
+-- A tree with another delimiter at its top takes as many bytes: only the top's header and the last two parts change.
 use Rattle.std.proofs.Common.{◌≡◌, ℕ, suc, ◌+◌, ◌-◌, true, List, [], ◌∷◌, ◌++◌, length, set, drop, length-append, refl, ap, ap₂, sym, subst, ◌∙◌, arith}
 use Rattle.std.proofs.Math.Seq.{set-append_seam, drop-append_seam}
 use Rattle.std.proofs.lemmas.List.{set-append_right}
@@ -28,7 +28,7 @@ module _ (stored : Stored) (root : Root) (is : IsStored stored root) where
   unfolding packed
   symbols_are = ap (λ s. s.symbols) is.2
 
-  -- The count of tokens, of bytes and of parts.
+  -- The counts of tokens, of bytes and of parts stay.
   pub len_is : stored.len ≡ suc (size root.children)
   unfolding packed
   len_is = ap (λ s. s.len) is.2
@@ -47,7 +47,7 @@ module _ (stored : Stored) (root : Root) (is : IsStored stored root) where
       ∙ ap (λ n. drop n (format_4 true (top_of root) ++ bytes_below root.children)) (sym (heavy_length (top_of root)))
       ∙ drop-append_seam (format_4 true (top_of root)) (bytes_below root.children)
 
-  -- With the new top header over the old one, and its two parts over the last two, the tree with that delimiter is stored.
+  -- The new header of the top over the old one, and its two parts over the last two, are what is stored for the tree with that delimiter.
   pub top_set : (it : Delimiter) (entry : HeaderEntry) (bytes : List ℕ) (parts : List SpanPart) (part_count byte_count : ℕ)
       → part_count ≡ length stored.parts → byte_count ≡ length stored.bytes
       → entry ≡ top_entry (part_count - 2) it (stored.len - 1) (byte_count - 33) → TokenInRange (header it (stored.len - 1))

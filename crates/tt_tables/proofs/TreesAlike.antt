@@ -1,4 +1,4 @@
--- Trees with the same bytes under one pair of tables are the same trees.
+-- Trees with the same bytes under the same tables are the same trees.
 use Rattle.std.proofs.Common.{◌≡◌, ℕ, ◌+◌, ◌^◌, ◌<◌, ◌≤◌, List, [], ◌++◌, length, take, drop, Some, None, length-append, refl, ap, ap₂, sym, ◌∙◌, arith}
 use Rattle.std.proofs.Math.Seq.{take-append_seam, drop-append_seam}
 use Rattle.tt_base.specs.declared.delimiter.Delimiter.{Delimiter}
@@ -18,24 +18,24 @@ use Rattle.tt_tables.proofs.Lengths.{entry_length}
 use Rattle.tt_tables.proofs.Lookups.{leaf_is, subtree_is}
 use Rattle.tt_tables.proofs.Naming.{first_leaf_fits, first_header_fits, can_name_behind, can_name_children, can_name_rest, bytes-end, bytes-leaf, bytes-node}
 
--- the token that was read, or else `it`
+-- the token that was read, or `it`
 token_of : Entry → Read Entry → Entry
 token_of it read = elim read [ None ↦ it | Some found ↦ found.0 ]
 
--- the bytes behind it
+-- the bytes after it
 behind_of : Read Entry → List ℕ
 behind_of read = elim read [ None ↦ [] | Some found ↦ found.1 ]
 
--- A token is read in one way.
+-- A token is read in only one way.
 pub reads_alike : (a b : Entry) (x y : List ℕ) → token_read a x ≡ token_read b y → (a ≡ b) × (x ≡ y)
 unfolding token_of behind_of
 reads_alike a b x y e = (ap (token_of a) e, ap behind_of e)
 
--- Bytes that begin with two tokens begin with one token twice, and what is behind it is the same.
+-- Bytes that begin with two tokens begin with the same token, and the same bytes follow it.
 pub entries_alike : (a b : Entry) (x y : List ℕ) → EntryFits a → EntryFits b → entry_bytes a ++ x ≡ entry_bytes b ++ y → (a ≡ b) × (x ≡ y)
 entries_alike a b x y fits_a fits_b e = reads_alike a b x y (sym (entry_again a x fits_a) ∙ ap entry_at e ∙ entry_again b y fits_b)
 
--- Two lists that begin with as many values are equal before those and behind them.
+-- Equal lists have equal first n items and equal items after them.
 pub seam : {X : Type 0} (a b c d : List X) → length a ≡ length c → a ++ b ≡ c ++ d → (a ≡ c) × (b ≡ d)
 seam a b c d long e = (
   sym (take-append_seam a b) ∙ ap₂ take long e ∙ take-append_seam c d,
@@ -45,7 +45,7 @@ seam a b c d long e = (
 no_token : (it : Entry) (behind : List ℕ) → [] ≡ entry_bytes it ++ behind → ⊥
 no_token it behind e = omega (arith, ap length e, length-append (entry_bytes it) behind, (entry_length it).0)
 
--- The bytes in a node, and those behind it, are fewer than all.
+-- The bytes in a node, and those after it, are fewer than all.
 pub fewer_in_node : (tables : Tables) (delimiter : Delimiter) (children rest : Forest)
     → (length (bytes tables children) ≤ length (bytes tables (node delimiter children rest))) × (length (bytes tables rest) ≤ length (bytes tables (node delimiter children rest)))
 fewer_in_node tables delimiter children rest = (omega (arith, lengths), omega (arith, lengths))
@@ -62,7 +62,7 @@ fewer_in_node tables delimiter children rest = (omega (arith, lengths), omega (a
           length-append (bytes tables children) (bytes tables rest),
         )
 
--- The bytes behind a leaf are fewer than all.
+-- The bytes after a leaf are fewer than all.
 pub fewer_behind_leaf : (tables : Tables) (it : Leaf) (rest : Forest) → length (bytes tables rest) ≤ length (bytes tables (leaf it rest))
 fewer_behind_leaf tables it rest =
     omega (arith, ap length (bytes-leaf tables it rest), length-append (token_bytes tables (token.Leaf it) 0) (bytes tables rest))

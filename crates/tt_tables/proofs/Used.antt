@@ -1,4 +1,4 @@
--- How often a value is used, and which values are.
+-- How many times a value is used, and which values are used.
 use Rattle.std.proofs.Common.{◌≡◌, ℕ, zero, suc, ◌+◌, ◌<◌, ◌⊎◌, inl, inr, Bool, true, false, not, cond, Some, List, [], ◌∷◌, ◌++◌, filter, slice_get, refl, ap, subst, ◌∙◌, arith}
 use Rattle.std.proofs.lemmas.List.Sums.{sum_by-cons, sum_by-append}
 use Rattle.std.specs.Cmp.{IsEquivalence}
@@ -8,11 +8,11 @@ use Rattle.tt_tables.proofs.Cheapest.{distinct_order}
 use Rattle.tt_tables.proofs.Members.{Member}
 use Rattle.tt_tables.proofs.TableOrder.{by_first_use}
 
--- one where the test holds
+-- 1 if the test holds, otherwise 0
 abbrev pub one_if : Bool → ℕ
 one_if t = cond t 1 0
 
--- What holds of all items holds of the one at a place.
+-- What holds for all items holds for the one at a place.
 pub all_at_place : {X : Type 0} (P : X → Type 0) (xs : List X) (i : ℕ) (x : X) → AllByRecursion P xs → slice_get xs i ≡ Some x → P x
 all_at_place P [] i x all at = absurd (cc at)
 all_at_place P (y ∷ xs) zero x all at = subst P (is at) all.0
@@ -21,7 +21,7 @@ all_at_place P (y ∷ xs) zero x all at = subst P (is at) all.0
     is e = cc e
 all_at_place P (y ∷ xs) (suc i) x all at = all_at_place P xs i x all.1 at
 
--- What a test lets through is in the list and passes.
+-- An item that passes the filter is in the list, and passes the test.
 pub unfiltered : {X : Type 0} (test : X → Bool) (z : X) (xs : List X) → Member z (filter test xs) → Member z xs × (test z ≡ true)
 unfiltered test z [] m = absurd m
 unfiltered {X} test z (x ∷ xs) m = by_test (test x) refl m (unfiltered test z xs)
@@ -32,17 +32,17 @@ unfiltered {X} test z (x ∷ xs) m = by_test (test x) refl m (unfiltered test z 
     by_test true e (inr m) later = let found = later m in (inr found.0, found.1)
     by_test false e m later = let found = later m in (inr found.0, found.1)
 
--- `same` tells whether two values are equal
+-- `same` is whether two values are equal
 module _ {X : Type 0} (same : X → X → Bool) where
-  -- Uses of a value in lists behind each other.
+  -- The uses of a value in lists one after the other.
   pub uses-append : (xs ys : List X) (x : X) → uses_of same (xs ++ ys) x ≡ uses_of same xs x + uses_of same ys x
   uses-append xs ys x = sum_by-append (λ y. one_if (same x y)) xs ys
 
-  -- In a list with one more item at its front.
+  -- The same in a list with one more item at the front.
   pub uses-cons : (y : X) (ys : List X) (x : X) → uses_of same (y ∷ ys) x ≡ one_if (same x y) + uses_of same ys x
   uses-cons y ys x = sum_by-cons (λ z. one_if (same x z)) y ys
 
-  -- In a list of one item.
+  -- The same in a list of one item.
   pub uses-one : (y x : X) → uses_of same (y ∷ []) x ≡ one_if (same x y)
   uses-one y x = omega (arith, uses-cons y [] x, none)
     where
@@ -62,7 +62,7 @@ module _ {X : Type 0} (same : X → X → Bool) (laws : IsEquivalence same) (sou
       by_test true e l later = inl (sound z x e)
       by_test false e l later = inr (later (omega (arith, l)))
 
-  -- One that is used has some.
+  -- A used value has some uses.
   pub member_used : (uses : List X) (z : X) → Member z uses → 0 < uses_of same uses z
   member_used [] z m = absurd m
   member_used (x ∷ uses) z (inl is) = omega (arith, uses-cons same x uses z, ap one_if (ap (λ k. same k x) is ∙ laws.refl x))
@@ -74,7 +74,7 @@ module _ {X : Type 0} (same : X → X → Bool) (laws : IsEquivalence same) (sou
   different_member z (x ∷ uses) (inl is) = inl is
   different_member z (x ∷ uses) (inr m) = inr (different_member z uses (unfiltered (λ y. not (same x y)) z (different same uses) m).0)
 
-  -- They differ.
+  -- The different values are different.
   pub distinct-different : (uses : List X) → IsDistinct same (different same uses)
   distinct-different uses = distinct_order same sound (λ x. laws.refl x) (IsEarlier same uses) never (different same uses) (by_first_use same sound (λ x. laws.refl x) uses)
     where

@@ -19,12 +19,12 @@ use Rattle.tt_tables.specs.Uses.{same_part}
 abbrev pub stored_ids : Root → List ErasedFileAstId
 stored_ids root = map (λ part. part.anchor.ast_id) (root_parts root)
 
--- the span takes the id that is given for an entry; where none is given it keeps its own
+-- the span with the id at that index; the same span if there is no such id
 abbrev pub with_id_at : (ids : List ErasedFileAstId) → (index : ℕ) → Span → Span
 with_id_at ids index span = with_id (get_or ids index span.anchor.ast_id) span
 
--- the tree in which each span has the id that is given for its entry: below the top that of the span's part, and of the top's open and close
--- span the last but one and the last
+-- the tree with these ids in its spans, one for each entry of the table: below the top the one for the span's part, and for the top's
+-- open and close span the last but one and the last
 abbrev pub ids_changed : (ids : List ErasedFileAstId) → Root → Root
 ids_changed ids root =
     let parts = part_table (flat root.children) in
@@ -34,7 +34,7 @@ ids_changed ids root =
       children = respanned (λ span. with_id_at ids (index_in (same_part (part_of span)) parts) span) root.children;
     }
 
--- each span of a token gives way to what f makes of it
+-- the token with the value of f for each of its spans
 abbrev pub respanned_token : (f : Span → Span) → TokenTree → TokenTree
 respanned_token f (token.Leaf it) = token.Leaf (respanned_leaf f it)
 respanned_token f (token.Subtree it) = header (respanned_delimiter f it.delimiter) it.len
@@ -43,13 +43,13 @@ respanned_token f (token.Subtree it) = header (respanned_delimiter f it.delimite
 abbrev pub part_with_id : ErasedFileAstId → SpanPart → SpanPart
 part_with_id id part = record { anchor = record { file_id = part.anchor.file_id; ast_id = id }; ctx = part.ctx }
 
--- the entries of a table, each with the id that is given for it; one for which none is given keeps its own
+-- the entries of a table, each with the id at its index; an entry without such an id stays
 abbrev pub parts_with_ids : (ids : List ErasedFileAstId) → List SpanPart → List SpanPart
 parts_with_ids ids [] = []
 parts_with_ids [] (part ∷ parts) = part ∷ parts
 parts_with_ids (id ∷ ids) (part ∷ parts) = part_with_id id part ∷ parts_with_ids ids parts
 
--- no two entries below the top become one
+-- all entries below the top are different with these ids
 abbrev pub KeepApart : (ids : List ErasedFileAstId) → Root → Type 0
 KeepApart ids root = IsDistinct same_part (parts_with_ids ids (part_table (flat root.children)))
 

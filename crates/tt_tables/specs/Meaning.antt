@@ -1,4 +1,4 @@
--- Which tree is meant by what is stored, and which trees lie ahead of an offset in the bytes.
+-- The tree that is stored, and the trees ahead of an offset in its bytes.
 use Rattle.std.specs.Prelude.{◌≡◌, ℕ, zero, suc, ◌≤◌, List, [], drop, length}
 use Rattle.std.specs.List.{AllByRecursion}
 use Rattle.tt_base.specs.Fits.{TokenInRange}
@@ -10,17 +10,17 @@ use Rattle.tt_tables.specs.Tables.{Tables, Knows}
 abbrev pub IsStored : Stored → Root → Type 0
 IsStored stored root = IsInRange root × IsWithinLimits root × (stored ≡ packed root)
 
--- a tree is meant
+-- it is stored for some tree
 abbrev pub HasMeaning : Stored → Type 0
 HasMeaning stored = (root : Root) × IsStored stored root
 
--- the tables have all that the trees use, and their indices can be written
+-- the tables have all parts and symbols that the trees use, and their indices can be written
 abbrev pub CanName : Tables → Forest → Type 0
 CanName tables trees =
     (length tables.parts ≤ most_parts) × (length tables.symbols ≤ most_symbols) × AllByRecursion (Knows tables) (flat trees)
     × AllByRecursion TokenInRange (flat trees)
 
--- nothing is stored and nothing lies ahead, or one root lies ahead and this is what is stored for it
+-- there are no bytes and no trees, or one root is ahead and these are its bytes and tables
 abbrev pub IsAtStart : Tables → (all : List ℕ) → Forest → Type 0
 IsAtStart tables all end = all ≡ []
 IsAtStart tables all (node delimiter children end) =
@@ -28,11 +28,11 @@ IsAtStart tables all (node delimiter children end) =
     (record { delimiter = delimiter; children = children })
 IsAtStart tables all trees = ⊥
 
--- how many bytes the top header takes
+-- the number of bytes of the top's header
 abbrev pub top_bytes : ℕ
 top_bytes = 33
 
--- the top header is passed, and the bytes of the trees are left
+-- the top's header is before the offset, and the bytes of the trees are after it
 pub record IsBehindTop (tables : Tables) (all : List ℕ) (offset : ℕ) (trees : Forest) : Type 0 where
   pub top : top_bytes ≤ offset
   pub inside : offset ≤ length all
@@ -40,11 +40,11 @@ pub record IsBehindTop (tables : Tables) (all : List ℕ) (offset : ℕ) (trees 
   pub named : CanName tables trees
   pub few : length (bytes tables trees) ≤ most_bytes
 
--- the trees lie ahead of the offset: at the start one, or none, and else those whose bytes are left
+-- the trees ahead of the offset: at the start the whole tree, or none; otherwise those whose bytes are after the offset
 abbrev pub IsAhead : Tables → (all : List ℕ) → (offset : ℕ) → Forest → Type 0
 IsAhead tables all zero trees = IsAtStart tables all trees
 IsAhead tables all (suc offset) trees = IsBehindTop tables all (suc offset) trees
 
--- some trees lie ahead
+-- some trees are ahead
 abbrev pub HasAhead : Tables → (all : List ℕ) → (offset : ℕ) → Type 0
 HasAhead tables all offset = (trees : Forest) × IsAhead tables all offset trees

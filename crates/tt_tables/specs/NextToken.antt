@@ -1,4 +1,4 @@
--- What the token that is read at an offset says of the trees ahead of it.
+-- The token that is read at an offset, and the trees ahead of the offset.
 use Rattle.std.specs.Prelude.{◌≡◌, ℕ, ◌+◌, ◌<◌, ◌≤◌, List, length, Some, None}
 use Rattle.tt_base.specs.declared.delimiter.Delimiter.{Delimiter}
 use Rattle.tt_base.specs.declared.leaf.Leaf.{Leaf}
@@ -12,7 +12,7 @@ use Rattle.tt_tables.specs.Meaning.{IsAhead}
 use Rattle.tt_codec.specs.Read.{Read}
 use Rattle.tt_tables.specs.Tables.{Tables}
 
--- a leaf lies ahead, and behind it stand the bytes `rest`
+-- a leaf is ahead, and the bytes `rest` follow it
 pub record LeafAhead (tables : Tables) (all : List ℕ) (offset : ℕ) (trees : Forest) (entry : LeafEntry) (rest : List ℕ) : Type 0 where
   pub it : Leaf
   pub behind : Forest
@@ -21,7 +21,7 @@ pub record LeafAhead (tables : Tables) (all : List ℕ) (offset : ℕ) (trees : 
   pub passed : offset + length rest < length all
   pub after : (next : ℕ) → next + length rest ≡ length all → IsAhead tables all next behind
 
--- a node lies ahead, and behind its header stand the bytes `rest`, its children's first
+-- a node is ahead, and the bytes `rest` follow its header, its children's first
 pub record NodeAhead (tables : Tables) (all : List ℕ) (offset : ℕ) (trees : Forest) (entry : HeaderEntry) (rest : List ℕ) : Type 0 where
   pub delimiter : Delimiter
   pub children : Forest
@@ -33,7 +33,7 @@ pub record NodeAhead (tables : Tables) (all : List ℕ) (offset : ℕ) (trees : 
   pub inside : (next : ℕ) → next + length rest ≡ length all → IsAhead tables all next (join children behind)
   pub after : (next : ℕ) → next + length rest ≡ length all + entry.child_bytes → IsAhead tables all next behind
 
--- no token is read where nothing lies ahead, and else the first
+-- no token is read if no tree is ahead; otherwise the first one is
 abbrev pub TokenAhead : Tables → (all : List ℕ) → (offset : ℕ) → Forest → Read Entry → Type 0
 TokenAhead tables all offset trees None = (trees ≡ end) × (length all ≤ offset)
 TokenAhead tables all offset trees (Some (of_leaf entry, rest)) = LeafAhead tables all offset trees entry rest

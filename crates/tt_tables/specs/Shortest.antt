@@ -1,4 +1,4 @@
--- Which bytes of a header are the shortest, and bytes of trees whose headers all are.
+-- The shortest bytes of a header, and the bytes of trees whose headers all are as short as possible.
 use Rattle.std.specs.Prelude.{◌≡◌, ℕ, ◌≤◌, ◌⊎◌, true, false, List, [], ◌++◌, length}
 use Rattle.tt_base.specs.declared.token_tree.TokenTree.TheVariants as token
 use Rattle.tt_codec.specs.declared.entry.Entry.{Entry}
@@ -8,7 +8,7 @@ use Rattle.tt_codec.specs.declared.entry.HeaderEntry.{HeaderEntry}
 use Rattle.tt_codec.specs.Header.{has_format_1, has_format_2, has_format_3, format_1, format_2, format_3, format_4}
 use Rattle.tt_tables.specs.Tables.{Tables, entry_of, token_bytes}
 
--- the header's bytes in a format that can hold it; the fourth can hold any
+-- the header's bytes in a format that can hold it; the fourth can hold every header
 abbrev pub CanHold : HeaderEntry → List ℕ → Type 0
 CanHold it bytes =
     ((has_format_1 it ≡ true) × (bytes ≡ format_1 it))
@@ -16,16 +16,16 @@ CanHold it bytes =
     ⊎ ((has_format_3 it ≡ true) × (bytes ≡ format_3 it))
     ⊎ (bytes ≡ format_4 false it)
 
--- bytes that can hold the header, and none that can are shorter
+-- the bytes can hold the header, and no shorter ones can
 abbrev pub IsShortest : HeaderEntry → List ℕ → Type 0
 IsShortest it bytes = CanHold it bytes × ((other : List ℕ) → CanHold it other → length bytes ≤ length other)
 
--- of a token that is a header: its shortest bytes
+-- the bytes are the shortest ones if the token is a header
 abbrev pub IsShortestToken : Entry → List ℕ → Type 0
 IsShortestToken (of_leaf it) bytes = Unit {0}
 IsShortestToken (of_header it) bytes = IsShortest it bytes
 
--- bytes of trees in which each header has its shortest bytes, the tables and the bytes of what it holds given
+-- bytes of trees in which each header has its shortest bytes for these tables and the bytes below it
 abbrev pub HasShortestHeaders : Tables → Forest → List ℕ → Type 0
 HasShortestHeaders tables end bytes = bytes ≡ []
 HasShortestHeaders tables (leaf it rest) bytes =

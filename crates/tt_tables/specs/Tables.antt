@@ -20,23 +20,23 @@ use Rattle.tt_codec.specs.declared.span.SpanNumbers.{SpanNumbers}
 use Rattle.tt_tables.specs.TableOrder.{index_in, table, IsIn}
 use Rattle.tt_tables.specs.Uses.{same_part, token_parts, token_symbols, part_uses, symbol_uses}
 
--- up to so many parts go by first use: an index of theirs has four bits
+-- the largest number of parts that are ordered by first use: an index of them has four bits
 abbrev pub short_parts : ℕ
 short_parts = 15
 
--- up to so many symbols go by first use: a reference to one takes one byte
+-- the largest number of symbols that are ordered by first use: a reference to one of them takes one byte
 abbrev pub short_symbols : ℕ
 short_symbols = 63
 
--- the parts that tokens use
+-- the table of the parts that tokens use
 abbrev pub part_table : List TokenTree → List SpanPart
 part_table tokens = table same_part short_parts (part_uses tokens)
 
--- the symbols that tokens use
+-- the table of the symbols that tokens use
 abbrev pub symbol_table : List TokenTree → List (List ℕ)
 symbol_table tokens = table bytes_eq short_symbols (symbol_uses tokens)
 
--- the parts and the symbols that tokens name by their indices
+-- the parts and the symbols that the indices of tokens name
 pub record Tables : Type 0 where
   pub parts : List SpanPart
   pub symbols : List (List ℕ)
@@ -58,7 +58,7 @@ numbers_of_span tables span =
       length = end_of span.range - start_of span.range;
     }
 
--- the first entry with that text
+-- the index of the first entry with that text
 abbrev pub index_of_symbol : Tables → List ℕ → ℕ
 index_of_symbol tables text = index_in (bytes_eq text) tables.symbols
 
@@ -69,7 +69,7 @@ leaf_entry tables (leaf.Literal it) =
 leaf_entry tables (leaf.Punct it) = punct it.char it.spacing (numbers_of_span tables it.span)
 leaf_entry tables (leaf.Ident it) = ident (index_of_symbol tables it.sym) it.is_raw (numbers_of_span tables it.span)
 
--- a header in numbers; what it holds takes so many bytes
+-- a header in numbers; the tokens below it take `child_bytes` bytes
 abbrev pub header_entry : Tables → Subtree → (child_bytes : ℕ) → HeaderEntry
 header_entry tables it child_bytes =
     record {

@@ -14,18 +14,18 @@ use Rattle.tt_base.specs.Span.{part_of}
 abbrev pub same_part : SpanPart → SpanPart → Bool
 same_part = (part_impl.ghosts).eq
 
--- the parts of a token: a leaf has one, a header its open part and then its close part
+-- the parts of a token: one of a leaf; of a header its open part, then its close part
 abbrev pub token_parts : TokenTree → List SpanPart
 token_parts (token.Leaf leaf) = part_of (leaf_span leaf) ∷ []
 token_parts (token.Subtree subtree) = part_of subtree.delimiter.open_span ∷ part_of subtree.delimiter.close ∷ []
 
--- the symbol of a leaf: an ident and a literal have one
+-- the symbols of a leaf: one of an ident or a literal, none of a punct
 abbrev pub leaf_symbols : Leaf → List (List ℕ)
 leaf_symbols (leaf.Literal literal) = symbol_of literal ∷ []
 leaf_symbols (leaf.Punct punct) = []
 leaf_symbols (leaf.Ident ident) = ident.sym ∷ []
 
--- the symbol of a token, if it has one
+-- the symbols of a token: those of a leaf, none of a header
 abbrev pub token_symbols : TokenTree → List (List ℕ)
 token_symbols (token.Leaf leaf) = leaf_symbols leaf
 token_symbols (token.Subtree subtree) = []

@@ -1,6 +1,5 @@
-//! Tokens in numbers under two tables, one of span parts and one of symbols.
-//!
-//! `specs/` says what the tables of a list are, and what is stored for a tree; `proofs/` that it tells the tree.
+//! Tokens in numbers under two tables, one of span parts and one of symbols. `specs/` has the tables of a list, and what is stored for a
+//! tree; `proofs/` has the proof that this determines the tree.
 #![tactic(auto)]
 
 mod tables;

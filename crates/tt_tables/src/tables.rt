@@ -1,11 +1,11 @@
-//! From tokens to numbers: what a token uses is searched in two given tables.
+//! Puts tokens in numbers: searches the values of a token in two given tables.
 ghost use Rattle.std.specs.Prelude.{◌≡◌, ◌≤◌, ◌^◌, length, position, take};
 ghost use Rattle.tt_tables.specs.Searches.{NamesLeaf, NamesHeader, NamesToken, IsIndex, NumbersSpan, IndexesSymbol, first_entries};
 
 use tt_base::{Leaf, Span, SpanPart, Subtree, Symbol, TokenTree};
 use tt_codec::{Entry, HeaderEntry, LeafEntry, MOST_PARTS, MOST_SYMBOLS, SpanNumbers};
 
-/// The tables whose entries indices name.
+/// The tables whose entries the indices of tokens name.
 #[derive(Clone, Copy)]
 pub struct Tables<'a> {
     pub parts: &'a [SpanPart],
@@ -14,7 +14,7 @@ pub struct Tables<'a> {
     pub ghost few_symbols: { length symbols.now ≤ 2 ^ 29 },
 }
 
-// At most so many of the first values.
+// Returns the first values, at most `most` of them.
 fn first_of<T>(values: &[T], most: usize) -> &[T]
     ensures { result.now ≡ take most values.now }
 {
@@ -25,14 +25,14 @@ fn first_of<T>(values: &[T], most: usize) -> &[T]
     }
 }
 
-// The first that is equal to the value.
+// Returns the index of the first value that is equal to this one.
 fn first_equal<T: Eq>(values: &[T], value: &T) -> Option<usize>
     ensures { result ≡ position (T.eq value.now) values.now }
 {
     values.iter().position(|other| value == other)
 }
 
-// The index of the first that is equal to the value.
+// Returns the index of the first value that is equal to this one.
 fn index_of<T: Eq>(values: &[T], value: &T) -> Option<u32>
     requires { length values.now ≤ 2 ^ 29 }
     ensures { IsIndex (T.eq value.now) values.now result }
@@ -44,7 +44,7 @@ fn index_of<T: Eq>(values: &[T], value: &T) -> Option<u32>
 impl<'a> Tables<'a> {
     ghost use Rattle.tt_tables.specs.TablesOf.{tables_of};
 
-    /// The tables, of which only so many entries count as an index can name.
+    /// Returns the tables. Only the first 2^28 parts and 2^29 symbols count, as an index can name no more.
     pub fn new(parts: &'a [SpanPart], symbols: &'a [Symbol]) -> Tables<'a>
         ensures { tables_of result ≡ first_entries parts.now symbols.now }
     {
@@ -54,7 +54,7 @@ impl<'a> Tables<'a> {
         }
     }
 
-    /// A span in numbers, or `None` where the tables do not have its part.
+    /// Returns a span in numbers, or `None` if the tables do not have its part.
     pub(crate) fn span_numbers(self, span: &Span) -> Option<SpanNumbers>
         ensures { NumbersSpan (tables_of self.entry) span.now result }
     {
@@ -62,14 +62,14 @@ impl<'a> Tables<'a> {
         Some(SpanNumbers::of_span(part, span))
     }
 
-    /// The index of a symbol, or `None` where the tables do not have it.
+    /// Returns the index of a symbol, or `None` if the tables do not have it.
     pub(crate) fn symbol_index(self, symbol: &Symbol) -> Option<u32>
         ensures { IndexesSymbol (tables_of self.entry) symbol.now result }
     {
         index_of(self.symbols, symbol)
     }
 
-    /// A leaf in numbers, or `None` where the tables do not have what it uses.
+    /// Returns a leaf in numbers, or `None` if the tables do not have its part or its symbol.
     pub(crate) fn leaf_entry(self, leaf: &Leaf) -> Option<LeafEntry>
         ensures { NamesLeaf (tables_of self.entry) leaf.now result }
     {
@@ -88,7 +88,7 @@ impl<'a> Tables<'a> {
         }
     }
 
-    /// A header in numbers, where what it holds takes so many bytes, or `None` where the tables do not have its parts.
+    /// Returns a header in numbers, or `None` if the tables do not have its parts. The tokens below it take `child_bytes` bytes.
     pub(crate) fn header_entry(self, subtree: Subtree, child_bytes: u32) -> Option<HeaderEntry>
         ensures { NamesHeader (tables_of self.entry) subtree child_bytes result }
     {
@@ -103,7 +103,8 @@ impl<'a> Tables<'a> {
         })
     }
 
-    /// A token in numbers, or `None` where the tables do not have what it uses. A leaf holds nothing.
+    /// Returns a token in numbers, or `None` if the tables do not have a part or a symbol that it uses. The tokens below a header take
+    /// `child_bytes` bytes.
     pub fn entry(self, token: &TokenTree, child_bytes: u32) -> Option<Entry>
         ensures { NamesToken (tables_of self.entry) token.now child_bytes result }
     {

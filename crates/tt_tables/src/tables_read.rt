@@ -1,4 +1,4 @@
-//! The way back: from numbers to the tokens that they name.
+//! Makes the tokens that numbers name.
 
 ghost use Rattle.std.specs.Prelude.{◌≡◌, IfSome, slice_get};
 ghost use Rattle.tt_codec.specs.declared.entry.LeafEntry.TheVariants as leaf;
@@ -11,7 +11,7 @@ use tt_base::{
 };
 use tt_codec::{HeaderEntry, LeafEntry, SpanNumbers};
 
-// The other arm is proved not to be reached, so this takes no memory.
+// Returns a copy of the symbol. Takes no memory: the proof shows that the arm that would take some is never reached.
 #[inline(always)]
 fn copy_of(symbol: &Symbol) -> Symbol
     ensures { result ≡ symbol.now }
@@ -25,14 +25,14 @@ fn copy_of(symbol: &Symbol) -> Symbol
 impl<'a> Tables<'a> {
     ghost use Rattle.tt_tables.specs.TablesOf.{tables_of};
 
-    // The part at an index, if the table is as long.
+    // Returns the part at an index, if the table has that index.
     fn part_at(self, index: u32) -> Option<SpanPart>
         ensures { result ≡ slice_get (tables_of self.entry).parts index }
     {
         self.parts.get(index as usize).copied()
     }
 
-    // The symbol at an index, if the table is as long.
+    // Returns the symbol at an index, if the table has that index.
     #[inline(always)]
     fn symbol_at(self, index: u32) -> Option<Symbol>
         ensures { result ≡ slice_get (tables_of self.entry).symbols index }
@@ -40,8 +40,7 @@ impl<'a> Tables<'a> {
         self.symbols.get(index as usize).map(copy_of)
     }
 
-    /// The span of these numbers, or `None` where the tables do not have its part, or where it would end
-    /// at 2^32 or later.
+    /// Returns the span with these numbers, or `None` if the tables do not have its part, or if it would end at 2^32 or later.
     pub(crate) fn span(self, numbers: SpanNumbers) -> Option<Span>
         ensures gives { GivesSpan (tables_of self.entry) numbers result }
         ensures only { IfSome result (FindsSpan (tables_of self.entry) numbers) }
@@ -51,7 +50,8 @@ impl<'a> Tables<'a> {
         Some(part.recombine(range))
     }
 
-    /// The ident that the numbers name, or `None` where the tables do not have what they name.
+    /// Returns the ident that the numbers name, or `None` if the tables do not have its symbol or its part, or if its span would end at
+    /// 2^32 or later.
     #[inline(always)]
     pub fn ident(self, symbol: u32, is_raw: IdentIsRaw, numbers: SpanNumbers) -> Option<TokenTree>
         ensures gives { GivesLeaf (tables_of self.entry) (leaf.Ident symbol is_raw numbers) result }
@@ -62,7 +62,7 @@ impl<'a> Tables<'a> {
         Some(TokenTree::Leaf(Leaf::Ident(Ident { sym, span, is_raw })))
     }
 
-    /// The punct that the numbers name, or `None` where the tables do not have what they name.
+    /// Returns the punct that the numbers name, or `None` if the tables do not have its part, or if its span would end at 2^32 or later.
     #[inline(always)]
     pub fn punct(self, char: char, spacing: Spacing, numbers: SpanNumbers) -> Option<TokenTree>
         ensures gives { GivesLeaf (tables_of self.entry) (leaf.Punct char spacing numbers) result }
@@ -76,8 +76,8 @@ impl<'a> Tables<'a> {
         })))
     }
 
-    /// The literal that the numbers name, or `None` where the tables do not have what they name, or where it would be no
-    /// literal.
+    /// Returns the literal that the numbers name, or `None` if the tables do not have its symbol or its part, if its span would end at
+    /// 2^32 or later, or if the last `suffix_len` bytes of the symbol do not begin at a character.
     #[inline(always)]
     pub fn literal(
         self,
@@ -95,8 +95,7 @@ impl<'a> Tables<'a> {
         Some(TokenTree::Leaf(Leaf::Literal(literal)))
     }
 
-    /// The leaf that the numbers name, or `None` where the tables do not have what they name, or where
-    /// it would be no leaf.
+    /// Returns the leaf that the numbers name, or `None` as `ident`, `punct` and `literal` do.
     pub fn leaf(self, entry: LeafEntry) -> Option<TokenTree>
         ensures gives { GivesLeaf (tables_of self.entry) entry result }
         ensures only { IfSome result (IsLeaf (tables_of self.entry) entry) }
@@ -110,7 +109,8 @@ impl<'a> Tables<'a> {
         }
     }
 
-    /// The header that the numbers name, or `None` where the tables do not have its parts.
+    /// Returns the header that the numbers name, or `None` if the tables do not have its parts, or if a span of it would end at 2^32 or
+    /// later.
     #[inline(always)]
     pub fn subtree(self, entry: HeaderEntry) -> Option<TokenTree>
         ensures gives { GivesSubtree (tables_of self.entry) entry result }

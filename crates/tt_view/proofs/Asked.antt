@@ -1,4 +1,4 @@
--- The trees that a predicate was asked of so far, and one more.
+-- The trees for which a predicate was called so far, and one more.
 use Rattle.std.proofs.Common.{◌≡◌, ◌<◌, Bool, true, false, cond, length, length-append, ℕ, ◌+◌, List, [], ◌∷◌, ◌++◌, Some, map, ap, sym, ◌∙◌, arith}
 use Rattle.std.proofs.lemmas.List.{map-append}
 use Rattle.tt_base.specs.Forest.{Forest, end, leaf, node, size, join}
@@ -16,7 +16,7 @@ one_tree end t x e = cc
 one_tree (leaf it rest) t x e = let same : tip it ≡ t = cc in cc
 one_tree (node d children rest) t x e = let same : branch d children ≡ t = cc in cc
 
--- one more tree was asked
+-- the predicate was called for one more tree
 pub record OneMore (whole f g : Forest) (asked : List TtElement) (e : TtElement) : Type 0 where
   pub given : Forest
   pub is : whole ≡ join given g
@@ -35,7 +35,7 @@ one_more whole given f g asked e is are first rest =
       asked_are = map-append tree_of asked (e ∷ []) ∙ both;
     }
 
--- Fewer pieces are left.
+-- There are fewer pieces to come.
 pub fewer : (a b : Bool) (old new : ℕ) → a ≡ false → b ≡ false → new < old → cond b 0 (1 + new) < cond a 0 (1 + old)
 fewer false false old new e h l = omega (arith, l)
 fewer false true old new e h l = cc
@@ -44,7 +44,7 @@ fewer true b old new e h l = cc
 pub shorter : {A : Type 0} (whole front back : List A) (x : A) → whole ≡ front ++ (x ∷ back) → length back < length whole
 shorter whole front back x e = omega (arith, ap length e, length-append front (x ∷ back))
 
--- The element that comes first counts what it holds.
+-- The first element counts the tokens below it.
 pub is_counted : (f : Forest) (e : TtElement) → IsFirstElement f (Some e) → IsCounted e
 is_counted end e h = absurd h
 is_counted (leaf it rest) (element.Leaf found) h = tt

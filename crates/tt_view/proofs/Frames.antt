@@ -1,4 +1,4 @@
--- What is left of a walk, where some subtrees are open.
+-- The events that are left of a walk, if some subtrees are open.
 use Rattle.std.proofs.Common.{◌≡◌, ◌<◌, ℕ, ◌-◌, List, [], ◌∷◌, ◌++◌, refl, ap, ap₂, sym, subst, ◌∙◌, arith, append_assoc}
 use Rattle.tt_base.specs.declared.delimiter.Delimiter.{Delimiter}
 use Rattle.tt_base.specs.declared.leaf.Leaf.{Leaf}
@@ -9,7 +9,7 @@ use Rattle.tt_view.specs.Frames.{left, IsBelow, Stands}
 use Rattle.tt_view.specs.declared.cursor.Frame.{Frame}
 use Rattle.tt_base.proofs.Joins.{size-join, join-assoc}
 
--- What is left, where the trees of the innermost level are known.
+-- The events that are left, by the trees that are left in the innermost level.
 pub left_join : (f : Frame) (fs : List Frame) (inner outer ahead : Forest) → ahead ≡ join inner outer → size outer ≡ f.behind
     → left (f ∷ fs) ahead ≡ walk inner ++ (closes f.header ∷ left fs outer)
 left_join f fs inner outer ahead cut behind_is =
@@ -23,7 +23,7 @@ abbrev pub IsOpen : List Frame → Forest → Type 0
 IsOpen [] ahead = Unit {0}
 IsOpen (f ∷ fs) ahead = f.behind < size ahead
 
--- past the first tree
+-- a step past the first tree
 pub record Past (o : Forest) (fs : List Frame) (ahead rest : Forest) (events : List Event) : Type 0 where
   pub is : left fs ahead ≡ events ++ left fs rest
   pub stands : Stands o fs rest
@@ -101,7 +101,7 @@ past_node o (f ∷ fs) d c rest (passed, node d2 c2 inner, outer, cut, behind_is
       below = omega (arith, ap size more, size-join inner outer, behind_is);
     }
 
--- Into a node.
+-- a step into a node
 pub record Into (o : Forest) (fs : List Frame) (f : Frame) (ahead inner : Forest) : Type 0 where
   pub is : left fs ahead ≡ opens f.header ∷ left (f ∷ fs) inner
   pub stands : Stands o (f ∷ fs) inner
@@ -128,7 +128,7 @@ into_node o fs f d c rest s h head behind_is =
       );
     }
 
--- Out of a node.
+-- a step out of a node
 pub record OutOf (o : Forest) (fs : List Frame) (f : Frame) (ahead : Forest) : Type 0 where
   pub is : left (f ∷ fs) ahead ≡ closes f.header ∷ left fs ahead
   pub stands : Stands o fs ahead

@@ -1,4 +1,4 @@
--- The flat list of a tree whose spans took new ids.
+-- The flat list of a tree with new ids in its spans.
 use Rattle.std.proofs.Common.{◌≡◌, ℕ, suc, ◌+◌, ◌-◌, ◌<◌, ◌≤◌, Bool, true, false, cond, List, [], ◌∷◌, ◌++◌, map, length, take, get_or, Option, Some, unwrap_or, refl, ap, ap₂, sym, ◌∙◌, subst, arith}
 use Rattle.std.proofs.lemmas.List.{map-append, length-map, get_or-append-add}
 use Rattle.std.specs.List.{AllByRecursion}
@@ -36,7 +36,7 @@ module _ (tables : Tables) (f g : Span → Span) (same : (span : Span) → IsIn 
   leaf_alike (leaf_of.Punct it) knows = ap (λ span. leaf_of.Punct (record { char = it.char; spacing = it.spacing; span = span })) (same it.span knows.parts.0)
   leaf_alike (leaf_of.Ident it) knows = ap (λ span. leaf_of.Ident (record { sym = it.sym; span = span; is_raw = it.is_raw })) (same it.span knows.parts.0)
 
-  -- Spans whose parts the tables have decide.
+  -- The new spans depend only on the spans whose parts are in the tables.
   respanned_alike : (trees : Forest) → AllByRecursion (Knows tables) (flat trees) → respanned f trees ≡ respanned g trees
   respanned_alike end knows = refl
   respanned_alike (leaf it rest) knows = ap₂ leaf (leaf_alike it knows.0) (respanned_alike rest knows.1)
@@ -48,7 +48,7 @@ module _ (tables : Tables) (f g : Span → Span) (same : (span : Span) → IsIn 
       let after = respanned_alike rest behind in
       λ i. node (delimiter d.kind (opens i) (closes i)) (below i) (after i)
 
--- The id of a part that is there is that at its index.
+-- The id of a part in the list is the one at its index.
 id_found : (parts : List SpanPart) (ids : List ErasedFileAstId) (part : SpanPart) (d : ErasedFileAstId) → length parts ≤ length ids → IsIn same_part parts part
     → unwrap_or (id_for parts ids part) d ≡ get_or ids (index_in (same_part part) parts) d
 id_found [] ids part d long found = absurd (none found)
@@ -64,11 +64,11 @@ id_found (entry ∷ parts) (id ∷ ids) part d long found = by_test (same_part p
     by_test true found later = refl
     by_test false found later = later (omega arith)
 
--- what a span below the top becomes
+-- the new span of a span below the top
 abbrev respanned_by : (ids : List ErasedFileAstId) → Root → Span → Span
 respanned_by ids root span = with_id_at ids (index_in (same_part (part_of span)) (part_table (flat root.children))) span
 
--- The list that is made is that of the tree with the new ids.
+-- The list that the code makes is that of the tree with the new ids.
 pub ids_list : (root : Root) (ids : List ErasedFileAstId) (found : SpanPart → Option ErasedFileAstId) (below : List SpanPart) (trees : Forest) (opens closes : Span) (len n : ℕ)
     → length ids ≡ length (root_parts root) → n ≡ length (root_parts root) - 2 → below ≡ take n (root_parts root) → ((part : SpanPart) → found part ≡ id_for below ids part)
     → opens ≡ with_id_at ids n root.delimiter.open_span → closes ≡ with_id_at ids (n + 1) root.delimiter.close → trees ≡ root.children → len ≡ size root.children
@@ -109,11 +109,11 @@ ids_list root ids found below trees opens closes len n all count front finds at_
         ∙ sym (flat-respanned (span_with found) root.children)
         ∙ ap flat (respanned_alike (tables_for (flat root.children)) (span_with found) g same root.children (tables_for_know_trees root.children))
 
--- Its tokens are as many as before.
+-- There are as many tokens as before.
 pub size-ids_changed : (ids : List ErasedFileAstId) (root : Root) → size (ids_changed ids root).children ≡ size root.children
 size-ids_changed ids root = size-respanned (respanned_by ids root) root.children
 
--- A literal that is the old one at another place.
+-- A literal with another span.
 pub literal_respanned : (f : Span → Span) (it made : Literal) (span : Span) → IsLiteral made (symbol_of it) span (kind_of it) (suffix_len_of it) → span ≡ f (span_of it)
     → leaf_of.Literal made ≡ respanned_leaf f (leaf_of.Literal it)
 literal_respanned f it made span is at =
@@ -121,19 +121,19 @@ literal_respanned f it made span is at =
     record { symbol = it.symbol; span = f it.span; kind = it.kind; suffix_len = it.suffix_len; fits = it.fits; cuts = it.cuts } in
     ap leaf_of.Literal (same_literal made there (record { symbol = is.symbol; span = is.span ∙ at; kind = is.kind; suffix_len = is.suffix_len }))
 
--- No parts.
+-- A list of length 0 has no parts.
 pub no_parts : (parts : List SpanPart) → length parts ≡ 0 → parts ≡ []
 no_parts [] e = refl
 no_parts (part ∷ parts) e = absurd (omega arith)
 
--- There are as many answers as questions.
+-- There are as many answers as calls.
 pub length-asked : {F A B : Type 0} (call : F → A → B → F → Type 0) (p : F) (asked : List A) (answers : List B) (q : F) → AsksAll call p asked answers q → length answers ≡ length asked
 length-asked call p [] [] q done = refl
 length-asked call p [] (answer ∷ answers) q done = absurd done
 length-asked call p (it ∷ others) [] q done = absurd done
 length-asked call p (it ∷ others) (answer ∷ answers) q (between, called, done) = ap suc (length-asked call between others answers q done)
 
--- The callback was asked for the ids of parts, which are those of the tree.
+-- The callback was called for the ids of these parts, which are those of the tree.
 pub answers_ids : {F : Type 0} (call : F → ErasedFileAstId → ErasedFileAstId → F → Type 0) (first : F) (root : Root) (parts : List SpanPart) (ids items : List ErasedFileAstId)
     → parts ≡ root_parts root → ids ≡ items → (last : F) × AsksAll call first (map (λ part. part.anchor.ast_id) parts) items last
     → AnswersIds call first root ids × (length ids ≡ length (root_parts root))
@@ -143,7 +143,7 @@ answers_ids call first root parts ids items is same (last, asked) =
       ap length same ∙ length-asked call first (stored_ids root) items last all ∙ length-map (root_parts root) (λ (part : SpanPart). part.anchor.ast_id),
     )
 
--- What stands at the index of a part that is found is that part.
+-- The part at the index of a part that is found is that part.
 part_there : (parts more : List SpanPart) (part : SpanPart) (d : ErasedFileAstId) → IsIn same_part parts part
     → get_or (map (λ it. it.anchor.ast_id) (parts ++ more)) (index_in (same_part part) parts) d ≡ part.anchor.ast_id
 part_there [] more part d found = absurd (none found)
@@ -158,7 +158,7 @@ part_there (entry ∷ parts) more part d found = by_test (same_part part entry) 
     by_test true same found later = ap (λ (it : SpanPart). it.anchor.ast_id) (sym (part_sound part entry same))
     by_test false same found later = later (omega arith)
 
--- the part at an index behind a list
+-- the part at an index after a list
 part_behind : (parts more : List SpanPart) (k : ℕ) (d : ErasedFileAstId)
     → get_or (map (λ it. it.anchor.ast_id) (parts ++ more)) (length parts + k) d ≡ get_or (map (λ it. it.anchor.ast_id) more) k d
 part_behind parts more k d =
@@ -166,7 +166,7 @@ part_behind parts more k d =
     ∙ ap (λ n. get_or (map (λ it. it.anchor.ast_id) parts ++ map (λ it. it.anchor.ast_id) more) (n + k) d) (sym (length-map parts (λ (it : SpanPart). it.anchor.ast_id)))
     ∙ get_or-append-add (map (λ it. it.anchor.ast_id) parts) (map (λ it. it.anchor.ast_id) more) k d
 
--- Ids that differ only where an entry keeps its own change a tree alike.
+-- Ids that differ only for entries that keep their own id change a tree in the same way.
 pub ids_alike : (root : Root) (ids others : List ErasedFileAstId)
     → ((k : ℕ) (d : ErasedFileAstId) → k < length (stored_ids root) → get_or (stored_ids root) k d ≡ d → get_or ids k d ≡ get_or others k d)
     → ids_changed ids root ≡ ids_changed others root

@@ -1,4 +1,4 @@
--- New ids make no more span parts than there were, and leave the symbols.
+-- With new ids there are no more span parts than before, and the same symbols.
 use Rattle.std.proofs.Common.{◌≡◌, ℕ, suc, ◌≤◌, Bool, true, false, not, cond, ◌⊎◌, inl, inr, List, [], ◌∷◌, bytes_eq, filter, length, map, nat_le, refl, ap, ap₂, sym, ◌∙◌, arith}
 use Rattle.std.proofs.lemmas.List.{length-map}
 use Rattle.tt_base.specs.declared.fault.TtFault.{TtFault}
@@ -18,7 +18,7 @@ use Rattle.tt_tables.proofs.TokenTables.{part_sound, part_complete}
 use Rattle.tt_view.specs.TreeFault.{IsTreeFault}
 use Rattle.tt_view.proofs.NewIds.{size-ids_changed}
 
--- Two filters may change places.
+-- Two filters may change their order.
 filters_swap : {X : Type 0} (p q : X → Bool) (xs : List X) → filter p (filter q xs) ≡ filter q (filter p xs)
 filters_swap p q [] = refl
 filters_swap {X} p q (x ∷ xs) = by_tests (p x) refl (q x) refl (filters_swap p q xs)
@@ -36,7 +36,7 @@ filters_swap {X} p q (x ∷ xs) = by_tests (p x) refl (q x) refl (filters_swap p
     by_tests false e true f later = ap (λ s. cond s (x ∷ a) a) e ∙ later
     by_tests false e false f later = later
 
--- A filter does nothing the second time.
+-- A filter changes nothing the second time.
 filter_twice : {X : Type 0} (p : X → Bool) (xs : List X) → filter p (filter p xs) ≡ filter p xs
 filter_twice p [] = refl
 filter_twice {X} p (x ∷ xs) = by_test (p x) refl (filter_twice p xs)
@@ -48,7 +48,7 @@ filter_twice {X} p (x ∷ xs) = by_test (p x) refl (filter_twice p xs)
     by_test true e later = ap (λ t. cond t (x ∷ a) a) e ∙ ap (λ l. x ∷ l) later
     by_test false e later = later
 
--- A filter leaves no more.
+-- A filter makes no list longer.
 filter_shortens : {X : Type 0} (p : X → Bool) (xs : List X) → length (filter p xs) ≤ length xs
 filter_shortens p [] = omega arith
 filter_shortens p (x ∷ xs) = by_test (p x) (filter_shortens p xs)
@@ -57,9 +57,9 @@ filter_shortens p (x ∷ xs) = by_test (p x) (filter_shortens p xs)
     by_test true later = omega (arith, later)
     by_test false later = omega (arith, later)
 
--- `same` tells whether two values are equal, and so does `alike` of what h makes of them
+-- `same` is whether two values are equal, and `alike` is whether two values of h are equal
 module _ {X Y : Type 0} (same : X → X → Bool) (sound : (x y : X) → same x y ≡ true → x ≡ y) (alike : Y → Y → Bool) (complete : (y : Y) → alike y y ≡ true) (h : X → Y) where
-  -- Besides h x it makes no difference whether x is there.
+  -- If h x is left out, it makes no difference whether x is in the list.
   but_one : (x : X) (ys : List X)
       → filter (λ z. not (alike (h x) z)) (different alike (map h ys))
       ≡ filter (λ z. not (alike (h x) z)) (different alike (map h (filter (λ y. not (same x y)) ys)))
@@ -89,7 +89,7 @@ module _ {X Y : Type 0} (same : X → X → Bool) (sound : (x y : X) → same x 
           ap (λ l. cond (p (h y)) (h y ∷ l) l)
           (filters_swap p q all ∙ ap (filter q) later ∙ filters_swap q p (different alike (map h rest)))
 
-  -- What h makes of the different values has all different values.
+  -- The values of h for the different items have the same different values as for all items.
   different-map : (xs : List X) → different alike (map h xs) ≡ different alike (map h (different same xs))
   different-map [] = refl
   different-map (x ∷ xs) =
@@ -100,7 +100,7 @@ module _ {X Y : Type 0} (same : X → X → Bool) (sound : (x y : X) → same x 
   no_more_different (y ∷ ys) =
       omega (arith, filter_shortens (λ z. not (alike y z)) (different alike ys), no_more_different ys)
 
-  -- It makes no more different values.
+  -- There are no more of them than different items.
   pub different_fewer : (xs : List X) → length (different alike (map h xs)) ≤ length (different same xs)
   different_fewer xs =
       omega (arith, ap length (different-map xs), no_more_different (map h (different same xs)), length-map (different same xs) h)
@@ -115,7 +115,7 @@ length-table same sound complete short uses = by_test (nat_le (length (different
     by_test true = refl
     by_test false = length-falling same sound complete (uses_of same uses) (IsEarlier same uses) (different same uses)
 
--- The table of span parts grows no longer.
+-- The table of span parts does not get longer.
 parts_no_more : (ids : List ErasedFileAstId) (root : Root) → length (root_parts (ids_changed ids root)) ≤ length (root_parts root)
 parts_no_more ids root =
     omega (arith, length-root_parts root, length-root_parts (ids_changed ids root), before, after, ap (λ uses. length (different same_part uses)) used, fewer)
@@ -150,7 +150,7 @@ symbols_stay ids root =
     parts : List SpanPart
     parts = part_table (flat root.children)
 
--- A tree that was within the limits can have too many bytes with new ids, and nothing else too many.
+-- A tree within the limits can exceed only the limit of bytes with new ids.
 pub ids_fault : (ids : List ErasedFileAstId) (root : Root) (fault : TtFault) → IsWithinLimits root → IsTreeFault (ids_changed ids root) fault
     → (fault ≡ Memory) ⊎ (fault ≡ TooManyBytes)
 ids_fault ids root Memory limits cause = inl refl

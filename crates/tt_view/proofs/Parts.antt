@@ -1,4 +1,4 @@
--- The first tree of a view, cut off, and its first token.
+-- The first tree of a view, without the others, and its first token.
 use Rattle.std.proofs.Common.{◌≡◌, ℕ, ◌+◌, ◌-◌, ◌<◌, ◌≤◌, Some, None, refl, ap, sym, ◌∙◌, arith}
 use Rattle.tt_base.specs.declared.token_tree.TokenTree.{TokenTree}
 use Rattle.tt_base.specs.declared.token_tree.TokenTree.TheVariants as token
@@ -10,7 +10,7 @@ use Rattle.tt_base.specs.Siblings.{children_of, is_end}
 use Rattle.tt_base.specs.Token.{count_below}
 use Rattle.tt_base.proofs.Joins.{join-assoc, size-join}
 
--- what the first token tells of the trees of a view, and of those ahead of it
+-- the first token of a view's trees is the first token ahead, and the trees after it are ahead after it
 pub record PartsOf (ahead : Forest) (len : ℕ) (trees others : Forest) (t : TokenTree) : Type 0 where
   pub first : first_token trees ≡ Some t
   pub follow : Forest
@@ -68,7 +68,7 @@ end_of ahead len h z = none h.0.0 (h.1.1 ∙ z)
     none (leaf it rest) e = absurd (omega arith)
     none (node d children rest) e = absurd (omega arith)
 
--- Behind a view with tokens there is one to read.
+-- If a view has tokens, a token can be read.
 pub not_none : (ahead : Forest) (len : ℕ) → HoldsTrees ahead len → (len ≡ 0 → ⊥) → first_token ahead ≡ None → ⊥
 not_none ahead len h n e = some h.0.0 h.0.1 (omega (arith, h.1.1, n)) (sym (ap first_token h.1.0) ∙ e)
   where
@@ -77,7 +77,7 @@ not_none ahead len h n e = some h.0.0 h.0.1 (omega (arith, h.1.1, n)) (sym (ap f
     some (leaf it rest) g s e = cc
     some (node d children rest) g s e = cc
 
--- Where there is a first token, trees are left.
+-- If there is a first token, trees are left.
 pub some_left : (trees : Forest) (t : TokenTree) → first_token trees ≡ Some t → is_end trees ≡ false
 some_left end t e = cc
 some_left (leaf it rest) t e = refl

@@ -1,4 +1,4 @@
--- The place of a cursor, and what is read of it.
+-- The place of a cursor, and what is read at it.
 use Rattle.std.proofs.Common.{◌≡◌, ◌==◌, ◌<◌, ◌≤◌, ℕ, suc, ◌+◌, ◌-◌, Some, None, true, false, List, [], ◌∷◌, ◌++◌, length, drop, reverse, refl, ap, ap₂, sym, subst, ◌∙◌, arith, append_assoc, append-nil, length-append}
 use Rattle.std.proofs.Math.Seq.{drop-append_seam}
 use Rattle.std.proofs.lemmas.Bool.Decides.{nat_tests}
@@ -20,7 +20,7 @@ use Rattle.tt_base.proofs.Joins.{size-join}
 use Rattle.tt_base.proofs.Walks.{walk-join, open_walk, tokens-append, tokens_walk, over_end, not_over, stays}
 use Rattle.tt_view.proofs.Frames.{left_join, IsOpen, past_leaf, past_node, into_node, open_above}
 
--- What is left is an end of the whole walk.
+-- The events that are left are the last events of the whole walk.
 pub ends : (o : Forest) (fs : List Frame) (ahead : Forest) → Stands o fs ahead → (first : List Event) × (walk o ≡ first ++ left fs ahead)
 ends o [] ahead (passed, whole) = (walk passed, ap walk whole ∙ walk-join passed ahead)
 ends o (f ∷ fs) ahead (passed, inner, outer, cut, behind_is, counted, below, up) =
@@ -46,7 +46,7 @@ place_of o fs ahead s =
     let far : length (walk o) - length (left fs ahead) ≡ length e.0 = omega (arith, ap length e.1, length-append e.0 (left fs ahead)) in
     ap₂ drop far e.1 ∙ drop-append_seam e.0 (left fs ahead)
 
--- What is left of a cursor is what lies ahead of its place.
+-- The events that a cursor has left are those ahead of its place.
 pub ahead_is : (cursor : Inside) (now : Walked) → StandsInWalk cursor → walked cursor ≡ now → events_ahead now ≡ events_left cursor
 ahead_is cursor now stands view_is = ap events_ahead (sym view_is) ∙ place_of _ _ _ stands
 
@@ -54,7 +54,7 @@ ahead_is cursor now stands view_is = ap events_ahead (sym view_is) ∙ place_of 
 abbrev pub at : Forest → List Event → Walked
 at o l = record { origin = o; place = length (walk o) - length l }
 
--- A event of what is left is a event of the place.
+-- After one of the events that are left, the place is one event further.
 pub moved : (o : Forest) (fs gs : List Frame) (f g : Forest) (event : Event) → Stands o fs f → Stands o gs g → left fs f ≡ event ∷ left gs g
     → at o (left gs g) ≡ one_on (at o (left fs f))
 moved o fs gs f g event s t is =
@@ -64,7 +64,7 @@ moved o fs gs f g event s t is =
     let far : length (walk o) - length (left gs g) ≡ (length (walk o) - length (left fs f)) + 1 = omega (arith, count, ap length is) in
     λ i. record { origin = o; place = (far ∙ ap (λ v. (length (walk o) - length (left fs f)) + one_if_any v) (sym here)) i }
 
--- The next event goes out of the innermost node where nothing is left of it.
+-- The next event goes out of the innermost node exactly if no tokens of it are left.
 pub close_some : (o : Forest) (fs : List Frame) (f : Frame) (ahead : Forest) → Stands o (f ∷ fs) ahead → (b n : ℕ) → b ≡ f.behind → n ≡ size ahead
     → (b == n) ≡ is_at_close (left (f ∷ fs) ahead)
 close_some o fs f ahead (passed, end, outer, cut, behind_is, counted, below, up) b n e m =
@@ -85,7 +85,7 @@ close_none end = refl
 close_none (leaf it rest) = refl
 close_none (node d c rest) = refl
 
--- Where it does not, the innermost level has trees left, or all is over.
+-- Otherwise the innermost level has trees left, or no event is left.
 pub open_or_over : (o : Forest) (fs : List Frame) (ahead : Forest) → Stands o fs ahead → is_at_close (left fs ahead) ≡ false → IsOpen fs ahead
 open_or_over o [] ahead s e = tt
 open_or_over o (f ∷ fs) ahead (passed, end, outer, cut, behind_is, counted, below, up) e =
@@ -95,7 +95,7 @@ open_or_over o (f ∷ fs) ahead (passed, leaf it inner, outer, cut, behind_is, c
 open_or_over o (f ∷ fs) ahead (passed, node d c inner, outer, cut, behind_is, counted, below, up) e =
     omega (arith, ap size cut, size-join inner outer, size-join c inner, behind_is)
 
--- The token ahead, where the next event goes out of nothing.
+-- The token of the next event, if that event goes out of no node.
 pub token_ahead : (o : Forest) (fs : List Frame) (ahead : Forest) → Stands o fs ahead → is_at_close (left fs ahead) ≡ false
     → first_token ahead ≡ token_at (left fs ahead)
 token_ahead o [] end s e = refl
@@ -103,7 +103,7 @@ token_ahead o (f ∷ fs) end s e = absurd (omega (arith, open_or_over o (f ∷ f
 token_ahead o fs (leaf it rest) s e = sym (ap token_at (past_leaf o fs it rest s (open_or_over o fs (leaf it rest) s e)).is)
 token_ahead o fs (node d c rest) s e = sym (ap token_at (past_node o fs d c rest s (open_or_over o fs (node d c rest) s e)).is)
 
--- So many nodes are open.
+-- The number of open nodes.
 pub open_count : (o : Forest) (fs : List Frame) (ahead : Forest) → Stands o fs ahead → open_nodes (left fs ahead) ≡ length fs
 open_count o [] ahead s = ap open_nodes (sym (append-nil (walk ahead))) ∙ open_walk ahead []
 open_count o (f ∷ fs) ahead (passed, inner, outer, cut, behind_is, counted, below, up) =
@@ -124,7 +124,7 @@ tokens_left o (f ∷ fs) ahead (passed, inner, outer, cut, behind_is, counted, b
 some_is_not_none : (n : ℕ) → 0 < n → (n == 0) ≡ false
 some_is_not_none n h = grind (arith, nat_tests)
 
--- With no open node all is over where no tree is left; with one it is not.
+-- Without open nodes, no event is left exactly if no tree is left. With an open node, events are left.
 pub over_none : (fs : List Frame) (ahead : Forest) → (length fs == 0) ≡ true → is_end ahead ≡ is_over (left fs ahead)
 over_none [] ahead e = over_end ahead
 over_none (f ∷ fs) ahead e = let no : (length (f ∷ fs) == 0) ≡ false = some_is_not_none (length (f ∷ fs)) (omega arith) in cc
@@ -140,7 +140,7 @@ held_within end s e = cc
 held_within (leaf it rest) s e = cc
 held_within (node d c rest) s e = let same : size c ≡ s.len = cc in omega (arith, same, size-join c rest)
 
--- Where no token is ahead and the next event goes out of nothing, there is none.
+-- If no token is ahead and the next event goes out of no node, no event is left.
 pub none_left : (o : Forest) (fs : List Frame) (ahead : Forest) → Stands o fs ahead → is_at_close (left fs ahead) ≡ false → ahead ≡ end → left fs ahead ≡ []
 none_left o fs ahead s e z = nothing (left fs ahead) e (sym (token_ahead o fs ahead s e) ∙ ap first_token z)
   where
@@ -156,7 +156,7 @@ closing o fs f ahead s e =
     let same : (f.behind == size ahead) ≡ true = close_some o fs f ahead s f.behind (size ahead) refl refl ∙ e in
     grind (arith, nat_tests)
 
--- Into a node, of which no more is known than its token.
+-- a step into a node, of which only the token is known
 pub record Gone (o : Forest) (fs gs : List Frame) (ahead rest : Forest) : Type 0 where
   pub event : Event
   pub is : left fs ahead ≡ event ∷ left gs rest
@@ -177,7 +177,7 @@ gone_node o fs gs f (node d c after) rest h s e t r head behind_is more =
       stands = subst (λ v. Stands o v rest) (sym more) (subst (Stands o (f ∷ fs)) (sym r) into.stands);
     }
 
--- The last of the stack is the innermost node.
+-- The last frame of the stack is the innermost node.
 pub last_frame : (xs : List Frame) (x : Frame) → slice_get xs (length xs - 1) ≡ Some x → (ys : List Frame) × (reverse xs ≡ x ∷ ys)
 last_frame [] x e = cc
 last_frame (y ∷ []) x e = let same : y ≡ x = cc in ([], ap (λ v. v ∷ []) same)
@@ -201,7 +201,7 @@ pub close_is : (o : Forest) (fs : List Frame) (ahead : Forest) → Stands o fs a
 close_is o [] ahead s = close_none ahead
 close_is o (f ∷ fs) ahead s = close_some o fs f ahead s f.behind (size ahead) refl refl
 
--- Past a leaf.
+-- a step past a leaf
 pub record LeafGone (o : Forest) (fs : List Frame) (ahead rest : Forest) (it : Leaf) : Type 0 where
   pub is : left fs ahead ≡ passes it ∷ left fs rest
   pub stands : Stands o fs rest
@@ -215,7 +215,7 @@ leaf_gone o fs (leaf other after) rest it s e t r =
     record { is = past.is ∙ ap₂ (λ v w. passes v ∷ left fs w) same (sym r); stands = subst (Stands o fs) (sym r) past.stands }
 leaf_gone o fs (node d c after) rest it s e t r = cc
 
--- Past a leaf, or nowhere at the end of the walk.
+-- A step past a leaf, or no step at the end of the walk.
 pub gone_plain : (o : Forest) (fs : List Frame) (ahead rest : Forest) → Stands o fs ahead → is_at_close (left fs ahead) ≡ false
     → ((it : Subtree) → first_token ahead ≡ Some (token.Subtree it) → ⊥) → rest ≡ after_token ahead
     → Stands o fs rest × (at o (left fs rest) ≡ one_on (at o (left fs ahead)))

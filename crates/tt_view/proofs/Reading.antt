@@ -1,4 +1,4 @@
--- What the first token says of the flat list, of the last span and of the one root.
+-- The first token, and the flat list, the last span and the one root.
 use Rattle.std.proofs.Common.{◌≡◌, true, false, Option, Some, None, [], ◌∷◌, ◌++◌, length, refl, ap, sym, ◌∙◌, arith}
 use Rattle.tt_base.specs.declared.delimiter.Subtree.{Subtree}
 use Rattle.tt_base.specs.declared.leaf.Leaf.{Leaf}
@@ -16,12 +16,12 @@ use Rattle.tt_base.specs.OneRoot.{one_root}
 use Rattle.tt_base.specs.Token.{close_span}
 use Rattle.tt_base.specs.LastSpan.{last_span, given_or}
 
--- the one if there is one, else the other if there is one
+-- the first span if there is one, otherwise the second
 abbrev pub or_span : Option Span → Option Span → Option Span
 or_span None other = other
 or_span (Some one) other = Some one
 
--- The first token, and then the tokens of the trees that follow it.
+-- The first token, and then the tokens of the trees after it.
 pub flat_step : (f g : Forest) (t : TokenTree) → first_token f ≡ Some t → g ≡ after_token f → flat f ≡ t ∷ flat g
 flat_step end g t e a = cc
 flat_step (leaf it rest) g t e a = let is : token.Leaf it ≡ t = cc in λ i. is i ∷ flat (sym a i)
@@ -30,7 +30,7 @@ flat_step (node d children rest) g t e a =
     let more : flat g ≡ flat children ++ flat rest = ap flat a ∙ flat-join children rest in
     λ i. is i ∷ sym more i
 
--- A call that gives the first token, if there is one, and leaves the trees that follow it, gives the first of the flat list.
+-- A call that returns the first token, if there is one, and leaves the trees after it, returns the first of the flat list.
 pub flat_yields : (s t : FlatTokens) (found : Option TokenTree) → found ≡ first_token (flat_rest s) → flat_rest t ≡ after_token (flat_rest s)
     → YieldsFirst (λ tokens. flat (flat_rest tokens)) s found t
 flat_yields s t None e a = none (flat_rest s) (flat_rest t) e a
@@ -41,18 +41,18 @@ flat_yields s t None e a = none (flat_rest s) (flat_rest t) e a
     none (node d children rest) g e a = cc
 flat_yields s t (Some it) e a = flat_step (flat_rest s) (flat_rest t) it (sym e) a
 
--- So less of the list is left.
+-- Less of the list is then left.
 pub flat_goes : (can : FlatTokens → Type 0) (s t : FlatTokens) (found : Option TokenTree) → can t → found ≡ first_token (flat_rest s)
     → flat_rest t ≡ after_token (flat_rest s) → MakesProgress can (item_count (λ tokens. flat (flat_rest tokens))) s found t
 flat_goes can s t None ok e a = record { on = λ _. tt; keeps = tt; rests = λ _. tt }
 flat_goes can s t (Some it) ok e a =
     let step = flat_step (flat_rest s) (flat_rest t) it (sym e) a in record { on = λ _. (ok, tt, omega (arith, ap length step)); keeps = ok; rests = λ _. tt }
 
--- No token is the first only of no trees.
+-- If there is no first token, there are no trees.
 pub none_flat : (f : Forest) → f ≡ end → flat f ≡ []
 none_flat f e = ap flat e
 
--- Where no tree follows, the last span is that of the first tree.
+-- If no tree follows, the last span is that of the first tree.
 pub last_one : (f : Forest) (t : TokenTree) (other : Option Span) → first_token f ≡ Some t → is_end (after_tree f) ≡ true
     → or_span (last_span (children_of f)) (Some (close_span t)) ≡ or_span (last_span f) other
 last_one end t other e a = cc
@@ -67,7 +67,7 @@ last_one (node d children end) t other e a = let is : header d (size children) �
 last_one (node d children (leaf it rest)) t other e a = cc
 last_one (node d children (node d2 inner rest)) t other e a = cc
 
--- Where trees follow, the last span is theirs.
+-- If trees follow, the last span is theirs.
 pub last_more : (f : Forest) (t : TokenTree) (other : Option Span) → first_token f ≡ Some t → is_end (after_tree f) ≡ false
     → or_span (last_span (after_tree f)) other ≡ or_span (last_span f) other
 last_more end t other e a = cc
@@ -78,7 +78,7 @@ last_more (node d children end) t other e a = cc
 last_more (node d children (leaf it rest)) t other e a = refl
 last_more (node d children (node d2 inner rest)) t other e a = refl
 
--- Nothing follows the first tree: it is the one root, if it is a node.
+-- If no tree follows the first, it is the one root if it is a node.
 pub one_root_is : (f : Forest) (s : Subtree) → first_token f ≡ Some (token.Subtree s) → is_end (after_tree f) ≡ true
     → f ≡ only (record { delimiter = s.delimiter; children = children_of f })
 one_root_is end s e a = cc

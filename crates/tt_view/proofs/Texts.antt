@@ -1,4 +1,4 @@
--- The text and the lines of one more sibling.
+-- The text and the lines with one more sibling.
 use Rattle.std.proofs.Common.{◌≡◌, ◌+◌, Bool, true, false, Some, ℕ, suc, add-one, List, ◌++◌, refl, ap, ap₂, sym, ◌∙◌, arith, append_assoc}
 use Rattle.tt_base.specs.DebugText.{leaf_line, header_line, indent, break_if, lines_text}
 use Rattle.tt_base.specs.Forest.{Forest, end, leaf, node, size}
@@ -21,7 +21,7 @@ text_step due (leaf it rest) (element.Subtree subtree below) h = absurd h
 text_step due (node d children rest) (element.Leaf found) h = absurd h
 text_step due (node d children rest) (element.Subtree subtree below) h = rw (h.0, h.2) (simp append_assoc)
 
--- What was written before a sibling goes on with it.
+-- The text of the siblings before goes on with the text of this one.
 pub goes_on : (done all gap : List ℕ) (due next : Bool) (e : TtElement) (f g : Forest) → IsFirstElement f (Some e) → g ≡ after_tree f
     → gap ≡ space_if due → next ≡ space_after_tree (tree_of e) → done ++ siblings_text is_alone due f ≡ all
     → ((done ++ gap) ++ tree_text (tree_of e)) ++ siblings_text is_alone next g ≡ all
@@ -34,7 +34,7 @@ goes_on done all gap due next e f g first rest spaced told more =
     ∙ ap (λ x. done ++ x) (sym (text_step due f e first))
     ∙ more)
 
--- A sibling has no more tokens than all of them, and with those behind it as many.
+-- The tokens of a sibling, and those after it, are as many as all.
 pub first_size : (f : Forest) (e : TtElement) → IsFirstElement f (Some e) → tree_size (tree_of e) + size (after_tree f) ≡ size f
 first_size end e h = absurd h
 first_size (leaf it rest) (element.Leaf found) h = omega arith
@@ -42,7 +42,7 @@ first_size (leaf it rest) (element.Subtree subtree below) h = absurd h
 first_size (node d children rest) (element.Leaf found) h = absurd h
 first_size (node d children rest) (element.Subtree subtree below) h = omega (arith, ap size h.2)
 
--- What was written of a subtree in three parts.
+-- The text of a subtree, in three parts.
 pub subtree_parts : (e : TtElement) (s : Subtree) (below : TtIter) (front back : List ℕ) → e ≡ element.Subtree s below
     → front ≡ opening_text s.delimiter.kind → back ≡ closing_text s.delimiter.kind
     → (front ++ siblings_text is_alone false (rest_of below)) ++ back ≡ tree_text (tree_of e)
@@ -66,7 +66,7 @@ lines_step due depth (node d children rest) (element.Subtree subtree below) h =
     grouped (break_if due) (indent depth) (header_line d) (lines_text true (suc depth) children) (lines_text true depth rest)
     ∙ ap₂ (λ at held. (break_if due ++ indent depth) ++ ((header_line at ++ lines_text true (suc depth) held) ++ lines_text true depth rest)) (sym h.0) (sym h.2)
 
--- What was written before a sibling goes on with its lines.
+-- The lines of the siblings before go on with the lines of this one.
 pub lines_go_on : (done all gap spaces : List ℕ) (due : Bool) (depth : ℕ) (e : TtElement) (f g : Forest) → IsFirstElement f (Some e) → g ≡ after_tree f
     → gap ≡ break_if due → spaces ≡ indent depth → done ++ lines_text due depth f ≡ all
     → (((done ++ gap) ++ spaces) ++ tree_lines depth (tree_of e)) ++ lines_text true depth g ≡ all
@@ -80,7 +80,7 @@ lines_go_on done all gap spaces due depth e f g first rest broken indented more 
     ∙ ap (λ x. done ++ x) (sym (lines_step due depth f e first))
     ∙ more)
 
--- What was written of a subtree in two parts.
+-- The lines of a subtree, in two parts.
 pub subtree_lines : (e : TtElement) (s : Subtree) (below : TtIter) (depth : ℕ) (front : List ℕ) → e ≡ element.Subtree s below
     → front ≡ header_line s.delimiter → front ++ lines_text true (depth + 1) (rest_of below) ≡ tree_lines depth (tree_of e)
 subtree_lines e s below depth front is opens = rw (is, opens) (ap (λ d. header_line s.delimiter ++ lines_text true d (rest_of below)) (add-one depth))

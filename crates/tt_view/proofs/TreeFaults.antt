@@ -1,4 +1,4 @@
--- Why the flat list of a tree is not packed, said of the tree.
+-- Why the flat list of a tree is not packed, as faults of the tree.
 use Rattle.std.proofs.Common.{◌≡◌, ◌≤◌, ℕ, suc, List, [], ◌∷◌, map, length, refl, ap, sym, ◌∙◌, subst, arith}
 use Rattle.tt_base.specs.declared.delimiter.Delimiter.{Delimiter}
 use Rattle.tt_base.specs.declared.leaf.Leaf.{Leaf}
@@ -34,7 +34,7 @@ tree_fault root tokens is few TooManySymbols cause = this_tree _ root tokens is 
 tree_fault root tokens is few TooManyBytes cause = this_tree _ root tokens is few cause
 tree_fault root tokens is few PointsSpent cause = cause
 
--- For a tree with nothing inside only memory can be wanting.
+-- A tree with nothing inside can fail only if memory runs out.
 pub empty_fault : (delimiter : Delimiter) (fault : TtFault) → IsTreeFault (under delimiter end) fault → fault ≡ Memory
 unfolding bytes table
 empty_fault delimiter Memory cause = refl
@@ -55,12 +55,12 @@ empty_fault delimiter TooManyBytes cause =
     absurd (omega (arith, none, cause.1.2))
 empty_fault delimiter PointsSpent cause = absurd cause
 
--- A list of no length has nothing.
+-- A list of length 0 has no leaves.
 pub none_left : (ls : List Leaf) → length ls ≡ 0 → ls ≡ []
 none_left [] e = refl
 none_left (it ∷ others) e = absurd (omega arith)
 
--- Leaves have as many tokens, and those are the flat list.
+-- A list of leaves has as many tokens, and they are its flat list.
 pub size-leaves : (ls : List Leaf) → size (leaves ls) ≡ length ls
 size-leaves [] = refl
 size-leaves (it ∷ others) = ap suc (size-leaves others)

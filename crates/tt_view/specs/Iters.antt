@@ -1,4 +1,4 @@
--- What iterators and their elements hold, and what a call of `next` does.
+-- The trees of iterators and elements, and what a call of `next` does.
 use Rattle.std.specs.Prelude.{◌≡◌, ℕ, zero, suc, Option, Some, None}
 use Rattle.std.specs.Iterator.{YieldsFirstBy}
 use Rattle.tt_base.specs.declared.delimiter.Subtree.{Subtree}
@@ -15,11 +15,11 @@ use Rattle.tt_view.specs.declared.iter.TtIterSavepoint.{TtIterSavepoint}
 abbrev pub rest_of : TtIter → Forest
 rest_of iter = trees_of iter.inner
 
--- how many tokens it decoded
+-- the number of tokens that it decoded
 abbrev pub steps_of_iter : TtIter → ℕ
 steps_of_iter iter = steps_of_view iter.inner
 
--- the trees that an iterator had left
+-- the trees that were left at a savepoint
 abbrev pub saved_of : TtIterSavepoint → Forest
 saved_of savepoint = trees_of savepoint.0
 
@@ -33,7 +33,7 @@ abbrev pub IsCounted : TtElement → Type 0
 IsCounted (element.Leaf it) = Unit {0}
 IsCounted (element.Subtree subtree below) = subtree.len ≡ size (rest_of below)
 
--- the element is the first tree, or there is none: a header counts the tokens below it, which the iterator beside it stands before
+-- the element is the first tree, or there is no tree; a header counts the tokens below it, and its iterator has the trees below it left
 abbrev pub IsFirstElement : Forest → Option TtElement → Type 0
 IsFirstElement end (Some found) = ⊥
 IsFirstElement end None = Unit {0}
@@ -45,23 +45,23 @@ IsFirstElement (node delimiter children rest) (Some (element.Subtree subtree bel
     (subtree.delimiter ≡ delimiter) × (subtree.len ≡ size children) × (rest_of below ≡ children)
 IsFirstElement (node delimiter children rest) None = ⊥
 
--- one call of `next`: the first tree, and the others are left, in one step
+-- one call of `next`: it returns the first tree, leaves the others, and takes one step
 pub record GivesSibling (old : TtIter) (result : Option TtElement) (new : TtIter) : Type 0 where
   pub item : YieldsFirstBy tree_of (λ iter. list_of (rest_of iter)) old result new
   pub first : IsFirstElement (rest_of old) result
   pub rest : rest_of new ≡ after_tree (rest_of old)
   pub steps : steps_of_iter new ≡ step_after (steps_of_iter old) (rest_of old)
 
--- one tree is passed, if there is one, in one step
+-- it passes one tree, if there is one, in one step
 pub record PassesOne (old : TtIter) (new : TtIter) : Type 0 where
   pub rest : rest_of new ≡ after_tree (rest_of old)
   pub steps : steps_of_iter new ≡ step_after (steps_of_iter old) (rest_of old)
 
--- the steps counted after so many trees, each of which is passed in one
+-- the steps after `n` trees, one for each
 abbrev pub steps_after : ℕ → ℕ → Forest → ℕ
 steps_after zero steps trees = steps
 steps_after (suc n) steps trees = steps_after n (step_after steps trees) (after_tree trees)
 
--- the header of the first tree, which is a node, and the trees that it holds
+-- the header of the first tree, which is a node, and the trees below it
 abbrev pub IsFirstSubtree : Forest → Subtree → TtIter → Type 0
 IsFirstSubtree trees subtree below = IsFirstElement trees (Some (element.Subtree subtree below))

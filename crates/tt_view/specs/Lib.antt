@@ -1,4 +1,5 @@
--- What the contracts of trees, views and iterators speak of; and, of the crates below, what is stored for a tree and why none is.
+-- The definitions that the contracts of trees, views and iterators cite; and, from the crates below, what is stored for a tree and why
+-- none is.
 pub use Rattle.tt_tables.specs.AstIds
 pub use Rattle.tt_tables.specs.Cost
 pub use Rattle.tt_tables.specs.Counts

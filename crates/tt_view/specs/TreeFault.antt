@@ -1,4 +1,4 @@
--- Why no tree is made of what a call was given: the first limit that is passed, want of memory aside.
+-- Why a call returns no tree: the first limit that the tree exceeds, or memory runs out.
 use Rattle.std.specs.Prelude.{ℕ, ◌<◌, ◌≤◌, length}
 use Rattle.tt_base.specs.declared.delimiter.Delimiter.{Delimiter}
 use Rattle.tt_base.specs.declared.fault.TtFault.{TtFault}
@@ -13,7 +13,7 @@ use Rattle.tt_tables.specs.PackFault.{HasManyParts, HasManySymbols, HasManyBytes
 abbrev pub under : Delimiter → Forest → Root
 under delimiter children = record { delimiter = delimiter; children = children }
 
--- the tree is refused for that reason; memory may be refused for any tree
+-- the tree is refused for that reason; memory may run out for any tree
 abbrev pub IsTreeFault : Root → TtFault → Type 0
 IsTreeFault root Memory = Unit {0}
 IsTreeFault root NotOneSubtree = ⊥
@@ -27,7 +27,7 @@ IsTreeFault root TooManySymbols = (size root.children ≤ most_tokens) × HasMan
 IsTreeFault root TooManyBytes = (size root.children ≤ most_tokens) × HasManyBytes root
 IsTreeFault root PointsSpent = ⊥
 
--- why no leaf is set at a place: there is none, or a header stands there, or the tree with the leaf there is refused
+-- why a call sets no leaf at a place: there is no such place, or a header is there, or the tree with the leaf is refused
 abbrev pub IsSetFault : Root → (place : ℕ) → Leaf → TtFault → Type 0
 IsSetFault root place it NoSuchPlace = length (flat_root root) ≤ place
 IsSetFault root place it NotALeaf = HasHeaderAt (flat_root root) place

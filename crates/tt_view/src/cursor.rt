@@ -1,4 +1,4 @@
-//! A place in the walk through a list of trees.
+//! A place in a walk through a list of trees.
 ghost use Rattle.std.specs.Prelude.{◌≡◌, ◌==◌, ◌++◌, ◌∷◌, List, reverse, true, false, IfErr, OnOk, OnErr};
 ghost use Rattle.tt_base.specs.declared.fault.TtFault.TheVariants.{Memory};
 ghost use Rattle.tt_base.specs.Forest.{flat};
@@ -11,15 +11,15 @@ use std::alloc::Global;
 use std::marker::Model;
 use tt_base::{Leaf, Subtree, TokenTree, TtFault};
 
-/// A subtree that was entered.
+/// A subtree that a cursor entered.
 #[derive(Clone, Copy)]
 struct Frame {
     header: Subtree,
-    // how many tokens stand behind all that it holds
+    // the number of tokens after all that the subtree holds
     behind: usize,
 }
 
-// Whether so many tokens are all that stand behind the innermost subtree.
+// Returns whether exactly `ahead` tokens follow the innermost subtree.
 fn ends_node(stack: &[Frame], ahead: usize) -> bool
     ensures { result ≡ is_end_of (reverse stack.now) ahead }
 {
@@ -29,12 +29,12 @@ fn ends_node(stack: &[Frame], ahead: usize) -> bool
     }
 }
 
-/// A place in the walk through a list of trees, which goes past each leaf, and into and out of each subtree. It decodes
-/// each token once. Only entering a subtree may take memory, for the stack of those that are open.
+/// A place in a walk through a list of trees. The walk passes each leaf, and goes into and out of each subtree. It decodes each token
+/// once. Only to enter a subtree may take memory, for the stack of the open subtrees.
 #[derive(Drop)]
 pub struct Cursor<'a> {
     origin: TokenTreesView<'a>,
-    // all tokens ahead, those behind the open subtrees too
+    // all tokens ahead, also those after the open subtrees
     ahead: Lookahead<'a>,
     stack: Vec<Frame>,
 }
@@ -56,7 +56,7 @@ impl<'a> Model for Cursor<'a> {
 impl<'a> Cursor<'a> {
     ghost use Rattle.tt_view.specs.Views.{trees_of};
 
-    /// At the start of the walk.
+    /// Returns a cursor at the start of the walk. Takes no memory.
     pub fn new(alloc: Global, origin: TokenTreesView<'a>) -> Cursor<'a>
         ensures { result ≡ begun (trees_of origin.entry) }
     {
@@ -67,28 +67,28 @@ impl<'a> Cursor<'a> {
         }
     }
 
-    // Whether the next place is the end of a subtree.
+    // Returns whether the next place is the end of a subtree.
     fn is_at_close(&self) -> bool
         ensures { result ≡ is_at_close (events_ahead self.now) }
     {
         ends_node(self.stack.as_slice(), self.ahead.len())
     }
 
-    /// Whether the walk is at its end.
+    /// Returns whether the walk is at its end.
     pub fn eof(&self) -> bool
         ensures { result ≡ is_over (events_ahead self.now) }
     {
         self.stack.is_empty() && self.ahead.is_empty()
     }
 
-    /// Whether no subtree is entered.
+    /// Returns whether the cursor is in no subtree.
     pub fn is_root(&self) -> bool
         ensures { result ≡ (open_nodes (events_ahead self.now) == 0) }
     {
         self.stack.is_empty()
     }
 
-    /// The leaf or the header here: `None` at the end of a subtree, and at the end of the walk.
+    /// Returns the leaf or the header at this place, or `None` at the end of a subtree and at the end of the walk.
     pub fn token_tree(&self) -> Option<TokenTree>
         ensures { result ≡ token_at (events_ahead self.now) }
     {
@@ -98,8 +98,9 @@ impl<'a> Cursor<'a> {
         self.ahead.token()
     }
 
-    /// Goes one place on, into a subtree where its header is here. The cursor is not at the end of a subtree: `is_root` is
-    /// true, or `token_tree` gives a token. Else call `end` or `bump_or_end`.
+    /// Goes one place on; if a header is at this place, into its subtree. The cursor is not at the end of a subtree: `is_root` returns
+    /// true, or `token_tree` returns a token. At the end of a subtree, call `end` or `bump_or_end`. At the end of the walk, does nothing.
+    /// Fails, and changes nothing, only if a header is here and memory runs out.
     #[inline(always)]
     pub fn bump(&mut self) -> Result<(), TtFault>
         requires { is_at_close (events_ahead self.old) ≡ false }
@@ -118,7 +119,7 @@ impl<'a> Cursor<'a> {
         Ok(())
     }
 
-    /// Goes one place on, out of a subtree too.
+    /// Goes one place on, at the end of a subtree out of it. Fails as `bump` does.
     #[inline(always)]
     pub fn bump_or_end(&mut self) -> Result<(), TtFault>
         ensures ok { OnOk result (self.new ≡ one_on self.old) }
@@ -133,8 +134,8 @@ impl<'a> Cursor<'a> {
         self.bump()
     }
 
-    /// Goes out of a subtree, at its end, and gives its header. The cursor is there where `token_tree` gives none and
-    /// `eof` is false.
+    /// Goes out of a subtree, and returns its header. The cursor is at the end of a subtree: `token_tree` returns `None`, and `eof`
+    /// returns false.
     pub fn end(&mut self) -> Subtree
         requires { is_at_close (events_ahead self.old) ≡ true }
         ensures header { (events : List Event) × (events_ahead self.old ≡ closes result ∷ events) }
@@ -146,7 +147,8 @@ impl<'a> Cursor<'a> {
         }
     }
 
-    /// The leaf here and the one at the next place, if both are leaves: the end of a subtree between them parts them.
+    /// Returns the leaf at this place and the leaf at the next place, or `None` if one of the two places has no leaf, as at the end of a
+    /// subtree.
     pub fn peek_two_leaves(&self) -> Option<[Leaf; 2]>
         ensures { result ≡ two_leaves_at (events_ahead self.now) }
     {
@@ -161,7 +163,7 @@ impl<'a> Cursor<'a> {
         Some([first, second])
     }
 
-    /// The trees that were passed, outside of every subtree. `is_root` tells whether the cursor is there.
+    /// Returns the trees that the cursor passed. It is in no subtree: `is_root` returns true.
     pub fn crossed(&self) -> TokenTreesView<'a>
         requires { open_nodes (events_ahead self.now) ≡ 0 }
         ensures { walk (trees_of result) ++ events_ahead self.now ≡ walk self.now.origin }
@@ -169,7 +171,7 @@ impl<'a> Cursor<'a> {
         self.origin.before(self.ahead.trees())
     }
 
-    // The trees of all tokens ahead.
+    // Returns all tokens ahead, as trees.
     pub(crate) fn flat_rest(&self) -> TokenTreesView<'a>
         ensures tokens { flat (trees_of result) ≡ tokens_of (events_ahead self.now) }
         ensures left { flat (trees_of result) ≡ flat_left self.now }

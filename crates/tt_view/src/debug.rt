@@ -1,4 +1,4 @@
-//! How trees are printed for programmers: a line for each token.
+//! Writes trees for programmers: a line for each token.
 ghost use Rattle.std.specs.Prelude.{◌≡◌, ◌+◌, ◌≤◌, true, false, Some};
 ghost use Rattle.std.specs.Fmt.{WritesOnOk};
 ghost use Rattle.tt_base.specs.DebugText.{debug, lines_text};
@@ -19,7 +19,7 @@ impl fmt::Debug for TokenTreesView<'_> {
     ghost debug_output = { λ view. Some (debug (trees_of view)) };
 
     fn fmt<W: fmt::Write>(&self, f: &mut fmt::Formatter<W>) -> fmt::Result {
-        // its contract says that the trees have no more tokens than a `usize` can count
+        // the contract of `len` says that a `usize` can count the tokens
         let _len = self.len();
         write_lines(self.iter(), false, 0, f)
     }
@@ -41,7 +41,7 @@ impl fmt::Debug for TopSubtree {
     }
 }
 
-// Writes a line for each token of the trees, which stand at that depth.
+// Writes a line for each token of the trees, which are at that depth.
 #[cycle(write)]
 fn write_lines<W: fmt::Write>(
     mut siblings: TtIter<'_>,
@@ -61,7 +61,7 @@ fn write_lines<W: fmt::Write>(
     Ok(())
 }
 
-// Writes the lines of one tree, of which the first is indented already.
+// Writes the lines of one tree. The first line has its indentation already.
 #[cycle(write)]
 fn write_tree<W: fmt::Write>(
     tree: TtElement<'_>,

@@ -1,4 +1,4 @@
-//! How trees are printed.
+//! Writes trees as a text.
 ghost use Rattle.std.specs.Prelude.{◌≡◌, false, Some};
 ghost use Rattle.std.specs.Fmt.{WritesOnOk};
 ghost use Rattle.tt_base.specs.Forest.{only};

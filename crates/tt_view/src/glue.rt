@@ -1,4 +1,4 @@
-//! Puncts that stand together as one.
+//! Puncts that together make one operator.
 ghost use Rattle.std.specs.Prelude.{◌≡◌, ◌∷◌, [], option_map, IfSome, MatchOption, Some};
 ghost use Rattle.std.specs.Result.{result_ok};
 ghost use Rattle.tt_base.specs.Gluing.{glued, glued_behind, glued_two, after_trees, passed_by, is_one_of, twos, threes};
@@ -7,10 +7,10 @@ use crate::iter::TtIter;
 use arrayvec::ArrayVec;
 use tt_base::{Punct, Spacing};
 
-/// How many puncts stand together as one at most.
+/// The largest number of puncts in one operator.
 pub const MAX_GLUED_PUNCT_LEN: usize = 3;
 
-// Three characters that stand as one.
+// The operators of three puncts.
 const THREES: [[char; 3]; 4] = [
     ['.', '.', '.'],
     ['.', '.', '='],
@@ -18,7 +18,7 @@ const THREES: [[char; 3]; 4] = [
     ['>', '>', '='],
 ];
 
-// Two that do.
+// The operators of two puncts.
 const TWOS: [[char; 2]; 21] = [
     ['-', '='],
     ['!', '='],
@@ -43,7 +43,7 @@ const TWOS: [[char; 2]; 21] = [
     ['|', '|'],
 ];
 
-// Whether the table has the characters of two puncts.
+// Returns whether the characters of two puncts are an operator.
 fn is_two(first: &Punct, second: &Punct) -> bool
     ensures { result ≡ is_one_of twos (first.now.char ∷ second.now.char ∷ []) }
 {
@@ -51,7 +51,7 @@ fn is_two(first: &Punct, second: &Punct) -> bool
     TWOS.contains(&[first, second])
 }
 
-// Whether the table has the characters of three puncts.
+// Returns whether the characters of three puncts are an operator.
 fn is_three(first: &Punct, second: &Punct, third: &Punct) -> bool
     ensures { result ≡ is_one_of threes (first.now.char ∷ second.now.char ∷ third.now.char ∷ []) }
 {
@@ -62,8 +62,8 @@ fn is_three(first: &Punct, second: &Punct, third: &Punct) -> bool
 impl<'a> TtIter<'a> {
     ghost use Rattle.tt_view.specs.Iters.{rest_of, steps_of_iter, steps_after, PassesOne};
 
-    /// Takes the puncts that stand as one: two or three that the tables have, and else the first alone. No other is
-    /// passed; an element that is no punct is, as by every expectation (docs/FORMATS.md, "Puncts that stand as one").
+    /// Takes the puncts of the next operator, and returns them: two or three that are in the tables, otherwise the first punct alone
+    /// (docs/FORMATS.md, "Puncts of one operator"). If the next element is no punct, takes it and returns an error.
     pub fn expect_glued_punct(&mut self) -> Result<ArrayVec<Punct, MAX_GLUED_PUNCT_LEN>, ()>
         ensures answer { option_map (λ puncts. puncts.items) (result_ok result) ≡ glued (rest_of self.old) }
         ensures rest { rest_of self.new ≡ after_trees (passed_by (glued (rest_of self.old))) (rest_of self.old) }
@@ -93,7 +93,7 @@ impl<'a> TtIter<'a> {
         Ok(puncts)
     }
 
-    // Behind two puncts: a third that stands as one with them, and the iterator behind it.
+    // After two puncts, returns a third that makes one operator with them, and the iterator after it.
     fn third_of(&self, first: &Punct, second: &Punct) -> Option<(Punct, TtIter<'a>)>
         ensures third { MatchOption result (glued_behind first.now (Some second.now) (rest_of self.now) ≡ glued_two first.now second.now) (λ found. glued_behind first.now (Some second.now) (rest_of self.now) ≡ first.now ∷ second.now ∷ found.0 ∷ []) }
         ensures passes { IfSome result (λ found. PassesOne self.now found.1) }

@@ -1,4 +1,4 @@
-//! The trees of a list one by one.
+//! An iterator over the trees of a list.
 ghost use Rattle.std.specs.Prelude.{◌≡◌, IfSome, MatchOption, Some, None, false, option_map};
 ghost use Rattle.tt_base.specs.Forest.{Forest, end, join, flat, IsWhole};
 ghost use Rattle.tt_base.specs.Walk.{events_ahead, tokens_of, flat_left};
@@ -10,7 +10,7 @@ use crate::cursor::Cursor;
 use crate::view::TokenTreesView;
 use tt_base::{Leaf, Span, Subtree, TokenTree};
 
-/// The trees of a list one by one. To pass one, whatever its size, decodes one token.
+/// An iterator over the trees of a list. It decodes one token for each tree that it passes, whatever the size of the tree.
 #[derive(Debug, Clone, Drop)]
 pub struct TtIter<'a> {
     inner: TokenTreesView<'a>,
@@ -24,7 +24,7 @@ pub enum TtElement<'a> {
     Subtree(Subtree, TtIter<'a>),
 }
 
-/// What an iterator had left.
+/// The trees that an iterator had left.
 #[derive(Clone, Copy)]
 pub struct TtIterSavepoint<'a>(TokenTreesView<'a>);
 
@@ -48,7 +48,7 @@ impl<'a> Iterator for TtIter<'a> {
 impl<'a> TtElement<'a> {
     ghost use Rattle.tt_view.specs.Iters.{tree_of};
 
-    /// A leaf's span, or a header's open span.
+    /// Returns a leaf's span, or a header's open span.
     pub fn first_span(&self) -> Span
         ensures { result ≡ tree_span (tree_of self.now) }
     {
@@ -63,7 +63,7 @@ impl<'a> TtIterSavepoint<'a> {
     ghost use Rattle.tt_view.specs.Iters.{saved_of};
     ghost use Rattle.tt_view.specs.Views.{trees_of};
 
-    /// What the iterator had left.
+    /// Returns the trees that the iterator had left.
     pub fn remaining(self) -> TokenTreesView<'a>
         ensures { trees_of result ≡ saved_of self.entry }
     {
@@ -81,14 +81,14 @@ impl<'a> TtIter<'a> {
         TtIter { inner }
     }
 
-    // A second iterator at the same place.
+    // Returns a second iterator at the same place.
     pub(crate) fn fork(&self) -> TtIter<'a>
         ensures { result ≡ self.now }
     {
         TtIter { inner: self.inner }
     }
 
-    // `next`, with all that it promises as a clause.
+    // The same as `next`; its contract is a clause.
     #[inline(always)]
     pub(crate) fn take_element(&mut self) -> Option<TtElement<'a>>
         ensures { GivesSibling self.old result self.new }
@@ -100,51 +100,51 @@ impl<'a> TtIter<'a> {
         })
     }
 
-    /// How many tokens were decoded on the way here; the count stays at its largest.
+    /// Returns how many tokens were decoded on the way to this place. The count stays at the largest `u64` once it is that.
     pub fn steps(&self) -> u64
         ensures { result ≡ steps_of_iter self.now }
     {
         self.inner.steps()
     }
 
-    /// What `next` would give.
+    /// Returns the element that `next` would return, and takes nothing.
     pub fn peek(&self) -> Option<TtElement<'a>>
         ensures { IsFirstElement (rest_of self.now) result }
     {
         self.fork().take_element()
     }
 
-    /// Whether no tree is left.
+    /// Returns whether no tree is left.
     pub fn is_empty(&self) -> bool
         ensures { result ≡ is_end (rest_of self.now) }
     {
         self.inner.is_empty()
     }
 
-    /// The first span of what `next` would give.
+    /// Returns the first span of the element that `next` would return.
     pub fn next_span(&self) -> Option<Span>
         ensures { result ≡ option_map token_span (first_token (rest_of self.now)) }
     {
         self.inner.first_span()
     }
 
-    /// The trees that are left.
+    /// Returns the trees that are left.
     pub fn remaining(&self) -> TokenTreesView<'a>
         ensures { trees_of result ≡ rest_of self.now }
     {
         self.inner
     }
 
-    /// This place, for `from_savepoint`.
+    /// Returns this place, for `from_savepoint`.
     pub fn savepoint(&self) -> TtIterSavepoint<'a>
         ensures { saved_of result ≡ rest_of self.now }
     {
         TtIterSavepoint(self.inner)
     }
 
-    /// The trees between a savepoint and here, which stands behind none, one or more of its trees. It does where this
-    /// iterator, or the one that it is a clone of, passed siblings alone since then: by `next`, `next_as_view` and the
-    /// `expect_` calls.
+    /// Returns the trees between a savepoint and this place. This place is after none, one or more of the trees that were left at the
+    /// savepoint. That is so if this iterator, or the one that it is a clone of, passed only siblings since then: by `next`,
+    /// `next_as_view` and the `expect_` calls.
     pub fn from_savepoint(&self, savepoint: TtIterSavepoint<'a>) -> TokenTreesView<'a>
         requires { (given : Forest) × (saved_of savepoint ≡ join given (rest_of self.now)) }
         ensures { join (trees_of result) (rest_of self.now) ≡ saved_of savepoint.entry }
@@ -152,7 +152,7 @@ impl<'a> TtIter<'a> {
         savepoint.0.before(self.inner)
     }
 
-    /// The next tree, as a list of one.
+    /// Takes the next tree, and returns it as a list of one.
     pub fn next_as_view(&mut self) -> Option<TokenTreesView<'a>>
         ensures first { MatchOption result (rest_of self.old ≡ end) (λ view. trees_of view ≡ first_tree (rest_of self.old)) }
         ensures some { IfSome result (λ _. is_end (rest_of self.old) ≡ false) }
@@ -164,8 +164,8 @@ impl<'a> TtIter<'a> {
         Some(whole.before(self.inner))
     }
 
-    /// Goes to the cursor's place: what is left are all tokens ahead of it, those behind the subtrees that it is in too.
-    /// These are whole trees, wherever the cursor stands.
+    /// Goes to the cursor's place. All tokens ahead of the cursor are then left, also those after the subtrees that it is in. These are
+    /// whole trees at any place of the cursor.
     pub fn flat_advance_to(&mut self, cursor: &Cursor<'a>)
         ensures left { flat (rest_of self.new) ≡ flat_left cursor.now }
         ensures tokens { flat (rest_of self.new) ≡ tokens_of (events_ahead cursor.now) }

@@ -1,4 +1,4 @@
-//! Token trees: one that is stored whole, borrowed views of its parts, and the iterators that read them.
+//! Stored token trees, borrowed views of their parts, and the iterators that read them.
 #![tactic(auto)]
 
 mod cursor;

@@ -1,4 +1,4 @@
-//! The tokens ahead of a cursor, of which the first is decoded.
+//! The tokens ahead of a cursor. The first one is decoded.
 ghost use Rattle.std.specs.Prelude.{◌≡◌, MatchOption, Some};
 ghost use Rattle.tt_base.specs.Forest.{size};
 ghost use Rattle.tt_base.specs.Moves.{first_token, after_token};
@@ -11,12 +11,12 @@ use crate::view::TokenTreesView;
 use std::marker::Model;
 use tt_base::{Leaf, Subtree, TokenTree};
 
-/// All tokens ahead. The first of them is kept, so that it is decoded once, however often it is looked at.
+/// All tokens ahead of a cursor. It keeps the first one, and so decodes it once, however many calls read it.
 #[derive(Drop)]
 pub(crate) struct Lookahead<'a> {
     trees: TokenTreesView<'a>,
     first: Option<TokenTree>,
-    // what follows the first token
+    // the tokens after the first
     rest: TokenTreesView<'a>,
 }
 
@@ -37,7 +37,7 @@ impl<'a> Model for Lookahead<'a> {
     ghost invariant = { KeepsFirst };
 }
 
-// The other arm is proved not to be reached, so this takes no memory.
+// Returns a copy of the token. Takes no memory: the proof shows that the arm that would take some is never reached.
 #[inline(always)]
 fn copy_of(token: &TokenTree) -> TokenTree
     ensures { result ≡ token.now }
@@ -59,35 +59,35 @@ impl<'a> Lookahead<'a> {
         Lookahead { trees, first, rest }
     }
 
-    /// All tokens, as trees.
+    /// Returns all tokens, as trees.
     pub(crate) fn trees(&self) -> TokenTreesView<'a>
         ensures { trees_of result ≡ self.now }
     {
         self.trees
     }
 
-    /// How many tokens are ahead.
+    /// Returns the number of tokens.
     pub(crate) fn len(&self) -> usize
         ensures { result ≡ size self.now }
     {
         self.trees.len()
     }
 
-    /// Whether none is.
+    /// Returns whether there is no token.
     pub(crate) fn is_empty(&self) -> bool
         ensures { result ≡ is_end self.now }
     {
         self.trees.is_empty()
     }
 
-    /// The first token.
+    /// Returns the first token.
     pub(crate) fn token(&self) -> Option<TokenTree>
         ensures { result ≡ first_token self.now }
     {
         self.first.as_ref().map(copy_of)
     }
 
-    /// The first token, if it is a header.
+    /// Returns the first token if it is a header.
     pub(crate) fn header(&self) -> Option<Subtree>
         ensures { MatchOption result ((it : Subtree) → first_token self.now ≡ Some (token.Subtree it) → ⊥) (λ header. first_token self.now ≡ Some (token.Subtree header)) }
     {
@@ -97,7 +97,7 @@ impl<'a> Lookahead<'a> {
         }
     }
 
-    /// The first token, if it is a leaf, and the trees that follow it.
+    /// Returns the first token if it is a leaf, and the trees after it.
     pub(crate) fn leaf(&self) -> Option<(Leaf, TokenTreesView<'a>)>
         ensures { MatchOption result ((it : Leaf) → first_token self.now ≡ Some (token.Leaf it) → ⊥) (λ found. (first_token self.now ≡ Some (token.Leaf found.0)) × (trees_of found.1 ≡ after_token self.now)) }
     {

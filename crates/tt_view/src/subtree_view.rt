@@ -1,4 +1,4 @@
-//! One subtree of a stored tree.
+//! A view of one subtree of a stored tree.
 ghost use Rattle.std.specs.Prelude.{◌≡◌, Some, if◌then◌else◌};
 ghost use Rattle.tt_base.specs.Forest.{only, size};
 ghost use Rattle.tt_view.specs.Cuts.{HoldsRoot, HoldsRoot-prop};
@@ -9,10 +9,10 @@ use crate::iter::TtIter;
 use crate::view::TokenTreesView;
 use tt_base::{DelimiterKind, Subtree, TokenTree};
 
-/// One subtree.
+/// A view of one subtree.
 #[derive(Clone, Copy)]
 pub struct SubtreeView<'a> {
-    // the list of which it is the only tree
+    // the list whose only tree is the subtree
     whole: TokenTreesView<'a>,
     pub ghost root: { HoldsRoot (trees_of whole) } by { HoldsRoot-prop (trees_of whole) },
 }
@@ -28,14 +28,14 @@ impl<'a> SubtreeView<'a> {
         SubtreeView { whole }
     }
 
-    /// The subtree, as a list of one.
+    /// Returns the subtree as a list of one.
     pub fn as_token_trees(self) -> TokenTreesView<'a>
         ensures { trees_of result ≡ only (root_of self.entry) }
     {
         self.whole
     }
 
-    // The header, and the trees below it.
+    // Returns the header, and the trees below it.
     fn parts(self) -> (Subtree, TokenTreesView<'a>)
         ensures delimiter { result.0.delimiter ≡ (root_of self.entry).delimiter }
         ensures len { result.0.len ≡ size (root_of self.entry).children }
@@ -48,7 +48,7 @@ impl<'a> SubtreeView<'a> {
         }
     }
 
-    /// Its header.
+    /// Returns the header.
     pub fn top_subtree(&self) -> Subtree
         ensures delimiter { result.delimiter ≡ (root_of self.now).delimiter }
         ensures len { result.len ≡ size (root_of self.now).children }
@@ -56,21 +56,21 @@ impl<'a> SubtreeView<'a> {
         self.parts().0
     }
 
-    /// The trees below the header.
+    /// Returns the trees below the header.
     pub fn token_trees(&self) -> TokenTreesView<'a>
         ensures { trees_of result ≡ (root_of self.now).children }
     {
         self.parts().1
     }
 
-    /// The trees below the header one by one.
+    /// Returns an iterator over the trees below the header.
     pub fn iter(&self) -> TtIter<'a>
         ensures { rest_of result ≡ (root_of self.now).children }
     {
         self.token_trees().iter()
     }
 
-    /// What it holds if it is invisible, else a list of it alone.
+    /// Returns the trees below the header if the subtree is invisible, otherwise the subtree as a list of one.
     pub fn strip_invisible(&self) -> TokenTreesView<'a>
         ensures { trees_of result ≡ stripped (only (root_of self.now)) }
     {

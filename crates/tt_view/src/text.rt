@@ -1,4 +1,4 @@
-//! What is written round subtrees and between siblings.
+//! The text around subtrees and between siblings.
 ghost use Rattle.std.specs.Prelude.{◌≡◌};
 ghost use Rattle.tt_base.specs.TreeText.{opening_text, closing_text, space_if, space_after};
 ghost use Rattle.tt_view.specs.Iters.{tree_of};
@@ -8,23 +8,23 @@ ghost use Rattle.tt_view.specs.SpaceRules.{lets_of};
 use crate::iter::TtElement;
 use tt_base::{DelimiterKind, Leaf, Spacing};
 
-/// Which puncts take away the space behind them.
+/// Which puncts have no space after them.
 #[derive(Clone, Copy)]
 pub enum SpaceRule {
-    /// Those that are joint or joint hidden, as in Display.
+    /// Joint and joint hidden puncts, as in `Display`.
     Display,
-    /// Those that are joint, as in `pretty`.
+    /// Joint puncts, as in `pretty`.
     Pretty,
 }
 
-/// One space if one is due.
+/// Returns one space if one is due, otherwise nothing.
 pub fn space(due: bool) -> &'static str
     ensures { result.now ≡ space_if due }
 {
     if due { " " } else { "" }
 }
 
-/// Whether a space may stand after the leaf.
+/// Returns whether a space may follow the leaf.
 pub fn leaf_lets_space(rule: SpaceRule, leaf: &Leaf) -> bool
     ensures { result ≡ space_after (lets_of rule) leaf.now }
 {
@@ -37,7 +37,7 @@ pub fn leaf_lets_space(rule: SpaceRule, leaf: &Leaf) -> bool
     }
 }
 
-/// Whether Display lets a space stand after the sibling.
+/// Returns whether `Display` may write a space after the sibling.
 pub(crate) fn lets_space(sibling: &TtElement<'_>) -> bool
     ensures { result ≡ space_after_tree (tree_of sibling.now) }
 {
@@ -47,7 +47,7 @@ pub(crate) fn lets_space(sibling: &TtElement<'_>) -> bool
     }
 }
 
-/// What opens a subtree of that kind.
+/// Returns the text that opens a subtree of that kind.
 pub fn opening(kind: DelimiterKind) -> &'static str
     ensures { result.now ≡ opening_text kind }
 {
@@ -59,7 +59,7 @@ pub fn opening(kind: DelimiterKind) -> &'static str
     }
 }
 
-/// What closes it.
+/// Returns the text that closes a subtree of that kind.
 pub fn closing(kind: DelimiterKind) -> &'static str
     ensures { result.now ≡ closing_text kind }
 {

@@ -1,4 +1,4 @@
-//! A token tree that is stored whole.
+//! A stored token tree.
 ghost use Rattle.std.specs.Prelude.{◌≡◌, ◌<◌, ◌≤◌, ◌+◌, ◌*◌, ◌-◌, ◌^◌, ◌∷◌, suc, length, drop, take, ◌↔◌, IsTrue, IfOk, IfErr, bytes_eq};
 ghost use Rattle.std.proofs.Common.{rules, ap};
 ghost use Rattle.std.specs.Cmp.Rules.{comparing};
@@ -37,8 +37,8 @@ use tt_base::{
 use tt_interned::CountedTokens;
 use tt_pack::Packed;
 
-/// A token tree: a delimiter and the trees inside. A contract sees the tree. It is stored as bytes and two tables,
-/// which are a function of it (docs/FORMATS.md).
+/// A token tree: a delimiter and the trees inside. A contract sees the tree. Memory has it as bytes and two tables, which are a function
+/// of the tree (docs/FORMATS.md).
 #[derive(Drop)]
 pub struct TopSubtree {
     packed: Packed,
@@ -60,7 +60,7 @@ impl TopSubtree {
     ghost use Rattle.tt_view.specs.SubtreeViews.{root_of};
     ghost use Rattle.tt_view.specs.Iters.{rest_of};
 
-    /// An invisible delimiter with those spans, and nothing inside.
+    /// Returns the tree with an invisible delimiter, these spans, and nothing inside. Fails only if memory runs out.
     pub fn empty(alloc: Global, span: DelimSpan) -> Result<TopSubtree, TtFault>
         ensures ok { IfOk result (λ tree. tree ≡ under (delimiter Invisible span.open_span span.close) end) }
         ensures limits { IfOk result (λ tree. IsWithinLimits tree) }
@@ -75,7 +75,8 @@ impl TopSubtree {
         Ok(TopSubtree { packed })
     }
 
-    /// Leaves under an invisible delimiter, both spans of which are the given one.
+    /// Returns the tree of these leaves under an invisible delimiter, both spans of which are `span`. Fails if the tree exceeds a limit
+    /// (`docs/FORMATS.md`), or if memory runs out.
     pub fn invisible_from_leaves<const N: usize>(
         alloc: Global,
         span: Span,
@@ -101,8 +102,8 @@ impl TopSubtree {
         Ok(TopSubtree { packed })
     }
 
-    /// The tree of a flat list. A list is refused where it is not that of one subtree, has too many span parts, too
-    /// many symbols or too many bytes, in this order, or where memory is refused; it is then handed back.
+    /// Returns the tree of a flat list. Fails if the list is not that of exactly one subtree, or has too many span parts, too many
+    /// symbols or too many bytes, in this order, or if memory runs out. A failure returns the list.
     pub fn from_serialized(
         alloc: Global,
         tokens: Vec<TokenTree>,
@@ -116,7 +117,7 @@ impl TopSubtree {
         Packed::pack(alloc, tokens).map(TopSubtree::from_packed)
     }
 
-    /// The tree of a flat list that stays with the caller, refused where `from_serialized` refuses it.
+    /// Returns the tree of a flat list that stays with the caller. Fails as `from_serialized` does.
     pub fn from_tokens(alloc: Global, tokens: &[TokenTree]) -> Result<TopSubtree, TtFault>
         ensures ok { IfOk result (λ tree. tokens.now ≡ flat_root tree) }
         ensures counts { IfOk result (λ tree. size tree.children ≤ most_tokens) }
@@ -127,8 +128,8 @@ impl TopSubtree {
         Ok(TopSubtree { packed })
     }
 
-    /// The tree of tokens that name values by places, under a top of that delimiter. It is refused where
-    /// `from_serialized` refuses its flat list.
+    /// Returns the tree of tokens that name values by places, under a top of that delimiter. Fails as `from_serialized` does for the flat
+    /// list of that tree.
     pub fn from_interned(
         alloc: Global,
         top: Delimiter,
@@ -145,7 +146,7 @@ impl TopSubtree {
         Ok(TopSubtree { packed })
     }
 
-    /// The same of tokens that are those of one node, whose header becomes the top.
+    /// Returns the tree of tokens that are those of one subtree, whose header becomes the top. Fails as `from_serialized` does.
     pub fn from_interned_node(
         alloc: Global,
         tokens: CountedTokens<'_>,
@@ -162,7 +163,7 @@ impl TopSubtree {
         Ok(TopSubtree { packed })
     }
 
-    /// The trees of a list, under that delimiter.
+    /// Returns the trees of a list under that delimiter. Fails if the tree exceeds a limit (`docs/FORMATS.md`), or if memory runs out.
     pub fn from_token_trees(
         alloc: Global,
         delimiter: Delimiter,
@@ -182,7 +183,7 @@ impl TopSubtree {
         Ok(TopSubtree { packed })
     }
 
-    /// One subtree, as a tree of its own.
+    /// Returns one subtree as a tree of its own. Fails if that tree exceeds a limit (`docs/FORMATS.md`), or if memory runs out.
     pub fn from_subtree(alloc: Global, subtree: SubtreeView<'_>) -> Result<TopSubtree, TtFault>
         ensures ok { IfOk result (λ tree. tree ≡ root_of subtree.entry) }
         ensures limits { IfOk result (λ tree. IsWithinLimits tree) }
@@ -192,14 +193,14 @@ impl TopSubtree {
         TopSubtree::from_token_trees(alloc, delimiter, subtree.token_trees())
     }
 
-    /// The tree that is meant by what is stored.
+    /// Returns the tree that the stored form means.
     pub fn from_packed(packed: Packed) -> TopSubtree
         ensures { result ≡ packed }
     {
         TopSubtree { packed }
     }
 
-    /// The same tree, stored once more.
+    /// Returns the same tree, stored again. Fails only if memory runs out.
     pub fn clone(&self, alloc: Global) -> Result<TopSubtree, TtFault>
         ensures ok { IfOk result (λ copy. copy ≡ self.now) }
         ensures err { IfErr result (λ fault. fault ≡ Memory) }
@@ -208,28 +209,28 @@ impl TopSubtree {
         Ok(TopSubtree { packed })
     }
 
-    /// The whole tree.
+    /// Returns a view of the whole tree.
     pub fn view(&self) -> SubtreeView<'_>
         ensures { root_of result ≡ self.now }
     {
         SubtreeView::of_one(TokenTreesView::whole(&self.packed))
     }
 
-    /// The whole tree, as a list of one.
+    /// Returns the whole tree as a list of one.
     pub fn as_token_trees(&self) -> TokenTreesView<'_>
         ensures { trees_of result ≡ only self.now }
     {
         TokenTreesView::whole(&self.packed)
     }
 
-    /// The trees below its header.
+    /// Returns the trees below the top.
     pub fn token_trees(&self) -> TokenTreesView<'_>
         ensures { trees_of result ≡ self.now.children }
     {
         TokenTreesView::below_top(&self.packed)
     }
 
-    /// Its header.
+    /// Returns the top's header.
     pub fn top_subtree(&self) -> Subtree
         ensures delimiter { result.delimiter ≡ self.now.delimiter }
         ensures len { result.len ≡ size self.now.children }
@@ -237,15 +238,15 @@ impl TopSubtree {
         self.view().top_subtree()
     }
 
-    /// The trees below its header one by one.
+    /// Returns an iterator over the trees below the top.
     pub fn iter(&self) -> TtIter<'_>
         ensures { rest_of result ≡ self.now.children }
     {
         self.token_trees().iter()
     }
 
-    /// The stored bytes: 33 of the top header, and then 5 to 33 of each token below it. Of the formats that can hold
-    /// a header below the top, none is shorter than its own.
+    /// Returns the stored bytes: 33 for the top's header, then 5 to 33 for each token below it. Each header below the top has the
+    /// shortest format that can hold it.
     pub fn packed_bytes(&self) -> &[u8]
         ensures value { result.now ≡ (packed self.now).bytes }
         ensures range { IsInRange self.now }
@@ -257,8 +258,8 @@ impl TopSubtree {
         self.packed.bytes()
     }
 
-    /// The span parts used below the top, and then the two of the top's spans. More than 15 stand by falling number of
-    /// uses, ties by first use.
+    /// Returns the span parts that the tokens below the top use, and then the two of the top's spans. If the tokens use more than 15,
+    /// those are ordered by number of uses, the largest first, and then by first use; otherwise by first use.
     pub fn span_part_table(&self) -> &[SpanPart]
         ensures value { result.now ≡ (packed self.now).parts }
         ensures table { IsTable same_part short_parts (part_uses (flat self.now.children)) (take (length result.now - 2) result.now) }
@@ -266,8 +267,8 @@ impl TopSubtree {
         self.packed.parts()
     }
 
-    /// The symbols used. More than 63 stand by falling number of uses, ties by first use: in no other order do the
-    /// references to them take fewer bytes.
+    /// Returns the symbols that the tokens use. If there are more than 63, they are ordered by number of uses, the largest first, and
+    /// then by first use; otherwise by first use. In no other order do the references to them take fewer bytes.
     pub fn symbol_table(&self) -> &[Symbol]
         ensures value { result.now ≡ (packed self.now).symbols }
         ensures table { IsTable bytes_eq short_symbols (symbol_uses (flat self.now.children)) result.now }

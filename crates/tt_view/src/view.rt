@@ -1,4 +1,4 @@
-//! A list of trees in a stored tree.
+//! A view of a list of trees in a stored tree.
 ghost use Rattle.std.specs.Prelude.{◌≡◌, ◌+◌, ◌-◌, ◌^◌, ◌<◌, min, ℕ, IfSome, MatchOption, Some, None, option_map, slice_get, false};
 ghost use Rattle.tt_base.specs.Forest.{Forest, end, only, size, join, flat};
 ghost use Rattle.tt_base.specs.Token.{first_span as token_span};
@@ -22,16 +22,16 @@ use std::alloc::Global;
 use tt_base::{Leaf, Span, TokenTree};
 use tt_pack::{Packed, Reader};
 
-/// A list of trees: whole trees that stand one behind the other in a stored tree.
+/// A view of a list of trees, which follow one another in a stored tree.
 #[derive(Clone, Copy)]
 pub struct TokenTreesView<'a> {
     reader: Reader<'a>,
-    // how many tokens the trees have
+    // the number of tokens of the trees, at any depth
     len: usize,
     pub ghost trees: { HoldsTrees (ahead_of reader) len } by { HoldsTrees-prop (ahead_of reader) len },
 }
 
-// How many tokens a header says are below it.
+// Returns the number of tokens below a token, by its header; 0 for a leaf.
 fn count_below(token: &TokenTree) -> usize
     ensures { result ≡ count_below token.now }
 {
@@ -41,7 +41,7 @@ fn count_below(token: &TokenTree) -> usize
     }
 }
 
-// A leaf's span, or a header's close span.
+// Returns a leaf's span, or a header's close span.
 fn close_span(token: &TokenTree) -> Span
     ensures { result ≡ close_span token.now }
 {
@@ -57,7 +57,7 @@ impl<'a> TokenTreesView<'a> {
     ghost use Rattle.tt_view.specs.Iters.{rest_of};
     ghost use Rattle.tt_view.specs.Pieces.{left_in, is_done, asks_by};
 
-    /// No trees.
+    /// Returns the empty list.
     pub fn empty() -> TokenTreesView<'a>
         ensures { trees_of result ≡ end }
     {
@@ -67,7 +67,7 @@ impl<'a> TokenTreesView<'a> {
         }
     }
 
-    // A whole stored tree.
+    // Returns a whole stored tree as a list of one.
     pub(crate) fn whole(packed: &'a Packed) -> TokenTreesView<'a>
         ensures { trees_of result ≡ only packed.now }
     {
@@ -77,7 +77,7 @@ impl<'a> TokenTreesView<'a> {
         }
     }
 
-    // What a stored tree holds below its top, whose header is not decoded.
+    // Returns the trees below the top of a stored tree, without decoding the top's header.
     pub(crate) fn below_top(packed: &'a Packed) -> TokenTreesView<'a>
         ensures { trees_of result ≡ packed.now.children }
     {
@@ -87,49 +87,49 @@ impl<'a> TokenTreesView<'a> {
         }
     }
 
-    /// How many tokens the trees have, at any depth.
+    /// Returns the number of tokens of the trees, at any depth.
     pub fn len(&self) -> usize
         ensures { result ≡ size (trees_of self.now) }
     {
         self.len
     }
 
-    /// Whether there is no tree.
+    /// Returns whether there is no tree.
     pub fn is_empty(&self) -> bool
         ensures { result ≡ is_end (trees_of self.now) }
     {
         self.len == 0
     }
 
-    // How many tokens were decoded on the way here.
+    // Returns how many tokens were decoded on the way to this list.
     pub(crate) fn steps(&self) -> u64
         ensures { result ≡ steps_of_view self.now }
     {
         self.reader.steps()
     }
 
-    /// The trees one by one.
+    /// Returns an iterator over the trees.
     pub fn iter(&self) -> TtIter<'a>
         ensures { rest_of result ≡ trees_of self.now }
     {
         TtIter::over(*self)
     }
 
-    /// A cursor at the start of the walk through the trees.
+    /// Returns a cursor at the start of the walk through the trees. Takes no memory.
     pub fn cursor(&self, alloc: Global) -> Cursor<'a>
         ensures { result ≡ begun (trees_of self.now) }
     {
         Cursor::new(alloc, *self)
     }
 
-    /// The tokens one by one, each header before all that it holds.
+    /// Returns an iterator over the tokens, each header before all that its subtree holds.
     pub fn iter_flat_tokens(&self) -> FlatTokens<'a>
         ensures { flat_rest result ≡ trees_of self.now }
     {
         FlatTokens::over(*self)
     }
 
-    /// The pieces between the trees of which `is_separator` answers true.
+    /// Returns an iterator over the pieces between the trees for which `is_separator` returns true.
     pub fn split<F: FnMut(TtElement<'a>) -> bool + Drop>(self, is_separator: F) -> Split<'a, F>
         ensures rest { left_in result ≡ trees_of self.entry }
         ensures done { is_done result ≡ false }
@@ -138,7 +138,7 @@ impl<'a> TokenTreesView<'a> {
         Split::over(self.iter(), is_separator)
     }
 
-    /// The one subtree that the list is, if it is one.
+    /// Returns the subtree if the list is exactly one subtree.
     pub fn try_into_subtree(self) -> Option<SubtreeView<'a>>
         ensures { option_map root_of result ≡ one_root (trees_of self.entry) }
     {
@@ -156,7 +156,7 @@ impl<'a> TokenTreesView<'a> {
         }
     }
 
-    /// What the one invisible subtree holds that the list is; any other list as it is.
+    /// Returns the trees inside if the list is exactly one invisible subtree, otherwise the list itself.
     pub fn strip_invisible(self) -> TokenTreesView<'a>
         ensures { trees_of result ≡ stripped (trees_of self.entry) }
     {
@@ -166,7 +166,7 @@ impl<'a> TokenTreesView<'a> {
         }
     }
 
-    /// The span of the first token.
+    /// Returns the first span of the first token, or `None` for the empty list.
     pub fn first_span(&self) -> Option<Span>
         ensures { result ≡ option_map token_span (first_token (trees_of self.now)) }
     {
@@ -175,7 +175,8 @@ impl<'a> TokenTreesView<'a> {
         Some(token.first_span())
     }
 
-    /// The last leaf's span, or the closing span of an empty subtree where one comes last.
+    /// Returns the span of the last token if it is a leaf, or its close span if it is a header, whose subtree is then empty. Returns
+    /// `None` for the empty list.
     pub fn last_span(&self) -> Option<Span>
         ensures { result ≡ last_span_of (trees_of self.now) }
     {
@@ -190,7 +191,7 @@ impl<'a> TokenTreesView<'a> {
         last
     }
 
-    // The trees before `rest`, with which the list ends.
+    // Returns the trees before `rest`. The list ends in `rest`.
     pub(crate) fn before(self, rest: TokenTreesView<'a>) -> TokenTreesView<'a>
         requires { (given : Forest) × (trees_of self ≡ join given (trees_of rest)) }
         ensures { join (trees_of result) (trees_of rest.entry) ≡ trees_of self.entry }
@@ -201,8 +202,8 @@ impl<'a> TokenTreesView<'a> {
         }
     }
 
-    // Takes the first token. What follows it is left, and the trees that it holds come first. A `?` in place of the `else`
-    // would have the token copied once more.
+    // Takes and returns the first token. The trees below it are then the first ones left. With `?` in place of the `else`, the code would
+    // copy the token once more.
     #[inline(always)]
     pub(crate) fn next_token(&mut self) -> Option<TokenTree>
         ensures token { result ≡ first_token (trees_of self.old) }
@@ -218,7 +219,7 @@ impl<'a> TokenTreesView<'a> {
         Some(token)
     }
 
-    // The token at a place of the flat list. Trees that end before it are passed, each by decoding one token.
+    // Returns the token at a place of the flat list. Passes each tree that ends before that place by decoding one token.
     pub(crate) fn token_at(self, place: usize) -> Option<TokenTree>
         ensures { result ≡ slice_get (flat (trees_of self.entry)) place }
     {
@@ -238,7 +239,7 @@ impl<'a> TokenTreesView<'a> {
         None
     }
 
-    // Takes the first tree, and gives its token and the trees that this holds.
+    // Takes the first tree, and returns its token and the trees below it.
     #[inline(always)]
     pub(crate) fn next_tree(&mut self) -> Option<(TokenTree, TokenTreesView<'a>)>
         ensures tree { MatchOption result (trees_of self.old ≡ end) (λ found. (first_token (trees_of self.old) ≡ Some found.0) × (trees_of found.1 ≡ children_of (trees_of self.old))) }
@@ -254,7 +255,7 @@ impl<'a> TokenTreesView<'a> {
         Some((token, TokenTreesView { reader: below, len }))
     }
 
-    // The first token, if it is a leaf, and the trees that follow it.
+    // Returns the first token if it is a leaf, and the trees after it.
     pub(crate) fn flat_leaf(self) -> Option<(Leaf, TokenTreesView<'a>)>
         ensures { MatchOption result ((it : Leaf) → first_token (trees_of self.entry) ≡ Some (token.Leaf it) → ⊥) (λ found. (first_token (trees_of self.entry) ≡ Some (token.Leaf found.0)) × (trees_of found.1 ≡ after_token (trees_of self.entry))) }
     {

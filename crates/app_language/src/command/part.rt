@@ -13,13 +13,13 @@ use crate::digits::Digits;
 use crate::many::Many;
 use tt_base::{Leaf, Symbol, Texts, TokenTree, TtFault, new_symbol};
 
-/// The values that the pieces behind the first word of a line spell.
+/// The values that the pieces after the first word of a line spell.
 pub trait Part: Sized {
     ghost pieces: { Self → List (List ℕ) };
 
     ghost fits: { Self → Type 0 };
 
-    /// Reads the values that the text spells, each piece behind a space.
+    /// Reads the values that the text spells, each piece after a space.
     fn read(texts: &mut Texts, text: &[u8]) -> Result<Option<Self>, TtFault>
         ensures reads { IfOk result (ReadsPieces pieces fits text.now) }
         ensures err { IfErr result (λ fault. fault ≡ Memory) };

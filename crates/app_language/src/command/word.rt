@@ -14,7 +14,7 @@ pub trait Word: Sized {
 
     ghost has_no_space: { (value : Self) → fits value → Lacks 32 (spelling value) };
 
-    /// Reads the value of the first word, and returns it with what follows the space behind it.
+    /// Reads the value of the first word, and returns it with what follows the space after it.
     fn read_before_space(text: &[u8]) -> Option<(Self, &[u8])>
         ensures { ReadsBefore 32 spelling fits text.now result }
     {
@@ -24,7 +24,7 @@ pub trait Word: Sized {
     }
 }
 
-/// Reads the value of the word behind the space at the beginning of the text, and returns it with the text from the next space on.
+/// Reads the value of the word after the space at the beginning of the text, and returns it with the text from the next space on.
 pub fn next<W: Word>(text: &[u8]) -> Option<(W, &[u8])>
     ensures { ReadsNext W.spelling W.fits text.now result }
 {

@@ -3,11 +3,11 @@ use crate::builder::tokens::kind_at;
 use tt_base::DelimiterKind;
 use tt_interned::InternedToken;
 
-/// The kinds of the subtrees that are open in a builder, innermost first.
+/// An iterator over the kinds of the subtrees that are open in a builder, innermost first.
 #[derive(Clone, Debug, Drop)]
 pub struct ExpectedDelimiters<'a> {
     pub(crate) tokens: &'a [InternedToken],
-    // the places of the open headers, outermost first, where the top counts as the first token
+    // the places of the open headers, outermost first; place 0 is the top
     pub(crate) places: &'a [usize],
 }
 

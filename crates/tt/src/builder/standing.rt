@@ -1,8 +1,8 @@
-//! Restore points, and those of a builder that stand.
+//! Restore points, and those of a builder that are valid.
 ghost use Rattle.std.specs.Prelude.{◌≡◌, filter, nat_le};
 ghost use Rattle.tt.specs.BuilderFields.{AreInOrder, kept_under};
 
-/// A restore point: a number. It means the point that a builder took under that number, if it did.
+/// A restore point: a number. It means the point that a builder took under that number, if the builder took one.
 #[derive(Clone, Copy, Debug)]
 pub struct SubtreeBuilderRestorePoint {
     number: u64,
@@ -11,14 +11,14 @@ pub struct SubtreeBuilderRestorePoint {
 impl SubtreeBuilderRestorePoint {
     ghost use Rattle.tt.specs.Points.{number_of};
 
-    /// The number of the point, from 0.
+    /// Returns the number of the point. Numbers begin at 0.
     pub fn number(self) -> u64
         ensures { result ≡ number_of self }
     {
         self.number
     }
 
-    /// The point of any number.
+    /// Returns the point of that number, which may be any number.
     pub fn from_number(number: u64) -> SubtreeBuilderRestorePoint
         ensures { number_of result ≡ number }
     {
@@ -26,7 +26,7 @@ impl SubtreeBuilderRestorePoint {
     }
 }
 
-/// A point that stands: its number, and how long the list of tokens and the stack of open headers were when it was taken.
+/// A valid restore point: its number, how many tokens the builder held when it was taken, and how many subtrees were open.
 #[derive(Clone, Copy, Debug)]
 pub(crate) struct Standing {
     pub(crate) number: u64,
@@ -34,7 +34,7 @@ pub(crate) struct Standing {
     pub(crate) depth: usize,
 }
 
-/// Drops the points with more levels, which stand last.
+/// Drops the points with more than `depth` levels. They are the last ones.
 pub(crate) fn drop_deeper(points: &mut Vec<Standing>, depth: usize)
     requires { AreInOrder points.old.items }
     ensures { points.new.items ≡ filter (λ point. nat_le point.depth depth) points.old.items }
@@ -50,7 +50,7 @@ pub(crate) fn drop_deeper(points: &mut Vec<Standing>, depth: usize)
     points.truncate(0);
 }
 
-/// Drops the points that hold more tokens, which stand last.
+/// Drops the points with more than `tokens` tokens. They are the last ones.
 pub(crate) fn drop_later(points: &mut Vec<Standing>, tokens: usize)
     requires { AreInOrder points.old.items }
     ensures { points.new.items ≡ filter (λ point. nat_le point.tokens tokens) points.old.items }
@@ -66,7 +66,7 @@ pub(crate) fn drop_later(points: &mut Vec<Standing>, tokens: usize)
     points.truncate(0);
 }
 
-/// The point of that number. Numbers rise, so each look leaves half of the points.
+/// Returns the point of that number. The numbers rise, so each comparison halves the points that are left.
 pub(crate) fn find(points: &[Standing], number: u64) -> Option<Standing>
     requires { AreInOrder points.now }
     ensures { result ≡ kept_under number points.now }

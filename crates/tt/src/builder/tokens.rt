@@ -1,4 +1,4 @@
-//! What a builder does to the tokens that it holds.
+//! Changes to the list of tokens that a builder holds.
 ghost use Rattle.std.specs.Prelude.{◌≡◌, ◌≤◌, ◌<◌, ◌+◌, ◌++◌, ◌⊎◌, IfErr, OnErr, OnOk, List, Some, suc, if◌then◌else◌, length, map, take};
 ghost use Rattle.std.specs.Iterator.{Drains, IsFinite, YieldsThen};
 ghost use Rattle.tt_base.specs.Building.{alone};
@@ -15,7 +15,7 @@ use tt_base::{DelimiterKind, Leaf, TtFault};
 use tt_interned::{InternedToken, InternedTokens};
 use tt_view::TokenTreesView;
 
-// The kind of a header; a leaf has none, and counts as invisible.
+// Returns the kind of a header's delimiter, or invisible for a leaf.
 fn kind_of(token: InternedToken) -> DelimiterKind
     ensures { result ≡ named_kind token }
 {
@@ -26,7 +26,7 @@ fn kind_of(token: InternedToken) -> DelimiterKind
     }
 }
 
-/// The kind of the header at a place; invisible where no header stands there.
+/// Returns the kind of the header at a place, or invisible if no header is there.
 pub(crate) fn kind_at(tokens: &[InternedToken], place: usize) -> DelimiterKind
     ensures { result ≡ named_kind_at tokens.now place }
 {
@@ -37,7 +37,7 @@ pub(crate) fn kind_at(tokens: &[InternedToken], place: usize) -> DelimiterKind
     }
 }
 
-/// Whether the token is an invisible header that is closed.
+/// Returns whether the token is an invisible header that is closed.
 pub(crate) fn is_invisible(token: InternedToken) -> bool
     ensures { result ≡ is_named_invisible token }
 {
@@ -47,7 +47,7 @@ pub(crate) fn is_invisible(token: InternedToken) -> bool
     }
 }
 
-/// Whether the tokens of whole trees are those of one node.
+/// Returns whether the tokens of whole trees are those of exactly one subtree.
 pub(crate) fn is_one_node(tokens: &[InternedToken]) -> bool
     ensures { result ≡ is_named_node tokens.now }
 {
@@ -57,7 +57,7 @@ pub(crate) fn is_one_node(tokens: &[InternedToken]) -> bool
     }
 }
 
-// Appends the tokens of whole trees. Where memory is wanting, some of them stay.
+// Appends the tokens of whole trees. If memory runs out, some of them may stay at the end of the list.
 fn push_all(held: &mut InternedTokens, trees: TokenTreesView<'_>) -> Result<(), AllocError>
     requires { length held.old + size (trees_of trees) ≤ 4294967295 }
     ensures ok { OnOk result (held.new ≡ held.old ++ map whole (flat (trees_of trees.entry))) }
@@ -69,7 +69,7 @@ fn push_all(held: &mut InternedTokens, trees: TokenTreesView<'_>) -> Result<(), 
     Ok(())
 }
 
-/// Appends the tokens of whole trees, if there is memory for them.
+/// Appends the tokens of whole trees. Returns false, and leaves the list as it was, if memory runs out.
 pub(crate) fn add_trees(held: &mut InternedTokens, trees: TokenTreesView<'_>) -> bool
     requires { length held.old + size (trees_of trees) ≤ 4294967295 }
     ensures { held.new ≡ (if result then held.old ++ map whole (flat (trees_of trees.entry)) else held.old) }
@@ -85,7 +85,7 @@ pub(crate) fn add_trees(held: &mut InternedTokens, trees: TokenTreesView<'_>) ->
     true
 }
 
-/// The same, and the last of them becomes alone if it is a punct.
+/// The same; if the last of the tokens is a punct, it becomes alone.
 pub(crate) fn add_trees_alone(held: &mut InternedTokens, trees: TokenTreesView<'_>) -> bool
     requires { length held.old + size (trees_of trees) ≤ 4294967295 }
     ensures { held.new ≡ (if result then held.old ++ map whole (flat (alone (trees_of trees.entry))) else held.old) }
@@ -99,7 +99,7 @@ pub(crate) fn add_trees_alone(held: &mut InternedTokens, trees: TokenTreesView<'
     true
 }
 
-/// Appends leaves until no more come, the list is full, or memory is wanting.
+/// Appends leaves until the iterator ends. Fails if the list is full or memory runs out; the leaves before that one stay in the list.
 pub(crate) fn add_leaves<I: Iterator<Item = Leaf> + Drop>(
     held: &mut InternedTokens,
     leaves: I,

@@ -1,4 +1,4 @@
-//! A rewriting, token by token.
+//! Rewrites a tree token by token.
 ghost use Rattle.std.specs.Prelude.{◌≡◌, ◌<◌, ◌++◌, ◌∷◌, [], true, MatchOption, IfOk, OnOk, length, get_or, set};
 ghost use Rattle.std.specs.Fn.{CalledAt};
 ghost use Rattle.tt_base.specs.declared.token_tree.TokenTree.{TokenTree as Token};
@@ -13,7 +13,7 @@ use std::alloc::{AllocError, Global};
 use tt_base::TokenTree;
 use tt_view::{SubtreeView, TokenTreesView, TtElement};
 
-// Gives the header at a place its count.
+// Sets the count of the header at a place.
 fn set_count(list: &mut Vec<TokenTree>, header: usize, len: u32)
     requires { header < length list.old.items }
     ensures { (d : Token) → list.new.items ≡ set list.old.items header (counted len (get_or list.old.items header d)) }
@@ -23,7 +23,7 @@ fn set_count(list: &mut Vec<TokenTree>, header: usize, len: u32)
     }
 }
 
-// Adds the tokens of the trees.
+// Appends the tokens of the trees.
 fn append(list: &mut Vec<TokenTree>, trees: TokenTreesView<'_>) -> Result<(), AllocError>
     ensures { OnOk result (list.new.items ≡ list.old.items ++ flat (trees_of trees.entry)) }
 {
@@ -33,7 +33,7 @@ fn append(list: &mut Vec<TokenTree>, trees: TokenTreesView<'_>) -> Result<(), Al
     Ok(())
 }
 
-// The token of an element, and the trees below it.
+// Returns the token of an element, and the trees below it.
 fn parts<'t>(element: TtElement<'t>) -> (TokenTree, TokenTreesView<'t>)
     ensures token { result.0 ≡ token_of element.entry }
     ensures below { trees_of result.1 ≡ below_of element.entry }
@@ -45,7 +45,7 @@ fn parts<'t>(element: TtElement<'t>) -> (TokenTree, TokenTreesView<'t>)
 }
 
 impl<'t> Rewriting<'t> {
-    // Before the first token of the tree. There is room for as many tokens as it has.
+    // Returns the state before the first token of the tree, with room for as many tokens as the tree has.
     fn new(alloc: Global, tree: SubtreeView<'t>) -> Result<Rewriting<'t>, AllocError>
         ensures { IfOk result (λ work. StandsFor work (lowest end (only (root_of tree.entry)))) }
     {
@@ -57,7 +57,7 @@ impl<'t> Rewriting<'t> {
         })
     }
 
-    // Takes the next token, with the trees below it. Subtrees that are read to their end are closed.
+    // Returns the next token, and the trees below it. Closes each open subtree that has no unread trees before it.
     fn next(&mut self) -> Option<(TokenTree, TokenTreesView<'t>)>
         requires { (work : Work) × StandsFor self.old work }
         ensures { MatchOption result (Ends self.old self.new) (λ found. Takes self.old self.new found.0 (trees_of found.1)) }
@@ -73,7 +73,7 @@ impl<'t> Rewriting<'t> {
         }
     }
 
-    // Closes the innermost open subtree, whose frame this was: all of it is read.
+    // Closes the innermost open subtree, which has this frame and no unread trees.
     fn close(&mut self, frame: Frame<'t>)
         requires { (work : Work) × IsEnded self.old frame work }
         ensures goes { (work : Work) → IsEnded self.old frame.entry work → GoesOn work self.new }
@@ -107,7 +107,7 @@ impl<'t> Rewriting<'t> {
         Ok(())
     }
 
-    // Puts trees in the place of what was taken.
+    // Puts trees in the place of the subtree or leaf that was taken.
     fn replace(&mut self, trees: TokenTreesView<'_>) -> Result<(), AllocError>
         ensures { OnOk result ((work : Work) → IsTaken work → StandsFor self.old work → StandsFor self.new (given (trees_of trees.entry) work)) }
     {
@@ -117,7 +117,7 @@ impl<'t> Rewriting<'t> {
         Ok(())
     }
 
-    // Does what was answered for a token that was taken, with the trees below it.
+    // Applies the action to a token that was taken, with the trees below it.
     fn obey(
         &mut self,
         token: TokenTree,
@@ -133,8 +133,8 @@ impl<'t> Rewriting<'t> {
     }
 }
 
-/// Asks the callback for the tokens of the tree, and gives the flat list of what comes out, or `None` where a
-/// subtree comes out with too many tokens.
+/// Calls the callback for the tokens of the tree. Returns the flat list of the result, or `None` if a subtree of the result has too many
+/// tokens. Fails only if memory runs out.
 pub(super) fn rewritten_list<'b, F: FnMut(&TokenTree) -> TransformTtAction<'b>>(
     alloc: Global,
     tree: SubtreeView<'_>,

@@ -1,4 +1,4 @@
-//! The ids of a stored tree's spans, changed in place.
+//! Changes the ids of a stored tree's spans in place.
 ghost use Rattle.std.specs.Prelude.{◌≡◌, ◌≤◌, ◌↔◌, length, IsTrue, IfOk};
 ghost use Rattle.std.specs.List.{IsDistinct};
 ghost use Rattle.tt_tables.specs.AstIds.{ids_changed, part_with_id, parts_with_ids, under_parts, KeepApart};
@@ -11,7 +11,7 @@ use indexmap::IndexSet;
 use std::alloc::{AllocError, Global};
 use tt_base::{ErasedFileAstId, SpanAnchor, SpanPart};
 
-// The part with another id.
+// Returns the part with another id.
 fn with_id(id: ErasedFileAstId, part: SpanPart) -> SpanPart
     ensures { result ≡ part_with_id id part }
 {
@@ -24,7 +24,7 @@ fn with_id(id: ErasedFileAstId, part: SpanPart) -> SpanPart
     }
 }
 
-// Gives each part its id.
+// Sets the id of each part.
 fn put_ids(parts: &mut [SpanPart], ids: &[ErasedFileAstId])
     requires { length ids.now ≡ length parts.old }
     ensures { parts.new ≡ parts_with_ids ids.now parts.old }
@@ -34,7 +34,7 @@ fn put_ids(parts: &mut [SpanPart], ids: &[ErasedFileAstId])
     }
 }
 
-// Whether no two of the parts become one.
+// Returns whether the parts are all different after they get these ids.
 fn are_apart(alloc: Global, parts: &[SpanPart], ids: &[ErasedFileAstId]) -> Result<bool, AllocError>
     requires { length parts.now ≤ length ids.now }
     ensures { IfOk result (λ apart. IsTrue apart ↔ IsDistinct same_part (parts_with_ids ids.now parts.now)) }
@@ -49,8 +49,8 @@ fn are_apart(alloc: Global, parts: &[SpanPart], ids: &[ErasedFileAstId]) -> Resu
 }
 
 impl Packed {
-    /// Whether no two entries of the table of span parts below the top become one by these ids, one for each entry. It takes
-    /// memory for a set of the entries.
+    /// Returns whether the entries of the table of span parts below the top are all different after they get these ids. There is one id
+    /// for each entry of the table. Fails only if memory for a set of the entries runs out.
     pub fn ids_keep_apart(&self, alloc: Global, ids: &[ErasedFileAstId]) -> Result<bool, AllocError>
         requires { length ids.now ≡ length (root_parts self.now) }
         ensures { IfOk result (λ apart. IsTrue apart ↔ KeepApart ids.now self.now) }
@@ -59,9 +59,8 @@ impl Packed {
         are_apart(alloc, &self.parts[..below], ids)
     }
 
-    /// Changes the ids of all spans in place, where there is one id for each entry of the table and no two entries below the top
-    /// become one, of which `ids_keep_apart` tells. Each span takes the id that is given for its entry. The entries are then
-    /// the old ones with their new ids, and the bytes and the symbols stay.
+    /// Changes the ids of all spans in place. There is one id for each entry of the table of span parts, and `ids_keep_apart` returns
+    /// true for them. Each span takes the id for its entry. The bytes and the symbols stay.
     pub fn set_ids(&mut self, ids: &[ErasedFileAstId])
         requires count { length ids.now ≡ length (root_parts self.old) }
         requires apart { KeepApart ids.now self.old }

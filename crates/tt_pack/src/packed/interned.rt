@@ -1,4 +1,4 @@
-//! The tree of tokens that name values by places.
+//! Makes the tree of tokens that name values by places.
 ghost use Rattle.std.specs.Prelude.{◌≡◌, ◌<◌, ◌≤◌, ◌^◌, ◌∷◌, length, IfOk, IfErr};
 ghost use Rattle.tt_base.specs.Forest.{IsWhole, header, size, flat_root};
 ghost use Rattle.tt_interned.specs.ListOf.{list_of};
@@ -13,8 +13,8 @@ use tt_base::{Delimiter, Subtree, TtFault};
 use tt_interned::CountedTokens;
 
 impl Packed {
-    /// The tree of tokens that name values by places, under a top of that delimiter. It is refused where `pack` refuses its
-    /// flat list. No value is looked up: the tokens are read once to be written, and those up to the last new part once before.
+    /// Returns the tree of tokens that name values by places, under a top of that delimiter. Fails as `pack` does for the flat list of
+    /// that tree. Looks up no value: it reads the tokens once to write them, and those up to the last first use of a part once before.
     pub fn of_interned(
         alloc: Global,
         top: Delimiter,
@@ -33,8 +33,8 @@ impl Packed {
         Packed::of_numbered(alloc, header, tables)
     }
 
-    /// The tree of tokens that name values by places, which are those of one node: its header becomes the top. It is
-    /// refused where `pack` refuses the flat list. Beside what `of_interned` does, the numbers of uses of parts are copied.
+    /// Returns the tree of tokens that name values by places, and are those of one subtree. Its header becomes the top. Fails as `pack`
+    /// does for the flat list. Besides the work of `of_interned`, it copies the numbers of uses of parts.
     pub fn of_interned_node(alloc: Global, tokens: CountedTokens<'_>) -> Result<Packed, TtFault>
         requires whole { IsWhole (list_of tokens) }
         requires few { length (list_of tokens) ≤ 2 ^ 32 }

@@ -1,4 +1,4 @@
-//! The delimiter of a stored tree's top, changed in place.
+//! Changes the delimiter of a stored tree's top in place.
 ghost use Rattle.std.specs.Prelude.{◌≡◌};
 ghost use Rattle.tt_base.specs.Edits.{with_kind, with_spans};
 ghost use Rattle.tt_pack.specs.Packed.{with_top};
@@ -10,7 +10,7 @@ use tt_base::{DelimSpan, Delimiter, DelimiterKind, SpanPart, Subtree, TokenTree}
 use tt_codec::HeaderEntry;
 
 impl Packed {
-    /// Changes the kind of the top, in place. All other tokens read as before.
+    /// Changes the kind of the top's delimiter in place. Readers return all other tokens as before.
     pub fn set_top_kind(&mut self, kind: DelimiterKind)
         ensures { self.new ≡ with_kind kind self.old }
     {
@@ -26,7 +26,7 @@ impl Packed {
         });
     }
 
-    /// Changes the spans of the top, in place. All other tokens read as before.
+    /// Changes the spans of the top's delimiter in place. Readers return all other tokens as before.
     pub fn set_top_spans(&mut self, spans: DelimSpan)
         ensures { self.new ≡ with_spans spans self.old }
     {
@@ -38,7 +38,7 @@ impl Packed {
         });
     }
 
-    // The top's delimiter.
+    // Returns the top's delimiter.
     fn top_delimiter(&self) -> Delimiter
         ensures { result ≡ self.now.delimiter }
     {
@@ -48,7 +48,7 @@ impl Packed {
         }
     }
 
-    // Writes the top header over the old one, and its two parts over the last two.
+    // Writes the top's header over the old one, and its two parts over the last two.
     fn set_top(&mut self, delimiter: Delimiter)
         ensures { self.new ≡ with_top delimiter self.old }
     {

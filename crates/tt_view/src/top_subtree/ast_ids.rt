@@ -28,7 +28,7 @@ use tt_pack::Packed;
 // The last parts of a table are those of the top's two spans.
 const TOP_PARTS: usize = 2;
 
-// Asks for each part's id, in order.
+// Calls the callback for each part's id, in order, and returns its answers.
 fn ask_all<F: FnMut(ErasedFileAstId) -> ErasedFileAstId>(
     alloc: Global,
     parts: &[SpanPart],
@@ -46,7 +46,7 @@ fn ask_all<F: FnMut(ErasedFileAstId) -> ErasedFileAstId>(
     Ok(ids)
 }
 
-// The id of each part.
+// Returns the map from each part to its id. The first of equal parts counts.
 fn by_part(
     alloc: Global,
     parts: &[SpanPart],
@@ -57,7 +57,7 @@ fn by_part(
 {
     let mut found = IndexMap::new(alloc);
     let mut index = parts.len();
-    // The first of equal parts would come last, and stay.
+    // from the last to the first, so the id of the first of equal parts stays
     while index > 0 {
         index -= 1;
         found.insert(parts[index], ids[index])?;
@@ -65,7 +65,7 @@ fn by_part(
     Ok(found)
 }
 
-// The span with another id.
+// Returns the span with another id.
 fn with_id(id: ErasedFileAstId, span: Span) -> Span
     ensures { result ≡ with_id id span }
 {
@@ -79,7 +79,7 @@ fn with_id(id: ErasedFileAstId, span: Span) -> Span
     }
 }
 
-// The span with the id at an index.
+// Returns the span with the id at an index.
 fn with_id_at(ids: &[ErasedFileAstId], index: usize, span: Span) -> Span
     requires { index < length ids.now }
     ensures { result ≡ with_id_at ids.now index span }
@@ -87,7 +87,7 @@ fn with_id_at(ids: &[ErasedFileAstId], index: usize, span: Span) -> Span
     with_id(ids[index], span)
 }
 
-// The span with the id that its part has.
+// Returns the span with the id of its part.
 fn new_span(ids: &IndexMap<SpanPart, ErasedFileAstId>, span: Span) -> Span
     ensures { result ≡ span_with (get same_part ids.now) span }
 {
@@ -97,7 +97,7 @@ fn new_span(ids: &IndexMap<SpanPart, ErasedFileAstId>, span: Span) -> Span
     }
 }
 
-// The leaf with the id that its part has.
+// Returns the leaf with the id of its part.
 fn new_leaf(ids: &IndexMap<SpanPart, ErasedFileAstId>, leaf: Leaf) -> Leaf
     ensures { result ≡ respanned_leaf (span_with (get same_part ids.now)) leaf }
 {
@@ -117,7 +117,7 @@ fn new_leaf(ids: &IndexMap<SpanPart, ErasedFileAstId>, leaf: Leaf) -> Leaf
     }
 }
 
-// The token with the ids that its parts have.
+// Returns the token with the ids of its parts.
 fn new_token(ids: &IndexMap<SpanPart, ErasedFileAstId>, token: TokenTree) -> TokenTree
     ensures { result ≡ respanned_token (span_with (get same_part ids.now)) token }
 {
@@ -134,7 +134,7 @@ fn new_token(ids: &IndexMap<SpanPart, ErasedFileAstId>, token: TokenTree) -> Tok
     }
 }
 
-// A header, and below it the trees with the ids that their parts have.
+// Returns the flat list of a header and the trees, in which each token has the ids of its parts.
 fn new_list(
     alloc: Global,
     ids: &IndexMap<SpanPart, ErasedFileAstId>,
@@ -152,12 +152,13 @@ fn new_list(
 }
 
 impl TopSubtree {
-    /// Changes the ids of all spans. The callback is asked once for the id of each entry of the table of span parts, in
-    /// order, so for those of the top's open and close span last. A span takes the id that was answered for its entry.
-    /// Where no two entries below the top become one, that is done in place: the entries take their ids, and all else that is
-    /// stored stays. Else the tree is stored anew. Where that would take too many bytes, or memory is refused, it stays as it
-    /// was. It has no more span parts than before, and the symbols that it had, so nothing else can be too many. The callback
-    /// may be called with any id, as one without a `requires` may.
+    /// Changes the ids of all spans. Calls the callback once with the id of each entry of the table of span parts, in order, and so with
+    /// those of the top's open and close span last. A span takes the answer for its entry. The callback must accept any id, as one
+    /// without a `requires` does.
+    ///
+    /// If no two entries below the top become equal, the change is in place: the entries take their ids, and the bytes and the symbols
+    /// stay. Otherwise the tree is stored again. Fails, and leaves the tree as it was, if the tree would take too many bytes, or if
+    /// memory runs out. The new tree has no more span parts than the old one, and the same symbols, so it cannot exceed another limit.
     pub fn change_every_ast_id<F: FnMut(ErasedFileAstId) -> ErasedFileAstId>(
         &mut self,
         alloc: Global,
@@ -171,13 +172,13 @@ impl TopSubtree {
         ensures fault { IfErr result (λ fault. (fault ≡ Memory) ⊎ ((ids : List Id) × AnswersIds (λ p x y q. F.step p x y q) callback self.old ids × IsTreeFault (ids_changed ids self.old) fault)) }
         ensures limit { IfErr result (λ fault. (fault ≡ Memory) ⊎ (fault ≡ TooManyBytes)) }
     {
-        // Their contract says that no count of the tree is too large.
+        // the contract of `bytes` says that the tree is within the limits
         let _bytes = self.packed.bytes();
         let ids = ask_all(alloc, self.packed.parts(), callback)?;
         self.take_ids(alloc, &ids)
     }
 
-    // Changes to these ids, in place where that serves.
+    // Changes the ids to these, in place if no two entries below the top become equal.
     fn take_ids(&mut self, alloc: Global, ids: &[ErasedFileAstId]) -> Result<(), TtFault>
         requires { length ids.now ≡ length (root_parts self.old) }
         ensures ok { OnOk result (self.new ≡ ids_changed ids.now self.old) }
@@ -193,7 +194,7 @@ impl TopSubtree {
         Ok(())
     }
 
-    // The tree with these ids, stored once more.
+    // Returns the tree with these ids, stored again.
     fn with_ids(&self, alloc: Global, ids: &[ErasedFileAstId]) -> Result<Packed, TtFault>
         requires { length ids.now ≡ length (root_parts self.now) }
         ensures ok { IfOk result (λ packed. packed ≡ ids_changed ids.now self.now) }

@@ -1,4 +1,4 @@
-//! One leaf of a tree, changed.
+//! Changes one leaf of a tree.
 ghost use Rattle.std.specs.Prelude.{◌≡◌, IfOk, IfErr, OnOk, OnErr};
 ghost use Rattle.tt_base.specs.Edits.{HasLeafAt, leaf_set};
 ghost use Rattle.tt_base.specs.Forest.{flat, flat_root};
@@ -12,7 +12,7 @@ use std::alloc::{AllocError, Global};
 use tt_base::{Leaf, Refused, TokenTree, TtFault};
 use tt_pack::Packed;
 
-// All tokens of the trees, each header before all that it holds.
+// Returns all tokens of the trees, each header before all that its subtree holds.
 fn flat_list(alloc: Global, trees: TokenTreesView<'_>) -> Result<Vec<TokenTree>, AllocError>
     ensures { IfOk result (λ list. list.items ≡ flat (trees_of trees.entry)) }
 {
@@ -24,9 +24,9 @@ fn flat_list(alloc: Global, trees: TokenTreesView<'_>) -> Result<Vec<TokenTree>,
 }
 
 impl TopSubtree {
-    /// Changes the leaf at a place of the flat list, where the top has place 0. The tree is stored anew.
-    /// It is refused where there is no such place (fault 3), or a header stands there (fault 4), or the tree with the leaf
-    /// would be too large or memory is refused; the leaf is then handed back.
+    /// Replaces the leaf at a place of the flat list, and stores the tree again. Place 0 is the top. Fails, and leaves the tree as it
+    /// was, if there is no such place (`NoSuchPlace`), if a header is there (`NotALeaf`), if the new tree exceeds a limit, or if memory
+    /// runs out. A failure returns the leaf.
     pub fn set_token(&mut self, alloc: Global, idx: usize, leaf: Leaf) -> Result<(), Refused<Leaf>>
         ensures there { OnOk result (HasLeafAt (flat_root self.old) idx) }
         ensures ok { OnOk result (self.new ≡ leaf_set idx leaf self.old) }
@@ -44,13 +44,13 @@ impl TopSubtree {
         }
     }
 
-    // The tree with the leaf at that place, stored once more.
+    // Returns the tree with the leaf at that place, stored again.
     fn with_leaf(&self, alloc: Global, idx: usize, leaf: &Leaf) -> Result<Packed, TtFault>
         ensures ok { IfOk result (λ packed. HasLeafAt (flat_root self.now) idx × (packed ≡ leaf_set idx leaf.now self.now)) }
         ensures limits { IfOk result (λ packed. IsWithinLimits packed) }
         ensures err { IfErr result (IsSetFault self.now idx leaf.now) }
     {
-        // Their contract says that no count of the tree is too large.
+        // the contract of `bytes` says that the tree is within the limits
         let _bytes = self.packed.bytes();
         let trees = self.as_token_trees();
         match trees.token_at(idx) {

@@ -1,4 +1,4 @@
-//! The delimiter of a tree's top, changed in place.
+//! Changes the delimiter of a tree's top in place.
 ghost use Rattle.std.specs.Prelude.{◌≡◌};
 ghost use Rattle.tt_base.specs.Edits.{with_kind, with_spans};
 
@@ -6,14 +6,14 @@ use crate::top_subtree::TopSubtree;
 use tt_base::{DelimSpan, DelimiterKind};
 
 impl TopSubtree {
-    /// Changes the kind of the top, in place.
+    /// Changes the kind of the top's delimiter in place.
     pub fn set_top_subtree_delimiter_kind(&mut self, kind: DelimiterKind)
         ensures { self.new ≡ with_kind kind self.old }
     {
         self.packed.set_top_kind(kind);
     }
 
-    /// Changes the spans of the top, in place.
+    /// Changes the two spans of the top's delimiter in place.
     pub fn set_top_subtree_delimiter_span(&mut self, span: DelimSpan)
         ensures { self.new ≡ with_spans span self.old }
     {

@@ -6,8 +6,8 @@ use Rattle.expand_items.specs.Attributes.{attributes_len}
 use Rattle.expand_items.proofs.Attributes.{attributes_fit}
 use Rattle.expand_items.proofs.attribute.item_at.Goals as goal
 
-pub standing-requires : goal.standing-requires
-standing-requires c =
+pub item_behind-requires : goal.item_behind-requires
+item_behind-requires c =
     let trees = rest_of c.args.trees in
     let len : c.attributes_len-attributes.result ≡ attributes_len trees = search rules in
     let small : size trees < 2 ^ 64 = search rules in

@@ -3,7 +3,7 @@ use Rattle.std.specs.Prelude.{not}
 use Rattle.tt.specs.Views.{trees_of}
 use Rattle.expand_items.specs.declared.part.Part.{Part}
 use Rattle.expand_items.specs.Parts.{IsPart, Takes, no_item, no_statement, is_at_let, statement_len}
-use Rattle.expand_items.proofs.Telling.{item_first, statement_first}
+use Rattle.expand_items.proofs.PartsSoFar.{item_first, statement_first}
 use Rattle.expand_items.proofs.part.part_in.Goals as goal
 use Rattle.expand_items.specs.Positions.{is_items}
 use Rattle.mbe_pattern.specs.declared.pattern.GrammarFragment.TheVariants as fragment

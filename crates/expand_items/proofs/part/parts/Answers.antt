@@ -3,7 +3,7 @@ use Rattle.tt.specs.Forest.{size}
 use Rattle.tt.specs.Iters.{rest_of}
 use Rattle.tt.specs.Siblings.{is_end}
 use Rattle.expand_items.specs.Parts.{IsPart}
-use Rattle.expand_items.proofs.Telling.{AreTold, told_all, told_more, told_stop, part_long, less_left}
+use Rattle.expand_items.proofs.PartsSoFar.{ArePartsSoFar, all_so_far, more_so_far, stop_so_far, part_long, less_left}
 use Rattle.expand_items.proofs.part.parts.Goals as goal
 
 pub returns-in_default : goal.returns-in_default
@@ -11,7 +11,7 @@ returns-in_default c =
     let left = rest_of c.parts.trees in
     let some : is_end left ≡ false = search rules in
     let none : IsPart c.args.siblings left None = search rules in
-    told_stop c.args.siblings (rest_of c.args.trees) left c.parts.parts.items c.parts.invariant some none
+    stop_so_far c.args.siblings (rest_of c.args.trees) left c.parts.parts.items c.parts.invariant some none
 
 pub parts-smaller : goal.parts-smaller
 parts-smaller c =
@@ -29,11 +29,11 @@ parts-preserved c =
     let some : is_end left ≡ false = search rules in
     let is : IsPart c.args.siblings left (Some part) = search rules in
     let more : c.push.new.self.items ≡ c.parts.parts.items ++ part ∷ [] = search rules in
-    subst (λ f. AreTold c.args.siblings all f c.push.new.self.items) (sym c.pass.ensures.rest)
-    (told_more c.args.siblings all left c.parts.parts.items c.push.new.self.items part c.parts.invariant some is more)
+    subst (λ f. ArePartsSoFar c.args.siblings all f c.push.new.self.items) (sym c.pass.ensures.rest)
+    (more_so_far c.args.siblings all left c.parts.parts.items c.push.new.self.items part c.parts.invariant some is more)
 
 pub returns : goal.returns
 returns c =
     let left = rest_of c.parts.trees in
     let none : is_end left ≡ true = search rules in
-    told_all c.args.siblings (rest_of c.args.trees) left c.parts.parts.items c.parts.invariant none
+    all_so_far c.args.siblings (rest_of c.args.trees) left c.parts.parts.items c.parts.invariant none

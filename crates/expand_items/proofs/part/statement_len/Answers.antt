@@ -2,7 +2,7 @@ use Rattle.std.proofs.Common.{rules, ◌≡◌, ◌<◌, ◌^◌, true, codes, a
 use Rattle.tt.specs.Forest.{size}
 use Rattle.tt.specs.Gluing.{after_trees}
 use Rattle.tt.specs.Iters.{rest_of}
-use Rattle.expand_items.proofs.Telling.{semicolon_there}
+use Rattle.expand_items.proofs.PartsSoFar.{semicolon_there}
 use Rattle.expand_items.proofs.part.statement_len.Goals as goal
 use Rattle.mbe_pattern.specs.Units.{is_at_punct}
 

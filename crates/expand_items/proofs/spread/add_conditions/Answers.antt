@@ -7,7 +7,6 @@ use Rattle.expand_items.proofs.spread.add_conditions.Goals as goal
 use Rattle.expand_items.proofs.Attributes.{attribute_fits}
 use Rattle.expand_items.specs.Attributes.{conditions_of, is_at_attribute, is_at_condition}
 use Rattle.std.proofs.Common.{subst}
-use Rattle.tt.specs.Gluing.{after_trees}
 use Rattle.tt.specs.Views.{trees_of}
 use Rattle.expand_items.proofs.Wanting.{wants_appended}
 use Rattle.expand_items.specs.Spreads.{IsWanting}

@@ -20,7 +20,7 @@ returns-clause-put c =
     record {
       put = Some (spread c.args.braces conditions 0 parts trees);
       under = (Some parts, are, one_more parts some);
-      told = refl;
+      answer = refl;
       added = c.in_ok-add_parts.ensures.added ∙ ap (λ ps. append (spread c.args.braces conditions 0 ps (rest_of c.iter-2.result)) c.args.builder.now.stack) all
           ∙ ap (λ f. append (spread c.args.braces conditions 0 parts f) c.args.builder.now.stack) whole;
     }

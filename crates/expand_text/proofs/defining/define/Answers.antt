@@ -1,4 +1,5 @@
-use Rattle.std.proofs.Common.{rules, ◌≡◌, ◌++◌, ◌∷◌, [], Some, None, inl, inr, refl, ap, sym, subst, ◌∙◌}
+use Rattle.std.proofs.Common.{rules, ◌≡◌, ◌++◌, ◌∷◌, ◌&&◌, [], false, None, inl, inr, refl, ap, sym, subst, ◌∙◌}
+use Rattle.std.specs.Prelude.{is_some}
 use Rattle.tt.specs.Forest.{Forest}
 use Rattle.tt.specs.Iters.{rest_of}
 use Rattle.tt.specs.Span.{start_of}
@@ -7,10 +8,10 @@ use Rattle.expand_text.specs.declared.scope.Macro as rust
 use Rattle.expand_text.specs.Defining.{IsRules}
 use Rattle.expand_items.specs.Items.{Definition, definition_of}
 use Rattle.expand_text.specs.Contexts.{Context, IsContext, with_macro, with_finding}
-use Rattle.expand_text.specs.Macros.{macro_of, found_in}
+use Rattle.expand_text.specs.Macros.{macro_of, macro_with, is_several, unless_several, found_in}
 use Rattle.expand_text.specs.Roots.{rooted}
-use Rattle.expand_text.specs.Scopes.{AreReady, AreRules}
-use Rattle.expand_text.proofs.Readiness.{ready_more}
+use Rattle.expand_text.specs.Scopes.{AreReady, AreRules, last_named}
+use Rattle.expand_text.proofs.Readiness.{ready_more, ready_unless}
 use Rattle.expand_text.proofs.defining.define.Goals as goal
 use Rattle.expand_text.proofs.defining.define.Goals.{in-Context, in-Faulty+in_ok-find-in-Faulty}
 
@@ -20,18 +21,26 @@ returns c context is =
     let trees : Forest = rooted c.args.config.now.root (rest_of c.args.definition.now.arms) in
     let name : c.in_ok-name.name ≡ it.name.sym = search rules in
     let place : c.start_of.result ≡ start_of it.name.span.range = search rules in
-    let made : rust.Macro = record { name = c.in_ok-name.name; defined_at = c.start_of.result; rules = c.match-branch-3.rules } in
+    let made : rust.Macro =
+    record { name = c.in_ok-name.name; defined_at = c.start_of.result; is_several = c.match-branch-3.is_several; rules = c.match-branch-3.rules } in
     let more : c.define.new.self.macros.items ≡ c.match-branch-3.context.scope.macros.items ++ made ∷ [] = c.in_ok-define.ensures.ok in
     elim c.match-branch-3.branch [
       | in-Context w ↦
           let (arms, limits, spelled, ready) = subst (IsRules it trees) w.in-Context.is c.in_ok-rules.ensures in
+          let found = macro_with c.args.is_open it arms context.macros in
+          let several = w.is_one_of_several-is_several.result in
+          let same : several ≡ is_several c.args.is_open it context.macros =
+          w.is_one_of_several-is_several.ensures context.macros is.macros ∙ ap (λ n. c.args.is_open && is_some (last_named n context.macros)) name in
           let before : AreReady context.macros c.match-branch-3.context.scope.macros.items = subst (λ k. AreReady context.macros k.scope.macros.items) (sym w.context-is) is.macros in
-          let rules_are : AreRules (Some arms) c.match-branch-3.rules = subst (AreRules (Some arms)) (sym w.rules-is) ready in (
-            with_macro (macro_of it (Some arms)) context,
+          let rules_are : AreRules found.arms c.match-branch-3.rules =
+          subst (λ b. AreRules (unless_several b arms) c.match-branch-3.rules) same
+          (subst (AreRules (unless_several several arms)) (sym (w.rules-is ∙ w.unless_several-rules.ensures)) (ready_unless several arms w.in-Context.rules ready)) in (
+            with_macro found context,
             record {
               macros =
-                  subst (AreReady (context.macros ++ macro_of it (Some arms) ∷ [])) (sym more)
-                  (ready_more context.macros c.match-branch-3.context.scope.macros.items (macro_of it (Some arms)) made before (record { name = name; defined_at = place; rules = rules_are }));
+                  subst (AreReady (context.macros ++ found ∷ [])) (sym more)
+                  (ready_more context.macros c.match-branch-3.context.scope.macros.items found made before
+                  (record { name = name; defined_at = place; is_several = w.is_several-is ∙ same; rules = rules_are }));
               findings = ap (λ k. k.findings.items) w.context-is ∙ is.findings;
               is_over = ap (λ k. k.is_over) w.context-is ∙ is.is_over;
             },
@@ -46,11 +55,12 @@ returns c context is =
           let found : IsContext then c.match-branch-3.context =
           subst (IsContext then) (sym w.context-is) (subst (λ f. IsContext (with_finding f context) w.find.new.self) same (w.in_ok-find-in-Faulty.ensures context is)) in
           let rules_are : AreRules None c.match-branch-3.rules = subst (AreRules None) (sym w.rules-is) tt in (
-            with_macro (macro_of it None) then,
+            with_macro (macro_of it false None) then,
             record {
               macros =
-                  subst (AreReady (then.macros ++ macro_of it None ∷ [])) (sym more)
-                  (ready_more then.macros c.match-branch-3.context.scope.macros.items (macro_of it None) made found.macros (record { name = name; defined_at = place; rules = rules_are }));
+                  subst (AreReady (then.macros ++ macro_of it false None ∷ [])) (sym more)
+                  (ready_more then.macros c.match-branch-3.context.scope.macros.items (macro_of it false None) made found.macros
+                  (record { name = name; defined_at = place; is_several = w.is_several-is; rules = rules_are }));
               findings = found.findings;
               is_over = found.is_over;
             },

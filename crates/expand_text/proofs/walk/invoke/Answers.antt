@@ -8,7 +8,7 @@ use Rattle.syntax_edit.specs.Places.{begin_at}
 use Rattle.expand_text.specs.Walks.{Level, level_of, past, past_call, past_semicolon}
 use Rattle.expand_items.specs.Items.{Call, call_of}
 use Rattle.expand_items.specs.Positions.{is_statement, siblings_of_call, takes_semicolon}
-use Rattle.mbe_pattern.proofs.Passing.{front_told}
+use Rattle.mbe_pattern.proofs.Passing.{front_is}
 use Rattle.mbe_pattern.specs.Units.{is_brace}
 use Rattle.expand_text.proofs.CallParts.{rest_behind, split_in, site_same}
 use Rattle.expand_text.proofs.walk.invoke.Goals as goal
@@ -43,7 +43,7 @@ returns c =
     ap (λ l. l.rest) now ∙ rest_behind level.position it level.rest in
     let taken : join (trees_of c.from_savepoint.result) (rest_of c.pass_semicolon-last_span.new.self.rest) ≡ saved_of c.savepoint-start.result = search rules in
     let whole : trees_of c.from_savepoint.result ≡ whole_in level.position it level.rest =
-    front_told (len_in level.position it level.rest) level.rest (trees_of c.from_savepoint.result) (ap (join (trees_of c.from_savepoint.result)) (sym rest) ∙ taken ∙ start) in
+    front_is (len_in level.position it level.rest) level.rest (trees_of c.from_savepoint.result) (ap (join (trees_of c.from_savepoint.result)) (sym rest) ∙ taken ∙ start) in
     let is_one : c.is_statement.result ≡ (site_in level.position it level.rest).is_statement = c.is_statement.ensures ∙ ap (λ f. is_statement it.delimiter.kind f level.position) (c.iter-2.ensures ∙ behind) in
     let among : c.siblings_of_call.result ≡ (site_in level.position it level.rest).siblings = c.siblings_of_call.ensures ∙ ap (λ f. siblings_of_call it.delimiter.kind f level.position) (c.iter-3.ensures ∙ behind) in (
       record {

@@ -1,4 +1,5 @@
 use Rattle.std.proofs.Common.{rules, ◌≡◌, map, string_bytes, ap, sym, subst, ◌∙◌}
+use Rattle.expand_unused.specs.declared.choice.Choice.{Choice}
 use Rattle.expand_unused.specs.Needing.{AreRight}
 use Rattle.expand_unused.specs.Parts.{part_of, parts_in}
 use Rattle.expand_unused.specs.Places.{begun}
@@ -14,27 +15,27 @@ pub without-requires : goal.without-requires
 without-requires c =
     let text = c.args.text.now in
     let tree = c.in_ok-tree.tree in
-    let only = c.in_ok-only.only in
+    let choice : Choice = record { only = c.in_ok-name_of.field-0; drops_exported = c.args.drops_exported } in
     let goes = waits_in c.in_ok-unneeded.unneeded in
     let read : IsParse text_part text tree = c.in_ok-tree.ensures.ok in
-    let same : map part_of c.as_slice-2.result.now ≡ parts_in only begun tree.children = search rules in
-    subst (λ parts. FitAll (cuts goes parts) (begun_text text)) (sym same) (cuts_fit only goes text_part text tree c.utf8.text read)
+    let same : map part_of c.as_slice-2.result.now ≡ parts_in choice begun tree.children = search rules in
+    subst (λ parts. FitAll (cuts goes parts) (begun_text text)) (sym same) (cuts_fit choice goes text_part text tree c.utf8.text read)
 
 pub returns-clause-ok : goal.returns-clause-ok
 returns-clause-ok c =
     let text = c.args.text.now in
     let tree = c.in_ok-tree.tree in
-    let only = c.in_ok-only.only in
+    let choice : Choice = record { only = c.in_ok-name_of.field-0; drops_exported = c.args.drops_exported } in
     let goes = waits_in c.in_ok-unneeded.unneeded in
     let read : IsParse text_part text tree = c.in_ok-tree.ensures.ok in
-    let first : map part_of c.as_slice.result.now ≡ parts_in only begun tree.children = search rules in
-    let same : map part_of c.as_slice-2.result.now ≡ parts_in only begun tree.children = search rules in
-    subst (λ it. IsWithout it text (string_bytes c.in_ok-without.field-0)) c.in_ok-only.ensures
+    let first : map part_of c.as_slice.result.now ≡ parts_in choice begun tree.children = search rules in
+    let same : map part_of c.as_slice-2.result.now ≡ parts_in choice begun tree.children = search rules in
+    subst (λ only. IsWithout (record { only = only; drops_exported = c.args.drops_exported }) text (string_bytes c.in_ok-without.field-0)) c.in_ok-name_of.ensures
     (record {
       tree = tree;
       read = read;
       goes = goes;
       right = subst (AreRight goes) first c.in_ok-unneeded.ensures;
-      fits = cuts_fit only goes text_part text tree c.utf8.text read;
+      fits = cuts_fit choice goes text_part text tree c.utf8.text read;
       text = c.in_ok-without.ensures ∙ ap (λ parts. with_all (cuts goes parts) (begun_text text)) same;
     })

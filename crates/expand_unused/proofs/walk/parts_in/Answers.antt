@@ -16,30 +16,30 @@ levels-smaller-in-Over c =
 pub levels-preserved-in-Over : goal.levels-preserved-in-Over
 levels-preserved-in-Over c =
     let split : c.levels.levels.items ≡ c.pop.new.self.items ++ c.in-Some.level ∷ [] = search rules in
-    let is : IsStep c.args.only.now c.in-Some.level c.levels.parts.items step.Over c.step.new.self c.step.new.parts.items = search rules in
-    after_over c.args.only.now c.levels.levels.items c.pop.new.self.items c.in-Some.level c.step.new.self split c.levels.parts.items c.step.new.parts.items _
+    let is : IsStep c.args.choice.now c.in-Some.level c.levels.parts.items step.Over c.step.new.self c.step.new.parts.items = search rules in
+    after_over c.args.choice.now c.levels.levels.items c.pop.new.self.items c.in-Some.level c.step.new.self split c.levels.parts.items c.step.new.parts.items _
     c.levels.invariant is
 
 pub levels-smaller-in-Continue-branch-4 : goal.levels-smaller-in-Continue-branch-4
 levels-smaller-in-Continue-branch-4 c =
     let split : c.levels.levels.items ≡ c.pop.new.self.items ++ c.in-Some.level ∷ [] = search rules in
-    let is : IsStep c.args.only.now c.in-Some.level c.levels.parts.items step.Past c.step.new.self c.step.new.parts.items = search rules in
+    let is : IsStep c.args.choice.now c.in-Some.level c.levels.parts.items step.Past c.step.new.self c.step.new.parts.items = search rules in
     let more : c.push-in-Past.new.self.items ≡ c.pop.new.self.items ++ c.step.new.self ∷ [] = search rules in
     omega (arith, ap work_of split, work_more c.pop.new.self.items c.in-Some.level, ap work_of more, work_more c.pop.new.self.items c.step.new.self, is.less)
 
 pub levels-preserved-in-Continue-branch-4 : goal.levels-preserved-in-Continue-branch-4
 levels-preserved-in-Continue-branch-4 c =
     let split : c.levels.levels.items ≡ c.pop.new.self.items ++ c.in-Some.level ∷ [] = search rules in
-    let is : IsStep c.args.only.now c.in-Some.level c.levels.parts.items step.Past c.step.new.self c.step.new.parts.items = search rules in
+    let is : IsStep c.args.choice.now c.in-Some.level c.levels.parts.items step.Past c.step.new.self c.step.new.parts.items = search rules in
     let more : c.push-in-Past.new.self.items ≡ c.pop.new.self.items ++ c.step.new.self ∷ [] = search rules in
-    after_past c.args.only.now c.levels.levels.items c.pop.new.self.items c.in-Some.level c.step.new.self split c.levels.parts.items c.step.new.parts.items _
+    after_past c.args.choice.now c.levels.levels.items c.pop.new.self.items c.in-Some.level c.step.new.self split c.levels.parts.items c.step.new.parts.items _
     c.levels.invariant c.push-in-Past.new.self.items more is
 
 pub levels-smaller : goal.levels-smaller
 levels-smaller c =
     let outer = c.pop.new.self.items in
     let split : c.levels.levels.items ≡ outer ++ c.in-Some.level ∷ [] = search rules in
-    let is : IsStep c.args.only.now c.in-Some.level c.levels.parts.items (step.Into c.in-Into.children) c.step.new.self c.step.new.parts.items = search rules in
+    let is : IsStep c.args.choice.now c.in-Some.level c.levels.parts.items (step.Into c.in-Into.children) c.step.new.self c.step.new.parts.items = search rules in
     let one : c.push-in-Into.new.self.items ≡ outer ++ c.step.new.self ∷ [] = search rules in
     let two : c.push-in-Into-2.new.self.items ≡ c.push-in-Into.new.self.items ++ c.begun-in-Into.result ∷ [] = search rules in
     omega (
@@ -58,10 +58,10 @@ pub levels-preserved : goal.levels-preserved
 levels-preserved c =
     let outer = c.pop.new.self.items in
     let split : c.levels.levels.items ≡ outer ++ c.in-Some.level ∷ [] = search rules in
-    let is : IsStep c.args.only.now c.in-Some.level c.levels.parts.items (step.Into c.in-Into.children) c.step.new.self c.step.new.parts.items = search rules in
+    let is : IsStep c.args.choice.now c.in-Some.level c.levels.parts.items (step.Into c.in-Into.children) c.step.new.self c.step.new.parts.items = search rules in
     let one : c.push-in-Into.new.self.items ≡ outer ++ c.step.new.self ∷ [] = search rules in
     let two : c.push-in-Into-2.new.self.items ≡ c.push-in-Into.new.self.items ++ c.begun-in-Into.result ∷ [] = search rules in
-    let held : left_in c.args.only.now c.begun-in-Into.result ≡ parts_in c.args.only.now begun (rest_of c.in-Into.children) =
-    ap₂ (λ place trees. parts_in c.args.only.now place (rest_of trees)) c.begun-in-Into.ensures.place c.begun-in-Into.ensures.rest in
-    after_into c.args.only.now c.levels.levels.items outer c.in-Some.level c.step.new.self split c.levels.parts.items c.step.new.parts.items _ c.levels.invariant
+    let held : left_in c.args.choice.now c.begun-in-Into.result ≡ parts_in c.args.choice.now begun (rest_of c.in-Into.children) =
+    ap₂ (λ place trees. parts_in c.args.choice.now place (rest_of trees)) c.begun-in-Into.ensures.place c.begun-in-Into.ensures.rest in
+    after_into c.args.choice.now c.levels.levels.items outer c.in-Some.level c.step.new.self split c.levels.parts.items c.step.new.parts.items _ c.levels.invariant
     c.in-Into.children c.begun-in-Into.result c.push-in-Into-2.new.self.items (two ∙ ap (λ these. these ++ c.begun-in-Into.result ∷ []) one) held is

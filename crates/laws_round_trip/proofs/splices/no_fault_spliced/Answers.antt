@@ -1,4 +1,4 @@
-use Rattle.laws_round_trip.proofs.Woven.{no_fault_spliced}
+use Rattle.laws_round_trip.proofs.Spliced.{no_fault_spliced}
 use Rattle.laws_round_trip.proofs.splices.no_fault_spliced.Goals as goal
 
 pub returns : goal.returns

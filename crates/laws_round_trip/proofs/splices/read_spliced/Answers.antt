@@ -1,4 +1,4 @@
-use Rattle.laws_round_trip.proofs.Woven.{read_spliced}
+use Rattle.laws_round_trip.proofs.Spliced.{read_spliced}
 use Rattle.laws_round_trip.proofs.splices.read_spliced.Goals as goal
 
 pub returns : goal.returns

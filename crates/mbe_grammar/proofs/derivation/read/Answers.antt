@@ -1,16 +1,18 @@
 -- What the expression of a level took is left to read, or its trees are refused.
-use Rattle.std.proofs.Common.{rules, ◌≡◌, true, false, [], ◌∷◌, ◌++◌, reverse, Some, None, refl, ap, sym, subst, ◌∙◌}
-use Rattle.std.proofs.lemmas.List.{reverse-append}
+use Rattle.std.proofs.Common.{rules, ap₂, ◌≡◌, ◌+◌, ◌^◌, ◌<◌, ◌≤◌, true, List, [], ◌++◌, length, Some, None, refl, ap, sym, subst, ◌∙◌, arith}
 use Rattle.std.specs.Prelude.{option_map}
+use Rattle.tt.specs.Gluing.{after_trees}
+use Rattle.tt.specs.Siblings.{is_end}
 use Rattle.tt.specs.Views.{trees_of}
-use Rattle.mbe_grammar.specs.declared.derivation.Left.TheVariants as left
+use Rattle.mbe_grammar.specs.declared.derivation.Open.{Open}
 use Rattle.mbe_grammar.specs.Derivations.{place}
 use Rattle.mbe_grammar.specs.Deriving.{IsRead}
+use Rattle.mbe_grammar.specs.Left.{ahead_in, around, stopped}
 use Rattle.mbe_grammar.specs.Parses.{Parses}
-use Rattle.mbe_grammar.specs.Places.{position_of}
+use Rattle.mbe_grammar.specs.Places.{position_of, trees_in}
 use Rattle.mbe_grammar.specs.Positions.{first_position}
-use Rattle.mbe_grammar.proofs.Deriving.{onto, refuses_failed, read_whole, read_part}
-use Rattle.mbe_grammar.proofs.derivation.read.Goals.{then-not-is_at_end+in_ok-push, else-not-is_at_end}
+use Rattle.mbe_grammar.proofs.Ahead.{entries_added, added_length}
+use Rattle.mbe_grammar.proofs.Deriving.{onto, refuses_failed, read_level}
 use Rattle.mbe_grammar.proofs.derivation.read.Goals as goal
 
 pub returns-in_default : goal.returns-in_default
@@ -18,33 +20,39 @@ returns-in_default c =
     let rules_of = c.args.table.rules.now in
     let trees = trees_of c.args.it.trees in
     let none : c.truncate.new.self.items ≡ [] = search rules in
-    let from : position_of c.truncate.new.self.items c.first.result ≡ first_position trees = ap (λ log. position_of log c.first.result) none ∙ c.first.ensures in
-    let found : option_map (position_of c.parse.new.log.items) c.in_ok-to.field-0 ≡ None = search rules in
-    refuses_failed rules_of (place c.args.it)
-    (subst (Parses true rules_of c.args.it.name (first_position trees)) found (subst (λ f. Parses true rules_of c.args.it.name f (option_map (position_of c.parse.new.log.items) c.in_ok-to.field-0)) from c.in_ok-to.ensures))
+    let same : trees_in c.restart.new.self ≡ trees = c.restart.ensures in
+    let from : position_of (trees_in c.restart.new.self) c.truncate.new.self.items 0 ≡ first_position trees = ap₂ (λ t log. position_of t log 0) same none in
+    let is : c.in_ok-to.field-0 ≡ None = search rules in
+    let found : option_map (position_of trees c.parse.new.log.items) c.in_ok-to.field-0 ≡ None = ap (option_map (position_of trees c.parse.new.log.items)) is in
+    let refused = refuses_failed rules_of (place c.args.it)
+    (subst (Parses true rules_of c.args.it.name (first_position trees)) found (subst (λ f. Parses true rules_of c.args.it.name f (option_map (position_of trees c.parse.new.log.items) c.in_ok-to.field-0)) from (subst (λ t. Parses true rules_of c.args.it.name (position_of (trees_in c.restart.new.self) c.truncate.new.self.items 0) (option_map (position_of t c.parse.new.log.items) c.in_ok-to.field-0)) same c.in_ok-to.ensures.parses))) in
+    record { fits = λ older. tt; read = λ older. refused; err = tt }
 
 pub returns : goal.returns
 returns c =
     let rules_of = c.args.table.rules.now in
     let trees = trees_of c.args.it.trees in
-    let before = reverse c.args.left.now.items in
+    let old = c.args.log.now.items in
+    let more = c.parse.new.log.items in
     let none : c.truncate.new.self.items ≡ [] = search rules in
-    let from : position_of c.truncate.new.self.items c.first.result ≡ first_position trees = ap (λ log. position_of log c.first.result) none ∙ c.first.ensures in
-    let to = position_of c.parse.new.log.items c.in-Some.to in
-    let found : option_map (position_of c.parse.new.log.items) c.in_ok-to.field-0 ≡ Some to = search rules in
+    let same : trees_in c.restart.new.self ≡ trees = c.restart.ensures in
+    let from : position_of (trees_in c.restart.new.self) c.truncate.new.self.items 0 ≡ first_position trees = ap₂ (λ t log. position_of t log 0) same none in
+    let to = position_of trees c.parse.new.log.items c.in-Some.to in
+    let there : c.in_ok-to.field-0 ≡ Some c.in-Some.to = search rules in
+    let found : option_map (position_of trees c.parse.new.log.items) c.in_ok-to.field-0 ≡ Some to = ap (option_map (position_of trees c.parse.new.log.items)) there in
     let parses : Parses true rules_of c.args.it.name (first_position trees) (Some to) =
-    subst (Parses true rules_of c.args.it.name (first_position trees)) found (subst (λ f. Parses true rules_of c.args.it.name f (option_map (position_of c.parse.new.log.items) c.in_ok-to.field-0)) from c.in_ok-to.ensures) in
-    let stacked : reverse c.stack.new.left.items ≡ onto rules_of c.parse.new.log.items (reverse c.if-not-is_at_end.left.items) = c.in_ok-stack.ensures in
-    elim c.if-not-is_at_end.branch [
-      | then-not-is_at_end+in_ok-push w ↦
-          let more : c.if-not-is_at_end.left.items ≡ c.args.left.now.items ++ left.Stop c.args.it ∷ [] = search rules in
-          let is : reverse c.if-not-is_at_end.left.items ≡ left.Stop c.args.it ∷ before = ap reverse more ∙ reverse-append c.args.left.now.items (left.Stop c.args.it ∷ []) in
-          let stops : c.is_at_end.result ≡ false = search rules in
-          subst (IsRead rules_of (place c.args.it) before true) (sym (stacked ∙ ap (onto rules_of c.parse.new.log.items) is))
-          (read_part rules_of c.args.it c.parse.new.log.items before to parses refl (sym c.is_at_end.ensures ∙ stops))
-      | else-not-is_at_end w ↦
-          let same : c.if-not-is_at_end.left.items ≡ c.args.left.now.items = search rules in
-          let ends : c.is_at_end.result ≡ true = search rules in
-          subst (IsRead rules_of (place c.args.it) before true) (sym (stacked ∙ ap (λ t. onto rules_of c.parse.new.log.items (reverse t)) same))
-          (read_whole rules_of c.args.it c.parse.new.log.items before to parses refl (sym c.is_at_end.ensures ∙ ends))
-    ]
+    subst (Parses true rules_of c.args.it.name (first_position trees)) found (subst (λ f. Parses true rules_of c.args.it.name f (option_map (position_of trees c.parse.new.log.items) c.in_ok-to.field-0)) from (subst (λ t. Parses true rules_of c.args.it.name (position_of (trees_in c.restart.new.self) c.truncate.new.self.items 0) (option_map (position_of t c.parse.new.log.items) c.in_ok-to.field-0)) same c.in_ok-to.ensures.parses)) in
+    let ended : c.is_at_end.result ≡ is_end (after_trees c.in-Some.to trees) = c.is_at_end.ensures ∙ ap (λ t. is_end (after_trees c.in-Some.to t)) (c.in_ok-to.ensures.same ∙ same) in
+    let added : c.append.new.self.items ≡ old ++ more = search rules in
+    let first : c.len-since.result ≡ length old = search rules in
+    let short : length more < 2 ^ 64 = omega (arith, c.len-taken.type_inv, c.len-taken.ensures, c.parse.new.log.ok) in
+    let stop = c.stop_of-stop.result in
+    let left : (older : List Open) → ahead_in c.append.new.self.items c.len-since.result c.len-since.result stop older ≡ onto rules_of more (stopped stop (around old older)) =
+    λ older. entries_added old more c.append.new.self.items c.len-since.result stop older added first in
+    record {
+      fits = λ older. subst (λ l. length l ≤ length (around old older) + 2 ^ 64) (sym (left older)) (omega (arith, added_length more stop (around old older), short));
+      read = λ older. subst (λ l. IsRead rules_of (place c.args.it) (around old older) (Some l)) (sym (left older))
+          (subst (λ s. IsRead rules_of (place c.args.it) (around old older) (Some (onto rules_of more (stopped s (around old older))))) (sym c.stop_of-stop.ensures)
+          (read_level rules_of c.args.it more (around old older) to parses refl c.is_at_end.result (sym ended)));
+      err = tt;
+    }

@@ -1,26 +1,46 @@
 -- The machine begins at the expression, and each step leaves fewer steps.
-use Rattle.std.proofs.Common.{rules, ◌≡◌, [], reverse, length, subst, sym}
+use Rattle.std.proofs.Common.{rules, ◌≡◌, [], reverse, length, refl, subst, sym, ap, ◌∙◌}
 use Rattle.mbe_grammar.specs.Good.{IsGood}
 use Rattle.mbe_grammar.specs.Known.{glance_at}
 use Rattle.mbe_grammar.specs.Machine.{IsStep}
 use Rattle.mbe_grammar.specs.Machine as machine
-use Rattle.mbe_grammar.specs.Places.{position_of}
+use Rattle.mbe_grammar.specs.Places.{position_of, trees_in}
 use Rattle.mbe_grammar.specs.Running.{state_at, frames_of, HasRoom}
-use Rattle.mbe_grammar.proofs.Reaching.{Reaches, reaches_first, fewer_left}
+use Rattle.mbe_grammar.proofs.Reaching.{Reaches, reaches_first, reaches_on, fewer_left}
 use Rattle.mbe_grammar.proofs.machine.parse.Goals as goal
 
-pub loop-frames-init : goal.loop-frames-init
-loop-frames-init c =
+pub loop-next-init : goal.loop-next-init
+loop-next-init c =
     let good : IsGood c.args.table.rules.now = record { marks = c.args.table.marks.now; are_right = c.args.table.good } in
-    let none : reverse c.new-frames.result.items ≡ [] = search rules in
-    let from = position_of c.args.log.now.items c.args.from in record {
-      reaches = subst (λ fs. Reaches c.args.noting c.args.table.known.now c.args.table.rules.now c.args.at from (machine.reading c.args.at from) (frames_of c.args.log.now.items fs)) (sym none)
+    let trees = trees_in c.reach.new.self in
+    let empty : c.truncate.new.self.items ≡ [] = search rules in
+    let none : reverse c.truncate.new.self.items ≡ [] = ap reverse empty in
+    let from = position_of trees c.args.log.now.items 0 in record {
+      reaches = subst (λ fs. Reaches c.args.noting c.args.table.known.now c.args.table.rules.now c.args.at from (machine.reading c.args.at from) (frames_of trees c.args.log.now.items fs)) (sym none)
           (reaches_first c.args.noting c.args.table.known.now c.args.table.rules.now good c.args.table.right c.args.at from);
       room = subst (HasRoom (length c.args.log.now.items)) (sym none) tt;
+      same = refl;
+      decoded = search rules;
     }
 
-pub loop-frames-smaller : goal.loop-frames-smaller
-loop-frames-smaller c =
+pub loop-next-smaller : goal.loop-next-smaller
+loop-next-smaller c =
     let good : IsGood c.args.table.rules.now = record { marks = c.args.table.marks.now; are_right = c.args.table.good } in
-    let goes : IsStep c.args.noting (glance_at c.args.table.known.now) c.args.table.rules.now (state_at (position_of c.loop-frames.log.items c.loop-frames.here) c.loop-frames.state) (frames_of c.loop-frames.log.items (reverse c.loop-frames.frames.items)) (machine.goes (state_at (position_of c.step.new.log.items c.step.new.here) c.in-Goes.next)) (frames_of c.step.new.log.items (reverse c.step.new.frames.items)) = search rules in
-    fewer_left c.args.noting c.args.table.known.now c.args.table.rules.now good c.args.table.right (state_at (position_of c.loop-frames.log.items c.loop-frames.here) c.loop-frames.state) (frames_of c.loop-frames.log.items (reverse c.loop-frames.frames.items)) (state_at (position_of c.step.new.log.items c.step.new.here) c.in-Goes.next) (frames_of c.step.new.log.items (reverse c.step.new.frames.items)) goes
+    let trees = trees_in c.reach.new.self in
+    let l = c.loop-next in
+    let stepped : IsStep c.args.noting (glance_at c.args.table.known.now) c.args.table.rules.now (state_at (position_of (trees_in l.units) l.log.items l.here) l.state) (frames_of (trees_in l.units) l.log.items (reverse l.frames.items)) (machine.goes (state_at (position_of (trees_in l.units) c.step.new.log.items c.step.new.here) c.in-Goes.next)) (frames_of (trees_in l.units) c.step.new.log.items (reverse c.step.new.frames.items)) = search rules in
+    let goes = subst (λ t. IsStep c.args.noting (glance_at c.args.table.known.now) c.args.table.rules.now (state_at (position_of t l.log.items l.here) l.state) (frames_of t l.log.items (reverse l.frames.items)) (machine.goes (state_at (position_of t c.step.new.log.items c.step.new.here) c.in-Goes.next)) (frames_of t c.step.new.log.items (reverse c.step.new.frames.items))) l.invariant.same stepped in
+    fewer_left c.args.noting c.args.table.known.now c.args.table.rules.now good c.args.table.right (state_at (position_of trees l.log.items l.here) l.state) (frames_of trees l.log.items (reverse l.frames.items)) (state_at (position_of trees c.step.new.log.items c.step.new.here) c.in-Goes.next) (frames_of trees c.step.new.log.items (reverse c.step.new.frames.items)) goes
+
+pub loop-next-preserved : goal.loop-next-preserved
+loop-next-preserved c =
+    let trees = trees_in c.reach.new.self in
+    let l = c.loop-next in
+    let stepped : IsStep c.args.noting (glance_at c.args.table.known.now) c.args.table.rules.now (state_at (position_of (trees_in l.units) l.log.items l.here) l.state) (frames_of (trees_in l.units) l.log.items (reverse l.frames.items)) (machine.goes (state_at (position_of (trees_in l.units) c.step.new.log.items c.step.new.here) c.in-Goes.next)) (frames_of (trees_in l.units) c.step.new.log.items (reverse c.step.new.frames.items)) = search rules in
+    let goes = subst (λ t. IsStep c.args.noting (glance_at c.args.table.known.now) c.args.table.rules.now (state_at (position_of t l.log.items l.here) l.state) (frames_of t l.log.items (reverse l.frames.items)) (machine.goes (state_at (position_of t c.step.new.log.items c.step.new.here) c.in-Goes.next)) (frames_of t c.step.new.log.items (reverse c.step.new.frames.items))) l.invariant.same stepped in
+    record {
+      reaches = reaches_on c.args.noting c.args.table.known.now c.args.table.rules.now c.args.at (position_of trees c.args.log.now.items 0) (state_at (position_of trees l.log.items l.here) l.state) (frames_of trees l.log.items (reverse l.frames.items)) (state_at (position_of trees c.step.new.log.items c.step.new.here) c.in-Goes.next) (frames_of trees c.step.new.log.items (reverse c.step.new.frames.items)) goes l.invariant.reaches;
+      room = c.in_ok-next.ensures.room;
+      same = c.in_ok-next.ensures.same ∙ l.invariant.same;
+      decoded = c.in_ok-next.ensures.decoded;
+    }

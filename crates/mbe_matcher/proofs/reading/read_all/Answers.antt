@@ -9,9 +9,9 @@ use Rattle.mbe_matcher.specs.Closures.{IsClosure}
 use Rattle.mbe_matcher.specs.Threads.{views_of, IsGrown, threads_spread}
 use Rattle.mbe_matcher.proofs.Ending.{Says}
 use Rattle.mbe_matcher.proofs.Levelling.{within_rest, within_last, levels_within_kept, work_left, less_left}
-use Rattle.mbe_matcher.proofs.ReadingSteps.{told_first, within_init, told_next, work_kept}
+use Rattle.mbe_matcher.proofs.ReadingSteps.{cover_first, within_init, cover_next, work_kept}
 use Rattle.mbe_matcher.proofs.ClosureSteps.{calm_level}
-use Rattle.mbe_matcher.proofs.Stopping.{AreTold, told_on, says_ended, stopped_ended, stopped_nowhere, finds, none_told}
+use Rattle.mbe_matcher.proofs.Stopping.{AreCovering, cover_on, says_ended, stopped_ended, stopped_nowhere, finds, none_covered}
 use Rattle.mbe_matcher.proofs.reading.read_all.Goals as goal
 
 pub loop-level-init : goal.loop-level-init
@@ -26,7 +26,7 @@ loop-level-init c =
     let until : c.len.result ≡ size input = search rules in
     let is : c.push.new.self.items ≡ [] ++ level ∷ [] = search rules in
     record {
-      told = λ rank ranked. told_first c.args.places.now c.args.starts.now c.args.input log its c.push.new.self.items level spreads is refl until refl;
+      cover = λ rank ranked. cover_first c.args.places.now c.args.starts.now c.args.input log its c.push.new.self.items level spreads is refl until refl;
       within = subst (AreLevelsWithin log) (sym is) (within_init log c.args.starts.now its spreads, tt);
     }
 
@@ -70,14 +70,14 @@ returns-in-Some-2 c rank ranked =
     let choice_is : c.chosen-choice.result ≡ choice_of places choice.Nothing c.deref.result.now = search rules in
     let found_is : c.find_by.result ≡ found_of c.chosen-choice.result c.advance.new.log c.reached-farthest.result = search rules in
     let within = within_rest log popped level (subst (AreLevelsWithin log) was c.loop-level.invariant.within) in
-    let told = told_next places starts input log mid c.loop-level.levels.items popped level calm far was grown within rest until closure (c.loop-level.invariant.told rank ranked) in
+    let cover = cover_next places starts input log mid c.loop-level.levels.items popped level calm far was grown within rest until closure (c.loop-level.invariant.cover rank ranked) in
     let still = calm_level places rank ranked (rest_of level.rest) (rest_of calm.rest) (views_of log level.threads.items) (views_of mid calm.threads.items) (sym rest) closure in
     let at = reached (rest_of level.rest) (level.until - size (rest_of level.rest)) far level.threads.items in
     subst (Finds (ReadsAll places starts input) (λ left. StopsAll places left starts input) (size input)) (sym (found_is ∙ ap (found_of c.chosen-choice.result c.advance.new.log) reached_at))
     (finds places starts input c.advance.new.log at c.chosen-choice.result
     (subst (Says places (ReadsAll places starts input) new) (sym (choice_is ∙ ap (choice_of places choice.Nothing) here))
-    (says_ended places starts input at (level_view mid calm) (level_views mid (reverse popped)) told.0 told.1 new its still ended))
-    (stopped_ended places starts input at (level_view mid calm) (level_views mid (reverse popped)) told.0 told.1 (views_of new its) ended))
+    (says_ended places starts input at (level_view mid calm) (level_views mid (reverse popped)) cover.0 cover.1 new its still ended))
+    (stopped_ended places starts input at (level_view mid calm) (level_views mid (reverse popped)) cover.0 cover.1 (views_of new its) ended))
 
 pub loop-level-preserved : goal.loop-level-preserved
 loop-level-preserved c =
@@ -102,11 +102,11 @@ loop-level-preserved c =
     let within : AreLevelsWithin new news = search rules in
     let before = within_rest log popped level (subst (AreLevelsWithin log) was c.loop-level.invariant.within) in
     record {
-      told = λ rank ranked.
-          let told = told_next places starts input log mid c.loop-level.levels.items popped level calm far was grown before rest until closure (c.loop-level.invariant.told rank ranked) in
-          subst (λ at. AreTold places starts input at (level_views new (reverse news))) (sym reached_at)
-          (told_on places starts input (reached (rest_of level.rest) (level.until - size (rest_of level.rest)) far level.threads.items)
-          (level_view mid calm) (level_views mid (reverse popped)) told.0 told.1 (level_views new (reverse news))
+      cover = λ rank ranked.
+          let cover = cover_next places starts input log mid c.loop-level.levels.items popped level calm far was grown before rest until closure (c.loop-level.invariant.cover rank ranked) in
+          subst (λ at. AreCovering places starts input at (level_views new (reverse news))) (sym reached_at)
+          (cover_on places starts input (reached (rest_of level.rest) (level.until - size (rest_of level.rest)) far level.threads.items)
+          (level_view mid calm) (level_views mid (reverse popped)) cover.0 cover.1 (level_views new (reverse news))
           (calm_level places rank ranked (rest_of level.rest) (rest_of calm.rest) (views_of log level.threads.items) (views_of mid calm.threads.items) (sym rest) closure) steps);
       within = within;
     }
@@ -138,5 +138,5 @@ returns c rank ranked =
     let starts = c.args.starts.now in
     let input = rest_of c.args.input in
     let none : c.loop-level.levels.items ≡ [] = search rules in
-    let told = subst (λ ls. AreTold places starts input c.loop-level.farthest (level_views c.loop-level.log.items (reverse ls))) none (c.loop-level.invariant.told rank ranked) in
-    (none_told places starts input c.loop-level.farthest told, stopped_nowhere places starts input c.loop-level.farthest told)
+    let cover = subst (λ ls. AreCovering places starts input c.loop-level.farthest (level_views c.loop-level.log.items (reverse ls))) none (c.loop-level.invariant.cover rank ranked) in
+    (none_covered places starts input c.loop-level.farthest cover, stopped_nowhere places starts input c.loop-level.farthest cover)

@@ -4,13 +4,13 @@ use Rattle.tt.specs.Iters.{rest_of}
 use Rattle.mbe_matcher.specs.Levels.{level_views, AreLevelsWithin}
 use Rattle.mbe_matcher.specs.Closures.{AreRanked}
 use Rattle.mbe_matcher.proofs.Levelling.{work_left}
-use Rattle.mbe_matcher.proofs.Stopping.{AreTold}
+use Rattle.mbe_matcher.proofs.Stopping.{AreCovering}
 use Rattle.mbe_matcher.proofs.reading.read_all.Given as goal
 
 abbrev pub invariant-loop-level : goal.invariant-loop-level
 invariant-loop-level l =
     record {
-      told : (rank : ℕ → ℕ) → AreRanked l.places rank → AreTold l.places l.starts (rest_of l.fn.input) l.farthest (level_views l.log.items (reverse l.levels.items));
+      cover : (rank : ℕ → ℕ) → AreRanked l.places rank → AreCovering l.places l.starts (rest_of l.fn.input) l.farthest (level_views l.log.items (reverse l.levels.items));
       within : AreLevelsWithin l.log.items l.levels.items;
     }
 

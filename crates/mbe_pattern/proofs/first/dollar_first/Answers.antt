@@ -24,8 +24,8 @@ returns-in-Ok c =
     let first : IsFirstSubtree rest header inner = search rules in
     let begins : rest ≡ node header.delimiter (rest_of inner) (after_tree rest) = node_before rest header inner first in
     let seen : rest_of c.iter.result ≡ rest = search rules in
-    let told : spelling.repetition (record { separator = tail.separator.items; kind = tail.kind }) ≡ dollar_in (rest_of c.iter.result) = search rules in
-    let same : dollar_in rest ≡ spelling.repetition (record { separator = tail.separator.items; kind = tail.kind }) = sym (told ∙ ap dollar_in seen) in
+    let found : spelling.repetition (record { separator = tail.separator.items; kind = tail.kind }) ≡ dollar_in (rest_of c.iter.result) = search rules in
+    let same : dollar_in rest ≡ spelling.repetition (record { separator = tail.separator.items; kind = tail.kind }) = sym (found ∙ ap dollar_in seen) in
     let left : rest_of c.pass-in-Ok.new.trees ≡ after_trees (length tail.separator.items) (after_tree (after_tree rest)) = search rules in
     let before : c.place_before.result ≡ until - size rest = search rules in
     let less : c.saturating_sub-at.result ≡ c.place_before.result - 1 = search rules in
@@ -41,27 +41,27 @@ unreachable-requires c =
     let rest = rest_of c.args.siblings.now in
     let tail = tail_of c.in-Repetition.tail in
     let seen : rest_of c.iter.result ≡ rest = search rules in
-    let told : spelling.repetition tail ≡ dollar_in (rest_of c.iter.result) = search rules in
+    let found : spelling.repetition tail ≡ dollar_in (rest_of c.iter.result) = search rules in
     let none : is_at_node rest ≡ false = search rules in
-    node_there rest tail (sym (told ∙ ap dollar_in seen)) none
+    node_there rest tail (sym (found ∙ ap dollar_in seen)) none
 
 pub returns-in-CrateRoot : goal.returns-in-CrateRoot
 returns-in-CrateRoot c =
     let rest = rest_of c.args.siblings.now in
     let seen : rest_of c.iter.result ≡ rest = search rules in
-    let told : spelling.crate_root ≡ dollar_in (rest_of c.iter.result) = search rules in
-    (c.args.dollar ∷ [], placed_crate c.args.until c.args.dollar rest c.requires (sym (told ∙ ap dollar_in seen)))
+    let found : spelling.crate_root ≡ dollar_in (rest_of c.iter.result) = search rules in
+    (c.args.dollar ∷ [], placed_crate c.args.until c.args.dollar rest c.requires (sym (found ∙ ap dollar_in seen)))
 
 pub returns-in-Nothing : goal.returns-in-Nothing
 returns-in-Nothing c =
     let until = c.args.until in
     let rest = rest_of c.args.siblings.now in
     let seen : rest_of c.iter.result ≡ rest = search rules in
-    let told : spelling.nothing ≡ dollar_in (rest_of c.iter.result) = search rules in
+    let found : spelling.nothing ≡ dollar_in (rest_of c.iter.result) = search rules in
     let before : c.place_before.result ≡ until - size rest = search rules in
     let less : c.saturating_sub-at.result ≡ c.place_before.result - 1 = search rules in
     let at : c.saturating_sub-at.result ≡ until - size (leaf c.args.dollar rest) = omega (arith, before, less) in
     let again : rest_of c.iter-in-Nothing.result ≡ rest = search rules in
     let fault : c.fault_in-fault.result ≡ fault_in c.saturating_sub-at.result (rest_of c.iter-in-Nothing.result) = search rules in
-    placed_wrong until c.args.dollar rest c.requires (sym (told ∙ ap dollar_in seen))
+    placed_wrong until c.args.dollar rest c.requires (sym (found ∙ ap dollar_in seen))
     ∙ sym (ap (λ why. placed.wrong why c.args.dollar (placed_until until rest)) (fault ∙ ap₂ fault_in at again))

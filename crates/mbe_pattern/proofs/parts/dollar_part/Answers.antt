@@ -21,8 +21,8 @@ returns-in-Ok-clause-part c =
     let first : IsFirstSubtree rest header inner = search rules in
     let begins : rest ≡ node header.delimiter (rest_of inner) (after_tree rest) = node_before rest header inner first in
     let seen : rest_of c.iter.result ≡ rest = search rules in
-    let told : spelling.repetition (record { separator = tail.separator.items; kind = tail.kind }) ≡ dollar_in (rest_of c.iter.result) = search rules in
-    let same : dollar_in rest ≡ spelling.repetition (record { separator = tail.separator.items; kind = tail.kind }) = sym (told ∙ ap dollar_in seen) in
+    let found : spelling.repetition (record { separator = tail.separator.items; kind = tail.kind }) ≡ dollar_in (rest_of c.iter.result) = search rules in
+    let same : dollar_in rest ≡ spelling.repetition (record { separator = tail.separator.items; kind = tail.kind }) = sym (found ∙ ap dollar_in seen) in
     let left : rest_of c.pass-in-Ok.new.trees ≡ after_trees (length tail.separator.items) (after_tree (after_tree rest)) = search rules in
     dollar_repetition c.args.dollar rest c.requires header.delimiter (rest_of inner) (after_tree rest) (rest_of c.pass-in-Ok.new.trees) tail.separator.items tail.kind begins same left
 
@@ -42,6 +42,6 @@ unreachable-requires c =
     let rest = rest_of c.args.siblings.now in
     let tail = tail_of c.in-Repetition.tail in
     let seen : rest_of c.iter.result ≡ rest = search rules in
-    let told : spelling.repetition tail ≡ dollar_in (rest_of c.iter.result) = search rules in
+    let found : spelling.repetition tail ≡ dollar_in (rest_of c.iter.result) = search rules in
     let none : is_at_node rest ≡ false = search rules in
-    node_there rest tail (sym (told ∙ ap dollar_in seen)) none
+    node_there rest tail (sym (found ∙ ap dollar_in seen)) none

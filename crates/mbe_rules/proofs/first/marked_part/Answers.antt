@@ -22,8 +22,8 @@ returns-in_ok-separator-in-Ok c =
     let first : IsFirstSubtree rest header inner = search rules in
     let begins : rest ≡ node header.delimiter (rest_of inner) (after_tree rest) = node_before rest header inner first in
     let seen : rest_of c.iter.result ≡ rest = search rules in
-    let told : spelling.repetition (record { separator = tail.separator.items; kind = tail.kind }) ≡ mark_in variables (rest_of c.iter.result) = search rules in
-    let same : mark_in variables rest ≡ spelling.repetition (record { separator = tail.separator.items; kind = tail.kind }) = sym (told ∙ ap (mark_in variables) seen) in
+    let found : spelling.repetition (record { separator = tail.separator.items; kind = tail.kind }) ≡ mark_in variables (rest_of c.iter.result) = search rules in
+    let same : mark_in variables rest ≡ spelling.repetition (record { separator = tail.separator.items; kind = tail.kind }) = sym (found ∙ ap (mark_in variables) seen) in
     let left : rest_of c.pass.new.trees ≡ after_trees (length tail.separator.items) (after_tree (after_tree rest)) = search rules in
     let before : c.place_before.result ≡ until - size rest = search rules in
     let less : c.saturating_sub-at.result ≡ c.place_before.result - 1 = search rules in

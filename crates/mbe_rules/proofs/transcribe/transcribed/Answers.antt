@@ -10,10 +10,10 @@ use Rattle.mbe_rules.specs.declared.transcribe_error.TranscribeError.TheVariants
 use Rattle.mbe_rules.specs.Transcribing.{transcribed}
 use Rattle.mbe_rules.specs.Parts.{bit_of}
 use Rattle.mbe_rules.specs.Rounds.{AreTaken}
-use Rattle.mbe_rules.specs.Standing.{IsAt, Goes, IsStop, bits_from, AreLevels}
+use Rattle.mbe_rules.specs.Filling.{IsAt, Goes, IsStop, bits_from, AreLevels}
 use Rattle.mbe_rules.specs.Wholes.{whole_of}
 use Rattle.mbe_rules.specs.Writing.{written_by}
-use Rattle.mbe_rules.proofs.Finishing.{written_of, first_level, starts, starts_whole, ends, ends_whole, not_open, built_is, told_all, stop_told}
+use Rattle.mbe_rules.proofs.Finishing.{written_of, first_level, starts, starts_whole, ends, ends_whole, not_open, built_is, limit_of_all, stop_is_error}
 use Rattle.mbe_rules.proofs.Measuring.{work_is}
 use Rattle.mbe_rules.proofs.transcribe.transcribed.Goals as goal
 
@@ -23,7 +23,7 @@ loop-part-init c =
     let builder : c.in_ok-new.field-0 ≡ empty_builder c.args.delimiter = search rules in
     record {
       levels = first_level c.args.parts.now binding ∷ [];
-      stands = starts c.args.parts.now binding (record { builder = c.in_ok-new.field-0; rounds = c.new-2.result; closes = c.new-3.result }) c.args.delimiter c.requires builder c.new-2.ensures.items c.new-3.ensures.items;
+      is_at = starts c.args.parts.now binding (record { builder = c.in_ok-new.field-0; rounds = c.new-2.result; closes = c.new-3.result }) c.args.delimiter c.requires builder c.new-2.ensures.items c.new-3.ensures.items;
       whole = starts_whole c.args.parts.now binding (record { builder = c.in_ok-new.field-0; rounds = c.new-2.result; closes = c.new-3.result }) c.args.delimiter builder;
       top = ap (λ b. b.top) builder;
     }
@@ -41,11 +41,11 @@ returns-in_err-next-clause-err c =
     let here : drop at parts ≡ part ∷ drop (at + 1) parts = drop_more parts at part lt ∙ ap (λ p. p ∷ drop (at + 1) parts) (sym there) in
     let are : AreTaken binding c.in_ok-taken.taken.items = search rules in
     let taken : c.deref.result.now ≡ c.in_ok-taken.taken.items = search rules in
-    let stands : IsAt bits binding inv.levels c.loop-part.transcriber (bit_of part ∷ bits_from parts (at + 1)) = subst (λ l. IsAt bits binding inv.levels c.loop-part.transcriber (map bit_of l)) here inv.stands in
+    let is_at : IsAt bits binding inv.levels c.loop-part.transcriber (bit_of part ∷ bits_from parts (at + 1)) = subst (λ l. IsAt bits binding inv.levels c.loop-part.transcriber (map bit_of l)) here inv.is_at in
     let failed : c.from_residual-in_err-next.result ≡ Err c.in_err-next.field-0.0 = search rules in
     rw failed
-    (stop_told c.args.delimiter (transcribed (whole_of parts) binding) c.in_err-next.field-0.0
-    (subst (λ w. IsStop w c.in_err-next.field-0.0) inv.whole (c.in_err-next.ensures.err binding inv.levels (subst (AreTaken binding) (sym taken) are) stands)))
+    (stop_is_error c.args.delimiter (transcribed (whole_of parts) binding) c.in_err-next.field-0.0
+    (subst (λ w. IsStop w c.in_err-next.field-0.0) inv.whole (c.in_err-next.ensures.err binding inv.levels (subst (AreTaken binding) (sym taken) are) is_at)))
 
 pub loop-part-smaller : goal.loop-part-smaller
 loop-part-smaller c =
@@ -60,14 +60,14 @@ loop-part-smaller c =
     let here : drop at parts ≡ part ∷ drop (at + 1) parts = drop_more parts at part lt ∙ ap (λ p. p ∷ drop (at + 1) parts) (sym there) in
     let are : AreTaken binding c.in_ok-taken.taken.items = search rules in
     let taken : c.deref.result.now ≡ c.in_ok-taken.taken.items = search rules in
-    let stands : IsAt bits binding inv.levels c.loop-part.transcriber (bit_of part ∷ bits_from parts (at + 1)) = subst (λ l. IsAt bits binding inv.levels c.loop-part.transcriber (map bit_of l)) here inv.stands in
+    let is_at : IsAt bits binding inv.levels c.loop-part.transcriber (bit_of part ∷ bits_from parts (at + 1)) = subst (λ l. IsAt bits binding inv.levels c.loop-part.transcriber (map bit_of l)) here inv.is_at in
     let goes : Goes bits binding inv.levels c.loop-part.transcriber c.step.new.self (bits_from parts c.in_ok-next.next) =
-    c.in_ok-next.ensures.ok binding inv.levels (subst (AreTaken binding) (sym taken) are) stands in
+    c.in_ok-next.ensures.ok binding inv.levels (subst (AreTaken binding) (sym taken) are) is_at in
     omega (
       arith,
       goes.less,
-      work_is bits binding inv.levels (reverse c.loop-part.transcriber.rounds.items) (reverse c.loop-part.transcriber.closes.items) (map bit_of (drop at parts)) inv.stands.stand,
-      work_is bits binding goes.news (reverse c.step.new.self.rounds.items) (reverse c.step.new.self.closes.items) (bits_from parts c.in_ok-next.next) goes.stands.stand,
+      work_is bits binding inv.levels (reverse c.loop-part.transcriber.rounds.items) (reverse c.loop-part.transcriber.closes.items) (map bit_of (drop at parts)) inv.is_at.agree,
+      work_is bits binding goes.news (reverse c.step.new.self.rounds.items) (reverse c.step.new.self.closes.items) (bits_from parts c.in_ok-next.next) goes.is_at.agree,
     )
 
 pub loop-part-preserved : goal.loop-part-preserved
@@ -83,12 +83,12 @@ loop-part-preserved c =
     let here : drop at parts ≡ part ∷ drop (at + 1) parts = drop_more parts at part lt ∙ ap (λ p. p ∷ drop (at + 1) parts) (sym there) in
     let are : AreTaken binding c.in_ok-taken.taken.items = search rules in
     let taken : c.deref.result.now ≡ c.in_ok-taken.taken.items = search rules in
-    let stands : IsAt bits binding inv.levels c.loop-part.transcriber (bit_of part ∷ bits_from parts (at + 1)) = subst (λ l. IsAt bits binding inv.levels c.loop-part.transcriber (map bit_of l)) here inv.stands in
+    let is_at : IsAt bits binding inv.levels c.loop-part.transcriber (bit_of part ∷ bits_from parts (at + 1)) = subst (λ l. IsAt bits binding inv.levels c.loop-part.transcriber (map bit_of l)) here inv.is_at in
     let goes : Goes bits binding inv.levels c.loop-part.transcriber c.step.new.self (bits_from parts c.in_ok-next.next) =
-    c.in_ok-next.ensures.ok binding inv.levels (subst (AreTaken binding) (sym taken) are) stands in
+    c.in_ok-next.ensures.ok binding inv.levels (subst (AreTaken binding) (sym taken) are) is_at in
     record {
       levels = goes.news;
-      stands = goes.stands;
+      is_at = goes.is_at;
       whole = goes.same ∙ inv.whole;
       top = goes.top ∙ inv.top;
     }
@@ -104,7 +104,7 @@ build-requires c =
     let nothing_left : map bit_of (drop c.loop-part.next parts) ≡ [] = ap (map bit_of) (drop_of_length-le parts beyond) in
     let none : inv.levels ≡ [] =
     ends bits binding inv.levels (reverse c.loop-part.transcriber.rounds.items) (reverse c.loop-part.transcriber.closes.items)
-    (subst (λ l. AreLevels bits binding inv.levels (reverse c.loop-part.transcriber.rounds.items) (reverse c.loop-part.transcriber.closes.items) l) nothing_left inv.stands.stand) in
+    (subst (λ l. AreLevels bits binding inv.levels (reverse c.loop-part.transcriber.rounds.items) (reverse c.loop-part.transcriber.closes.items) l) nothing_left inv.is_at.agree) in
     let whole : written_by c.loop-part.transcriber ≡ written_of all = ends_whole c.loop-part.transcriber inv.levels all none inv.whole in
     not_open c.loop-part.transcriber all whole
 
@@ -119,12 +119,12 @@ returns-in_err-build-clause-err c =
     let nothing_left : map bit_of (drop c.loop-part.next parts) ≡ [] = ap (map bit_of) (drop_of_length-le parts beyond) in
     let none : inv.levels ≡ [] =
     ends bits binding inv.levels (reverse c.loop-part.transcriber.rounds.items) (reverse c.loop-part.transcriber.closes.items)
-    (subst (λ l. AreLevels bits binding inv.levels (reverse c.loop-part.transcriber.rounds.items) (reverse c.loop-part.transcriber.closes.items) l) nothing_left inv.stands.stand) in
+    (subst (λ l. AreLevels bits binding inv.levels (reverse c.loop-part.transcriber.rounds.items) (reverse c.loop-part.transcriber.closes.items) l) nothing_left inv.is_at.agree) in
     let whole : written_by c.loop-part.transcriber ≡ written_of all = ends_whole c.loop-part.transcriber inv.levels all none inv.whole in
     let fault = c.in_err-build.field-0.0.fault in
     let failed : c.from_residual-in_err-build.result ≡ Err (Tree fault) = search rules in
     rw failed (
-      told_all all fault (ap (λ w. w.fault) whole),
+      limit_of_all all fault (ap (λ w. w.fault) whole),
       subst (λ root. IsTreeFault root fault) (built_is c.loop-part.transcriber all c.args.delimiter whole inv.top) c.in_err-build.ensures.fault,
     )
 
@@ -139,7 +139,7 @@ returns-clause-ok c =
     let nothing_left : map bit_of (drop c.loop-part.next parts) ≡ [] = ap (map bit_of) (drop_of_length-le parts beyond) in
     let none : inv.levels ≡ [] =
     ends bits binding inv.levels (reverse c.loop-part.transcriber.rounds.items) (reverse c.loop-part.transcriber.closes.items)
-    (subst (λ l. AreLevels bits binding inv.levels (reverse c.loop-part.transcriber.rounds.items) (reverse c.loop-part.transcriber.closes.items) l) nothing_left inv.stands.stand) in
+    (subst (λ l. AreLevels bits binding inv.levels (reverse c.loop-part.transcriber.rounds.items) (reverse c.loop-part.transcriber.closes.items) l) nothing_left inv.is_at.agree) in
     let whole : written_by c.loop-part.transcriber ≡ written_of all = ends_whole c.loop-part.transcriber inv.levels all none inv.whole in
     record {
       sound = sym (ap (λ w. w.fault) whole);

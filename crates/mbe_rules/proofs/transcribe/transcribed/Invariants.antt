@@ -6,10 +6,10 @@ use Rattle.mbe_matcher.specs.Marks.{note_of}
 use Rattle.mbe_matcher.specs.Stepping.{where_of}
 use Rattle.mbe_rules.specs.Transcribing.{transcribed}
 use Rattle.mbe_rules.specs.Parts.{bit_of}
-use Rattle.mbe_rules.specs.Standing.{IsAt}
-use Rattle.mbe_rules.specs.Wholes.{whole_of, read_all}
+use Rattle.mbe_rules.specs.Filling.{IsAt}
+use Rattle.mbe_rules.specs.Wholes.{whole_of, levels_in}
 use Rattle.mbe_rules.specs.Writing.{Level, written_by, finished}
-use Rattle.mbe_rules.proofs.Measuring.{reads_in, work_at}
+use Rattle.mbe_rules.proofs.Measuring.{work_at}
 use Rattle.mbe_rules.proofs.transcribe.transcribed.Given as goal
 
 abbrev pub invariant-loop-part : goal.invariant-loop-part
@@ -18,12 +18,12 @@ invariant-loop-part l =
     let all = transcribed (whole_of l.parts) binding in
     record {
       levels : List Level;
-      stands : IsAt (map bit_of l.parts) binding levels l.transcriber (map bit_of (drop l.next l.parts));
+      is_at : IsAt (map bit_of l.parts) binding levels l.transcriber (map bit_of (drop l.next l.parts));
       whole : finished levels (written_by l.transcriber) ≡ record { stack = lowest all.trees; fault = all.fault };
       top : l.transcriber.builder.top ≡ l.fn.delimiter;
     }
 
 abbrev pub decreases-loop-part : goal.decreases-loop-part
 decreases-loop-part l =
-    work_at (map bit_of l.parts) (binding_by (map where_of l.binders) (map note_of l.fn.binding.marks.items)) (reads_in (read_all (map bit_of (drop l.next l.parts))))
+    work_at (map bit_of l.parts) (binding_by (map where_of l.binders) (map note_of l.fn.binding.marks.items)) (levels_in (map bit_of (drop l.next l.parts)))
     (reverse l.transcriber.rounds.items)

@@ -93,12 +93,12 @@ returns-in_err-last-in-Some-Subtree-clause-err c =
     let why = c.in_err-last-in-Some-Subtree.field-0.0 in
     let first : IsFirstElement (rest_of level.rest) (Some (element.Subtree subtree children)) = search rules in
     let rest : rest_of c.next.new.self ≡ after_tree (rest_of level.rest) = search rules in
-    let told : brackets ≡ brackets_of subtree.delimiter.kind (shown (rest_of children)) = search rules in
+    let facts : brackets ≡ brackets_of subtree.delimiter.kind (shown (rest_of children)) = search rules in
     let fault : IsFaultBefore c.tokens.last (opens brackets) why = search rules in
     let failed : c.from_residual-in_err-last-in-Some-Subtree.result ≡ Err why = search rules in
     let is : IsWriteFault trees why =
     fault_in trees (string_bytes c.tokens.text) c.tokens.last (marks_left c.tokens.at (level ∷ outer)) (opens brackets) (marks_left (c.tokens.at + 1) (below ∷ next ∷ outer)) why
-    (marks_subtree c.tokens.at level next below outer subtree children first rest refl refl told) fault c.tokens.invariant.0 in
+    (marks_subtree c.tokens.at level next below outer subtree children first rest refl refl facts) fault c.tokens.invariant.0 in
     search (rules, failed, is)
 
 pub tokens-preserved-in-Some-Subtree : goal.tokens-preserved-in-Some-Subtree
@@ -113,14 +113,14 @@ tokens-preserved-in-Some-Subtree c =
     let below : Level = record { rest = children; brackets = brackets } in
     let first : IsFirstElement (rest_of level.rest) (Some (element.Subtree subtree children)) = search rules in
     let rest : rest_of c.next.new.self ≡ after_tree (rest_of level.rest) = search rules in
-    let told : brackets ≡ brackets_of subtree.delimiter.kind (shown (rest_of children)) = search rules in
+    let facts : brackets ≡ brackets_of subtree.delimiter.kind (shown (rest_of children)) = search rules in
     let pushed : c.push.new.self.items ≡ c.tokens.outer.items ++ next ∷ [] = search rules in
     let turned : next ∷ outer ≡ reverse c.push.new.self.items = sym (ap reverse pushed ∙ reverse-append c.tokens.outer.items (next ∷ [])) in
     let wrote : Writes (string_bytes c.tokens.text) c.tokens.last (opens brackets) (string_bytes c.write_opening.new.text) c.in_ok-last-in-Some-Subtree.last = search rules in (
       subst (λ levels. IsWrittenTo trees (string_bytes c.write_opening.new.text) c.in_ok-last-in-Some-Subtree.last (marks_left (c.tokens.at + 1) (below ∷ levels))) turned
           (goes_on trees (string_bytes c.tokens.text) (string_bytes c.write_opening.new.text) c.tokens.last c.in_ok-last-in-Some-Subtree.last
           (marks_left c.tokens.at (level ∷ outer)) (opens brackets) (marks_left (c.tokens.at + 1) (below ∷ next ∷ outer))
-          (marks_subtree c.tokens.at level next below outer subtree children first rest refl refl told) wrote c.tokens.invariant.0),
+          (marks_subtree c.tokens.at level next below outer subtree children first rest refl refl facts) wrote c.tokens.invariant.0),
       subst (λ levels. (c.tokens.at + 1) + tokens_left (below ∷ levels) ≡ c.len-tokens.result) turned
           (tokens_subtree c.tokens.at c.len-tokens.result level next below outer subtree children first rest refl c.tokens.invariant.1),
     )

@@ -1,4 +1,4 @@
--- What was written, and the text that the levels have still to give, are the whole text.
+-- The text written so far, and what the levels still have to write, are the whole text.
 use Rattle.std.proofs.Common.{◌≡◌, ◌+◌, ◌*◌, ◌++◌, ◌∷◌, false, length, reverse}
 use Rattle.std.specs.Prelude.{string_bytes}
 use Rattle.tt_base.specs.TreeText.{siblings_text}

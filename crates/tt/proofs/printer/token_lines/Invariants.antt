@@ -1,4 +1,4 @@
--- What was written, and the lines that the levels have still to give, are all lines.
+-- The lines written so far, and what the levels still have to write, are all lines.
 use Rattle.std.proofs.Common.{◌≡◌, ◌+◌, ◌*◌, ◌++◌, ◌∷◌, false, length, reverse}
 use Rattle.std.specs.Prelude.{string_bytes}
 use Rattle.tt_base.specs.DebugText.{lines_text}

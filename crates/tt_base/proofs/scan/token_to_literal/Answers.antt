@@ -2,7 +2,7 @@ use Rattle.std.proofs.Common.{arith, rules}
 use Rattle.std.proofs.lemmas.Grind.{common_steps}
 use Rattle.tt_base.proofs.scan.token_to_literal.Goals as goal
 
--- explicit: the search that stands for an answer ends late where there is none
+-- explicit: an automatic search for this answer takes long before it fails
 pub returns-in_default-cut-clause-err : goal.returns-in_default-cut-clause-err
 returns-in_default-cut-clause-err c = search rules
 

@@ -1,4 +1,4 @@
--- The tokens are a whole list exactly if those to come make up the open levels.
+-- The tokens are a whole list exactly if those to come complete the open levels.
 use Rattle.std.proofs.Common.{◌↔◌, drop}
 use Rattle.tt_base.specs.Forest.{IsWhole}
 use Rattle.tt_base.specs.Levels.{open_levels}

@@ -3,7 +3,7 @@ use Rattle.std.proofs.lemmas.List.{drop_all}
 use Rattle.tt_bytes.specs.Faults.{common_length}
 use Rattle.tt_bytes.proofs.compare.common_length.Goals as goal
 
--- Nothing begins like no bytes.
+-- A list has nothing in common with the empty one.
 with_none : (one : List ℕ) → common_length one [] ≡ 0
 with_none [] = refl
 with_none (a ∷ one) = refl

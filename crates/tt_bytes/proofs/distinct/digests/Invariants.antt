@@ -1,4 +1,4 @@
--- The numbers so far are those of the symbols so far.
+-- The digests so far are those of the symbols so far.
 use Rattle.std.proofs.Common.{◌≡◌, map, take}
 use Rattle.tt_bytes.specs.Digest.{digest_of}
 use Rattle.tt_bytes.proofs.distinct.digests.Given as goal

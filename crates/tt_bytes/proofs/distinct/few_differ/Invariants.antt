@@ -1,4 +1,4 @@
--- All values differ where those to come do, and there alone.
+-- All values are different exactly if those to come are.
 use Rattle.std.proofs.Common.{◌↔◌, length}
 use Rattle.std.specs.List.{IsDistinct}
 use Rattle.tt_bytes.proofs.distinct.few_differ.Given as goal

@@ -1,4 +1,4 @@
--- The value is among all exactly where it was met or is among those to come.
+-- The value is among all exactly if it was found or is among those to come.
 use Rattle.std.proofs.Common.{◌≡◌, ◌||◌, drop}
 use Rattle.std.specs.List.{list_any}
 use Rattle.tt_bytes.proofs.distinct.is_among.Given as goal

@@ -1,4 +1,4 @@
--- The values so far are those of the set, which differ.
+-- The values so far are those of the set, and are all different.
 use Rattle.std.proofs.Common.{◌≡◌, take}
 use Rattle.std.specs.List.{IsDistinct}
 use Rattle.tt_bytes.proofs.distinct.many_differ.Given as goal

@@ -1,4 +1,4 @@
--- What is left to be joined leads to the number of all.
+-- The digest so far and the bytes that are left lead to the digest of all.
 use Rattle.std.proofs.Common.{◌≡◌, drop}
 use Rattle.std.specs.List.{fold}
 use Rattle.tt_bytes.specs.Digest.{joined, short_digest}

@@ -1,4 +1,4 @@
--- The tokens are whole exactly where those to come make up the open levels.
+-- The tokens are whole exactly if those to come complete the open levels.
 use Rattle.tt_base.specs.Levels.{open_levels}
 use Rattle.tt_bytes.specs.Shape.{IsALeaf}
 use Rattle.tt_bytes.proofs.Shaped.{AsksLevels}

@@ -6,7 +6,7 @@ use Rattle.tt_tables.specs.Stored.{packed}
 use Rattle.tt_bytes.proofs.Alike.{trees_alike}
 use Rattle.tt_bytes.proofs.write.to_bytes.Goals as goal
 
--- Pieces that are put one behind the other are the whole.
+-- The parts, one after the other, are the piece.
 joined : (parts : List SpanPart) (symbols : List (List ℕ)) (below a b c d e f all : List ℕ) → a ≡ mark → b ≡ a ++ number_bytes (length parts)
     → c ≡ b ++ number_bytes (length symbols) → d ≡ c ++ number_bytes (length below) → e ≡ d ++ parts_bytes parts → f ≡ e ++ symbols_bytes symbols
     → all ≡ f ++ below → all ≡ piece parts symbols below

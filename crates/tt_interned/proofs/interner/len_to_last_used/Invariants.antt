@@ -1,4 +1,4 @@
--- The numbers behind are 0.
+-- The numbers after the index are 0.
 use Rattle.std.proofs.Common.{◌≡◌, ◌-◌, drop, length}
 use Rattle.std.specs.List.{AllByRecursion}
 use Rattle.tt_interned.proofs.interner.len_to_last_used.Given as goal

@@ -1,4 +1,4 @@
--- The uses of the tokens so far are gone.
+-- The uses of the tokens so far are removed.
 use Rattle.std.proofs.Common.{◌≡◌, List, take, bytes_eq}
 use Rattle.std.specs.Map.{keys_of}
 use Rattle.tt_interned.specs.Held.{HeldToken, parts_in, symbols_in}

@@ -1,4 +1,4 @@
--- None of those so far is the part.
+-- No part so far is the one that is looked for.
 use Rattle.std.proofs.Common.{◌≡◌, false, take}
 use Rattle.std.specs.List.{list_any}
 use Rattle.tt_tables.specs.Uses.{same_part}

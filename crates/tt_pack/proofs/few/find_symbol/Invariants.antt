@@ -1,4 +1,4 @@
--- None of those so far is the symbol.
+-- No symbol so far is the one that is looked for.
 use Rattle.std.proofs.Common.{◌≡◌, false, take, bytes_eq}
 use Rattle.std.specs.List.{list_any}
 use Rattle.tt_pack.proofs.few.find_symbol.Given as goal

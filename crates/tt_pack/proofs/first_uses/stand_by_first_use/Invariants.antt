@@ -1,4 +1,4 @@
--- The places that were met are those from 0 on.
+-- The used places are those from 0 on.
 use Rattle.std.proofs.Common.{◌≡◌, nat_eq, take}
 use Rattle.std.specs.List.{range_with_len}
 use Rattle.tt_tables.specs.TableOrder.{different}

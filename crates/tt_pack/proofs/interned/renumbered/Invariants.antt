@@ -1,4 +1,4 @@
--- Those so far are put.
+-- The indices so far are new.
 use Rattle.std.proofs.Common.{◌≡◌, ◌++◌, map, take, drop}
 use Rattle.tt_pack.specs.Counted.{new_index}
 use Rattle.tt_pack.proofs.interned.renumbered.Given as goal

@@ -1,4 +1,4 @@
--- The values so far stand at the places so far.
+-- The values so far are at the places so far.
 use Rattle.std.proofs.Common.{take}
 use Rattle.std.specs.List.{AllZip}
 use Rattle.tt_pack.specs.Places.{IsAt}

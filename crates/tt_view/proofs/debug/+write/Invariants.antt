@@ -1,4 +1,4 @@
--- What was written, and the lines of the siblings to come, are all lines.
+-- The lines written so far, and those of the siblings to come, are all lines.
 use Rattle.std.proofs.Common.{◌≡◌, ◌+◌, ◌*◌, ◌≤◌, ℕ, List, ◌++◌}
 use Rattle.std.specs.Fmt.{HasWritten, IsPlainFormatter}
 use Rattle.tt_base.specs.DebugText.{lines_text}

@@ -1,4 +1,4 @@
--- What was written, and the text of the siblings to come, are the whole text.
+-- The text written so far, and that of the siblings to come, are the whole text.
 use Rattle.std.proofs.Common.{◌≡◌, ◌+◌, ◌*◌, ◌≤◌, ℕ, List, ◌++◌, false}
 use Rattle.std.specs.Fmt.{HasWritten, IsPlainFormatter}
 use Rattle.tt_base.specs.Forest.{size}

@@ -4,7 +4,7 @@ use Rattle.tt.specs.TreeFault.{IsTreeFault}
 use Rattle.app_console.specs.Editing.{ChangesIds, ids_of}
 use Rattle.app_console.specs.State.{tree_in}
 use Rattle.app_console.proofs.Editing.{stored, refused}
-use Rattle.app_console.proofs.Following.{ids_told, ids_refused}
+use Rattle.app_console.proofs.Following.{ids_are, ids_refused}
 use Rattle.app_console.proofs.machine.Machine.ids.Goals as goal
 
 pub returns-in-Err : goal.returns-in-Err
@@ -23,7 +23,7 @@ pub returns : goal.returns
 returns c =
     let at : tree_in c.args.self.now c.args.slot ≡ Some c.in-Some.tree = sym c.take.ensures.tree ∙ c.in-Some.is in
     let is : c.change_every_ast_id-changed.new.self ≡ ids_changed (ids_of c.as_slice-rest.result.now) c.in-Some.tree =
-    ids_told _ (λ p. p.0.now) (λ p x y q k. search rules) (record { 0 = c.as_slice-rest.result }) c.in-Some.tree c.change_every_ast_id-changed.new.self c.in_default-changed.ensures.ok in
+    ids_are _ (λ p. p.0.now) (λ p x y q k. search rules) (record { 0 = c.as_slice-rest.result }) c.in-Some.tree c.change_every_ast_id-changed.new.self c.in_default-changed.ensures.ok in
     let tree : c.change_every_ast_id-changed.new.self ≡ ids_changed (ids_of c.args.ids) c.in-Some.tree =
     is ∙ ap (λ list. ids_changed (ids_of list) c.in-Some.tree) c.as_slice-rest.ensures in
     inl (subst (λ found. ChangesIds c.args.self.now c.args.slot c.args.ids found c.ok.result c.put-2.new.self) (sym at)

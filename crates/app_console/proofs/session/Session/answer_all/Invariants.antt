@@ -2,7 +2,7 @@
 use Rattle.std.proofs.Common.{◌≡◌, false}
 use Rattle.app_console.specs.Noted.{noted_inner, noted_failed, reads_left}
 use Rattle.app_console.specs.Stage.{stage_of}
-use Rattle.app_console.proofs.Telling.{Reads}
+use Rattle.app_console.proofs.Reporting.{Reads}
 use Rattle.app_console.proofs.session.Session.answer_all.Given as goal
 
 abbrev pub invariant-reading : goal.invariant-reading

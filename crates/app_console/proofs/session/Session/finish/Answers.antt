@@ -1,6 +1,6 @@
 use Rattle.std.proofs.Common.{rules}
 use Rattle.app_console.specs.Stage.{stage_of}
-use Rattle.app_console.proofs.Telling.{Finishes-none, Finishes-line, Finishes-bad_line}
+use Rattle.app_console.proofs.Reporting.{Finishes-none, Finishes-line, Finishes-bad_line}
 use Rattle.app_console.proofs.session.Session.finish.Goals as goal
 
 pub returns-then-is_between_lines : goal.returns-then-is_between_lines

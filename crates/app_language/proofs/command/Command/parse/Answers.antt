@@ -17,7 +17,7 @@ pub returns-clause-unique : goal.returns-clause-unique
 returns-clause-unique c = StandsFor-unique _
 
 pub returns-then-is_some-clause-reads : goal.returns-then-is_some-clause-reads
-returns-then-is_some-clause-reads c = λ command stands. search (rules, Lacks-apart)
+returns-then-is_some-clause-reads c = λ command meant. search (rules, Lacks-apart)
 
 pub returns-then-is_some-clause-unique : goal.returns-then-is_some-clause-unique
 returns-then-is_some-clause-unique c = StandsFor-unique _

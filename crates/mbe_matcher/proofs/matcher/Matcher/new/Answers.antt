@@ -11,7 +11,7 @@ use Rattle.mbe_matcher.specs.Pieces.{bit_of}
 use Rattle.mbe_matcher.specs.Stepping.{Taken, taken_of, taken_by, nothing_taken, where_of}
 use Rattle.mbe_matcher.specs.Steps.{steps_of}
 use Rattle.mbe_matcher.proofs.Ranked.{length_stops}
-use Rattle.mbe_matcher.proofs.Standing.{stand_as}
+use Rattle.mbe_matcher.proofs.LaidPlaces.{laid_as}
 use Rattle.mbe_matcher.proofs.StepsMade.{taken_whole}
 use Rattle.mbe_matcher.proofs.matcher.Matcher.new.Goals as goal
 
@@ -34,4 +34,4 @@ returns-clause-ok c =
     let judged : pattern_fault (rest_of c.iter.result) ≡ None = search rules in
     let sound : pattern_fault (rest_of c.args.pattern) ≡ None = ap pattern_fault (sym seen) ∙ judged in
     let stops : map stop_of places ≡ all_stops pattern = ap (map stop_of) turned ∙ ap (λ m. m.stops) made in
-    record { full = sound_pattern (rest_of c.args.pattern) sound; count = length_stops places pattern stops; stand = stand_as places (all_stops pattern) stops; starts = ap (λ m. m.edges) made; steps = steps_turned ∙ ap (λ t. t.steps) taken; variables = ap (map where_of) binders_turned ∙ ap (λ t. t.variables) taken }
+    record { full = sound_pattern (rest_of c.args.pattern) sound; count = length_stops places pattern stops; laid = laid_as places (all_stops pattern) stops; starts = ap (λ m. m.edges) made; steps = steps_turned ∙ ap (λ t. t.steps) taken; variables = ap (map where_of) binders_turned ∙ ap (λ t. t.variables) taken }

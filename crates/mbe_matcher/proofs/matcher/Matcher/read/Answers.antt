@@ -12,7 +12,7 @@ use Rattle.mbe_matcher.specs.Steps.{steps_of}
 use Rattle.mbe_matcher.specs.Finding.{IsFound, ArePaths}
 use Rattle.mbe_matcher.proofs.Ranked.{rank_in, are_ranked}
 use Rattle.mbe_matcher.proofs.Results.{if_ok}
-use Rattle.mbe_matcher.proofs.Told.{tells}
+use Rattle.mbe_matcher.proofs.Cover.{finds_as}
 use Rattle.mbe_matcher.proofs.matcher.Matcher.read.Goals as goal
 
 -- what was found by places and their starts is correct
@@ -34,7 +34,7 @@ returns c =
     subst (λ p. (rank : ℕ → ℕ) → AreRanked p rank → FindsBy p matcher.starts.items input it) places
     (subst (λ s. (rank : ℕ → ℕ) → AreRanked c.deref.result.now rank → FindsBy c.deref.result.now s input it) starts
     (subst (λ t. (rank : ℕ → ℕ) → AreRanked c.deref.result.now rank → FindsBy c.deref.result.now c.deref-2.result.now t it) same found)) in
-    let told : IfOk c.found_by.result (λ found. (pattern : Pattern) → IsFull pattern → c.deref-3.result.now ≡ steps_of pattern → ArePaths pattern input it → IsFound pattern input found) = search rules in
+    let cover : IfOk c.found_by.result (λ found. (pattern : Pattern) → IsFull pattern → c.deref-3.result.now ≡ steps_of pattern → ArePaths pattern input it → IsFound pattern input found) = search rules in
     if_ok c.found_by.result
     (λ found is pattern of. is pattern of.full (steps ∙ of.steps)
-    (tells matcher.places.items pattern of.full of.stand input it (subst (λ s. FindsBy matcher.places.items s input it) of.starts (finds (rank_in pattern) (are_ranked matcher.places.items pattern of.full of.count of.stand))))) told
+    (finds_as matcher.places.items pattern of.full of.laid input it (subst (λ s. FindsBy matcher.places.items s input it) of.starts (finds (rank_in pattern) (are_ranked matcher.places.items pattern of.full of.count of.laid))))) cover

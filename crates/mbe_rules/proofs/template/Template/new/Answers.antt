@@ -5,7 +5,7 @@ use Rattle.mbe_rules.specs.Validating.{validated_of}
 use Rattle.mbe_rules.specs.Parts.{bit_of}
 use Rattle.mbe_rules.specs.Spelling.{template_of}
 use Rattle.mbe_rules.proofs.Validates.{validated_whole, is_error}
-use Rattle.mbe_rules.proofs.Wholeness.{are_its}
+use Rattle.mbe_rules.proofs.Wholeness.{are_its, whole_by}
 use Rattle.mbe_rules.proofs.template.Template.new.Goals as goal
 
 pub returns-in-Some-clause-err : goal.returns-in-Some-clause-err
@@ -24,7 +24,7 @@ returns-in-None-clause-ok c =
     let here : c.deref.result.now ≡ c.in_ok-parts.parts.items = search rules in
     let found : None ≡ (validated_of variables (map bit_of c.deref.result.now)).fault = search rules in
     record {
-      parts = c.in_ok-parts.ensures;
+      is = whole_by c.in_ok-parts.parts.items template c.in_ok-parts.ensures;
       sound = sym (found ∙ ap (λ its. (validated_of variables (map bit_of its)).fault) here ∙ ap (λ bits. (validated_of variables bits).fault) c.in_ok-parts.ensures ∙ validated_whole variables template);
     }
 

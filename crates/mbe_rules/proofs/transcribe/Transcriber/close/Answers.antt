@@ -5,7 +5,7 @@ use Rattle.tt.specs.Siblings.{leaves}
 use Rattle.mbe_rules.specs.declared.transcribe_error.TranscribeError.TheVariants.{Tree}
 use Rattle.mbe_rules.specs.declared.taken.Round.{Round}
 use Rattle.mbe_rules.specs.Parts.{bit_of, close}
-use Rattle.mbe_rules.specs.Standing.{AreLevels, bits_from, Goes, Grows, IsWant}
+use Rattle.mbe_rules.specs.Filling.{AreLevels, bits_from, Goes, Grows, IsWant}
 use Rattle.mbe_rules.proofs.Repeating.{round_there}
 use Rattle.mbe_rules.proofs.Stepping.{last_steps, again_steps, again_stops}
 use Rattle.mbe_rules.proofs.transcribe.Transcriber.close.Goals as goal
@@ -19,7 +19,7 @@ returns-in_default-clause-ok c taken whole levels are is =
     let none : old.rounds.items ≡ [] = search rules in
     absurd
     (round_there bits whole left (reverse old.closes.items) tail.separator.items tail.kind levels
-    (subst (λ l. AreLevels bits whole levels l (reverse old.closes.items) (close tail.separator.items tail.kind ∷ left)) (ap reverse none) is.stand))
+    (subst (λ l. AreLevels bits whole levels l (reverse old.closes.items) (close tail.separator.items tail.kind ∷ left)) (ap reverse none) is.agree))
 
 pub returns-then-round-clause-ok : goal.returns-then-round-clause-ok
 returns-then-round-clause-ok c taken whole levels are is =

@@ -1,5 +1,5 @@
 use Rattle.std.proofs.Common.{rules, ◌≡◌, [], reverse, refl, ap, sym, subst}
-use Rattle.mbe_rules.specs.Standing.{AreClosed}
+use Rattle.mbe_rules.specs.Filling.{AreClosed}
 use Rattle.mbe_rules.proofs.transcribe.Transcriber.leave.Goals as goal
 
 pub returns-in_default-clause-ok : goal.returns-in_default-clause-ok

@@ -1,6 +1,6 @@
 use Rattle.std.proofs.Common.{rules, ◌≡◌, ◌<◌, Err, length, get_or}
 use Rattle.tt.specs.Forest.{end, leaf}
-use Rattle.mbe_rules.specs.Standing.{Grows, IsWant}
+use Rattle.mbe_rules.specs.Filling.{Grows, IsWant}
 use Rattle.mbe_rules.proofs.Growing.{grows_none, grows_more, wants_more}
 use Rattle.mbe_rules.proofs.transcribe.Transcriber.separate.Goals as goal
 

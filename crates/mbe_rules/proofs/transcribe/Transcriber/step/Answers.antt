@@ -2,7 +2,7 @@ use Rattle.std.proofs.Common.{rules, ◌≡◌, Err, ◌∷◌, map, subst}
 use Rattle.mbe_rules.specs.declared.transcribe_error.TranscribeError.TheVariants.{Tree}
 use Rattle.mbe_rules.specs.declared.parts.Part.TheVariants as part
 use Rattle.mbe_rules.specs.Parts.{bit_of}
-use Rattle.mbe_rules.specs.Standing.{IsAt, bits_from}
+use Rattle.mbe_rules.specs.Filling.{IsAt, bits_from}
 use Rattle.mbe_rules.proofs.Stepping.{use_steps, use_stops, token_steps, token_stops, enter_steps, enter_stops, leave_steps}
 use Rattle.mbe_rules.proofs.transcribe.Transcriber.step.Goals as goal
 

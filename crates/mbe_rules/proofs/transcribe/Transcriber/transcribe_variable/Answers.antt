@@ -6,7 +6,7 @@ use Rattle.tt.specs.Views.{trees_of}
 use Rattle.mbe_rules.specs.Transcribing.{trees_used}
 use Rattle.mbe_rules.specs.Enclosing.{as_piece}
 use Rattle.mbe_rules.specs.Rounds.{binding_in, dones}
-use Rattle.mbe_rules.specs.Standing.{Grows, IsWant, bound_here}
+use Rattle.mbe_rules.specs.Filling.{Grows, IsWant, bound_here}
 use Rattle.mbe_rules.proofs.Growing.{on_ok, err_so}
 use Rattle.mbe_rules.proofs.Seeing.{fragment_here}
 use Rattle.mbe_rules.proofs.transcribe.Transcriber.transcribe_variable.Goals as goal

@@ -1,7 +1,7 @@
 use Rattle.std.proofs.Common.{◌≡◌, ◌≤◌, length, take, filter, nat_le}
 use Rattle.tt.proofs.builder.standing.drop_deeper.Given as goal
 
--- Those that were passed over have more stack.
+-- The points after `stay` have more levels.
 abbrev pub invariant-loop-stay : goal.invariant-loop-stay
 invariant-loop-stay l =
     (l.points.items ≡ l.fn.points.items) × (l.stay ≤ length l.points.items)

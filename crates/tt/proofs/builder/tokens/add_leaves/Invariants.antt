@@ -1,4 +1,4 @@
--- What was given was added.
+-- The leaves that the iterator returned are appended.
 use Rattle.std.proofs.Common.{◌≡◌, ◌≤◌, ◌++◌, length, map}
 use Rattle.tt_base.specs.declared.token_tree.TokenTree.TheVariants as token
 use Rattle.tt_interned.specs.Held.{whole}

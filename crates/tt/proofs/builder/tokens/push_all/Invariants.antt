@@ -1,4 +1,4 @@
--- What is held, and behind it the tokens to come, are all of them; what was held first stands in front.
+-- The tokens held, and then the tokens to come, are all of them; the old ones are at the front.
 use Rattle.std.proofs.Common.{◌≡◌, ◌++◌, ◌≤◌, length, map, take}
 use Rattle.tt_base.specs.Forest.{flat}
 use Rattle.tt_interned.specs.Held.{whole}

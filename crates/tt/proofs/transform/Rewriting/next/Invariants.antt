@@ -2,7 +2,7 @@ use Rattle.std.proofs.Common.{length}
 use Rattle.tt.specs.Work.{StaysSame}
 use Rattle.tt.proofs.transform.Rewriting.next.Given as goal
 
--- Whatever the work was, what is there now comes to the same.
+-- For any work at first, the work now has the same result.
 abbrev pub invariant-loop-element : goal.invariant-loop-element
 invariant-loop-element l = StaysSame l.fn.self l.self
 

@@ -5,7 +5,7 @@ use Rattle.tt.specs.Work.{unread}
 use Rattle.tt.proofs.OnTheWay.{IsOnTheWay}
 use Rattle.tt.proofs.transform.work.rewritten_list.Given as goal
 
--- The callback can be asked again, and what it will answer completes the rewriting.
+-- The callback can be called again, and its later answers complete the rewriting.
 abbrev pub invariant-loop-token : goal.invariant-loop-token
 invariant-loop-token g l =
     goal.F-IsAlwaysCallable g l.callback

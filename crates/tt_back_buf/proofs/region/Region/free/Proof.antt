@@ -1,4 +1,4 @@
--- `free` gives back the room and the bytes as one block. Assumes `Logic`.
+-- `free` frees the room and the bytes as one block. Assumes `Logic`.
 use Rattle.std.proofs.Common.{◌≡◌, ℕ, ◌+◌, ◌*◌, List, [], ◌∷◌, ◌++◌, length, refl, ap, ◌∙◌, arith, lit<, w64}
 use base.Fml.{Lft, Share, ftrue, flft, froom}
 use base.Fraction.{full_share}

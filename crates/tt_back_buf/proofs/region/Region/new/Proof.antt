@@ -1,4 +1,4 @@
--- `new` asks for a block of bytes, and keeps the right to give it back. Assumes `Logic`.
+-- `new` takes a block of bytes, and keeps the right to free it. Assumes `Logic`.
 use Rattle.std.proofs.Common.{◌≡◌, ℕ, ◌+◌, ◌*◌, ◌^◌, ◌<◌, List, [], ◌∷◌, ◌++◌, length, refl, ap, ◌∙◌, arith, lit<, w64, Some, None}
 use base.Fml.{Lft, Share, ftrue, flft, froom, fsep}
 use base.Fraction.{full_share}

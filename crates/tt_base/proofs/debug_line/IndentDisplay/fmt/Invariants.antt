@@ -1,4 +1,4 @@
--- As many levels as turns were written.
+-- As many levels are written as turns are done.
 use Rattle.std.specs.Fmt.{HasWritten, IsPlainFormatter}
 use Rattle.tt_base.specs.DebugText.{indent}
 use Rattle.tt_base.proofs.debug_line.IndentDisplay.fmt.Given as goal

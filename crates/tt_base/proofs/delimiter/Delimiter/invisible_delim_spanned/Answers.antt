@@ -1,6 +1,6 @@
 use Rattle.std.proofs.Common.{refl}
 use Rattle.tt_base.proofs.delimiter.Delimiter.invisible_delim_spanned.Goals as goal
 
--- explicit: a search for it ends late where there is none
+-- explicit: an automatic search for this answer takes long before it fails
 pub returns : goal.returns
 returns c = refl

@@ -2,7 +2,7 @@ use Rattle.std.proofs.Common.{rules}
 use Rattle.std.proofs.Output.{has_written_append}
 use Rattle.tt_base.proofs.ident.IdentDisplay.fmt.Goals as goal
 
--- explicit: a search for it ends late where there is none
+-- explicit: an automatic search for this answer takes long before it fails
 pub returns : goal.returns
 returns g c = record {
   writes = λ plain ok.

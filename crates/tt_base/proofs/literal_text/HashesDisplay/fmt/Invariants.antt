@@ -1,4 +1,4 @@
--- As many # as turns were written.
+-- As many # are written as turns are done.
 use Rattle.std.specs.Fmt.{HasWritten, IsPlainFormatter}
 use Rattle.tt_base.specs.LeafText.{hashes}
 use Rattle.tt_base.proofs.literal_text.HashesDisplay.fmt.Given as goal

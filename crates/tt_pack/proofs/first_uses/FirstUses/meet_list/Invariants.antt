@@ -1,4 +1,4 @@
--- What the tokens so far use is noted.
+-- The parts of the tokens so far are noted.
 use Rattle.std.proofs.Common.{◌≡◌, nat_eq, length, take}
 use Rattle.tt_tables.specs.TableOrder.{different}
 use Rattle.tt_pack.specs.Places.{part_places, AreRanked}

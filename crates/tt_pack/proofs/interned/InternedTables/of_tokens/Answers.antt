@@ -7,11 +7,11 @@ use Rattle.tt_pack.proofs.InternedFacts.{used_parts, order_length, length-part_t
 use Rattle.tt_pack.proofs.Storing.{tables_made}
 use Rattle.tt_pack.proofs.interned.InternedTables.of_tokens.Goals as goal
 
--- the table has as many parts as are used
+-- the table has as many parts as there are used ones
 many_parts : (below : CountedTokens) → length (part_table (list_of below)) ≡ count_by (nat_lt 0) (part_uses_of below)
 many_parts below = length-part_table _ _ _ _ _ _ (counted_are below)
 
--- and all symbols
+-- the table has all symbols
 many_symbols : (below : CountedTokens) → length (symbol_table (list_of below)) ≡ length (symbols_of below)
 many_symbols below = length-symbol_table _ _ _ _ _ _ (counted_are below)
 

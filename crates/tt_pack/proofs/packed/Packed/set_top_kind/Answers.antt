@@ -1,5 +1,5 @@
 use Rattle.tt_pack.proofs.packed.Packed.set_top_kind.Goals as goal
 
--- explicit: a search for it ends late where there is none
+-- explicit: an automatic search for this answer takes long before it fails
 pub returns : goal.returns
 returns c = rw c.top_delimiter.ensures at c.set_top.ensures

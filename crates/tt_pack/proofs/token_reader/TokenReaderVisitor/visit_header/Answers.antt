@@ -1,7 +1,7 @@
 use Rattle.std.proofs.Common.{rules}
 use Rattle.tt_pack.proofs.token_reader.TokenReaderVisitor.visit_header.Goals as goal
 
--- explicit: the search that stands for an answer ends late where there is none
+-- explicit: an automatic search for this answer takes long before it fails
 pub returns-in-Some : goal.returns-in-Some
 returns-in-Some c = search rules
 

@@ -1,5 +1,5 @@
--- What the tokens so far use has been met, where it stands is kept, and there is room for them. The tokens are a whole list exactly if those to come make up
--- the open levels.
+-- The values of the tokens so far have had their uses, their indices are kept, and there is room for the tokens. The tokens are a whole
+-- list exactly if those to come complete the open levels.
 use Rattle.std.proofs.Common.{◌↔◌, take, drop}
 use Rattle.std.specs.List.{AllZip}
 use Rattle.tt_base.specs.Forest.{IsWhole, AreLevels}

@@ -1,4 +1,4 @@
--- All behind the index is written, and there is room for all before it and for a top.
+-- All tokens after the index are written, and there is room for all before it and for a top.
 use Rattle.std.proofs.Common.{◌+◌, ◌≤◌, length, take, drop}
 use Rattle.tt_back_buf.specs.Bytes.{room_of}
 use Rattle.tt_pack.specs.Room.{most_list_bytes}

@@ -1,4 +1,4 @@
--- `keep` fills the count, if it is not full, and shows the value for good. Assumes `Logic`.
+-- `keep` fills the count, if it is not full, and shows the value for ever. Assumes `Logic`.
 use Rattle.std.proofs.Common.{ℕ, ◌+◌, ◌^◌, ◌<◌, List, [], ◌∷◌, ◌++◌, refl, ap, lit<, arith}
 use base.Logic.{SProp}
 use base.Mask.{every}

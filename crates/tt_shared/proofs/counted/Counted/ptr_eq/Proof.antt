@@ -1,4 +1,4 @@
--- `ptr_eq` writes 0 to the first count and looks at the second. Assumes `Logic`, and that what may be written is had once.
+-- `ptr_eq` writes 0 to the first count and looks at the second. Assumes `Logic`, and that a cell that may be written has one owner.
 use Rattle.std.proofs.Common.{◌≡◌, ℕ, IsTrue, ◌^◌, ◌<◌, Bool, true, false, List, [], ◌∷◌, ◌++◌, ◌∙◌, sym, refl, ap, subst, lit<, arith}
 use lib.Dec.{T, eqb, eqb→eq}
 use mathlib.Core.Bool.{true≢false}

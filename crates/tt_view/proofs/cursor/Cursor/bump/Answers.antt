@@ -37,13 +37,13 @@ returns-in_err-push-clause-opens c =
     ap is_at_open whole ∙ opens_at _ c.in-Some.header (sym first ∙ token_ahead _ _ _ c.self.invariant no) in
     search (rules, open_)
 
--- behind the first token of what is ahead, with these frames, it stands one place on
+-- after the first token ahead, the cursor with these frames is one place further
 abbrev IsOneOn : Walked → Inside → (rest : Forest) → Type 0
 IsOneOn old inside rest =
     rest ≡ after_token inside.ahead
     → Stands (trees_of inside.origin) (frames_of inside) rest × (at (trees_of inside.origin) (left (frames_of inside) rest) ≡ one_on old)
 
--- past a leaf with the frames as they were, and into a node with one more
+-- after a leaf the frames are the same; after a header there is one more
 one_place_on : (c : goal.After-pass) → IsOneOn (walked c.self.inside) c.match-header.self-inside c.pass.new.self
 one_place_on c =
     let a = c.self.inside in

@@ -1,4 +1,4 @@
--- The list, and behind it the leaves to come, are the header and all leaves.
+-- The list, and then the leaves to come, are the header and all leaves.
 use Rattle.std.proofs.Common.{◌≡◌, ◌∷◌, ◌++◌, length, map}
 use Rattle.tt_base.specs.declared.delimiter.DelimiterKind.TheVariants.{Invisible}
 use Rattle.tt_base.specs.declared.token_tree.TokenTree.TheVariants as token

@@ -3,7 +3,7 @@ use Rattle.tt_base.specs.declared.span.ErasedFileAstId.{ErasedFileAstId}
 use Rattle.tt_base.specs.Asked.{AsksAll}
 use Rattle.tt_view.proofs.top_subtree.ast_ids.ask_all.Given as goal
 
--- What the callback will answer completes its answers to all.
+-- The answers so far, and those to come, are all answers.
 abbrev pub invariant-loop-part : goal.invariant-loop-part
 invariant-loop-part g l =
     goal.F-IsAlwaysCallable g l.callback

@@ -9,7 +9,7 @@ use Rattle.tt_view.specs.SubtreeViews.{flat_rest}
 use Rattle.tt_view.specs.Views.{trees_of}
 use Rattle.tt_view.proofs.top_subtree.ast_ids.new_list.Given as goal
 
--- The list, and behind it the tokens to come with their new ids, are all of them.
+-- The list, and then the tokens to come with their new ids, are all tokens.
 abbrev pub invariant-loop-token : goal.invariant-loop-token
 invariant-loop-token l =
     (goal.iterator-loop-token).can_next l.token-iterator
