@@ -17,7 +17,7 @@ use Rattle.mbe_grammar.specs.Tests.{named, passes, taken_size}
 use Rattle.mbe_grammar.specs.Units.{unit_of_puncts, first_unit, size_of_unit}
 use Rattle.mbe_grammar.proofs.Notes.{noted_rest}
 use Rattle.mbe_pattern.proofs.Passing.{after_less}
-use Rattle.mbe_pattern.proofs.PartSteps.{unit_length}
+use Rattle.mbe_pattern.proofs.UnitLengths.{unit_length}
 use Rattle.mbe_pattern.specs.Units.{quote, is_at_ident, unit_from, unit_size, front_leaves}
 
 -- A unit has at least one tree.

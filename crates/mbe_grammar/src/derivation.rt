@@ -14,7 +14,11 @@ use crate::machine::{Frame, parse};
 use crate::table::Table;
 use crate::units::Units;
 use std::alloc::{AllocError, Global};
+use std::mem::swap;
 use tt::{Span, TokenTreesView};
+
+// For how many events there is room at first, for each token: about as many as source has.
+const EVENTS_OF_TOKEN: usize = 4;
 
 /// The outcome for trees that must be the expression of a name.
 pub enum Derived<'t> {
@@ -73,6 +77,7 @@ fn read<'t>(
     ensures read { (older : List OpenLevel) → IfOk result (λ inner. IsRead table.entry.rules.now (place it.entry) (around log.old.items older) (option_map (λ o. inside log.new.items o older) inner)) }
     ensures err { OnErr result (log.new.items ≡ log.old.items) }
 {
+    room.log.reserve(it.trees.len())?;
     room.log.truncate(0);
     room.units.restart(it.trees);
     let Some(to) = parse(
@@ -86,10 +91,14 @@ fn read<'t>(
     else {
         return Ok(None);
     };
+    let stop = stop_of(room.units.is_at_end(to), it);
     let since = log.len();
     let _taken = room.log.len();
-    log.append(&mut room.log)?;
-    let stop = stop_of(room.units.is_at_end(to), it);
+    if since == 0 {
+        swap(log, &mut room.log);
+    } else {
+        log.append(&mut room.log)?;
+    }
     Ok(Some(Open {
         since,
         next: since,
@@ -246,7 +255,7 @@ pub fn derive<'t>(
 ) -> Result<Derived<'t>, AllocError>
     ensures { IfOk result (λ it. IsDerived table.entry.rules.now at (trees_of trees.entry) it) }
 {
-    let mut events = Vec::new(alloc);
+    let mut events = Vec::with_capacity(alloc, trees.len().saturating_mul(EVENTS_OF_TOKEN))?;
     let mut derivation = Derivation::new(alloc, table, at, trees);
     loop {
         match derivation.next_event()? {

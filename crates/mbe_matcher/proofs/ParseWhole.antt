@@ -11,7 +11,7 @@ use Rattle.mbe_pattern.specs.Patterns.{Pattern, nothing, variable, token, subtre
 use Rattle.mbe_matcher.specs.Parsing.{LevelLeft, bits_behind, bits_left, ended, entries_with, fresh_level, gained, stepped, with_rest}
 use Rattle.mbe_matcher.specs.Pieces.{Bit, place, close, bits_of, all_bits}
 use Rattle.mbe_pattern.specs.Dollars.{IsPart}
-use Rattle.mbe_pattern.specs.Spelling.{pattern_of}
+use Rattle.mbe_pattern.specs.Placed.{pattern_of}
 use Rattle.mbe_matcher.proofs.ParseSteps.{left_variable, left_token, left_subtree, left_repetition}
 
 -- how many parts a pattern has, at any depth

@@ -19,7 +19,7 @@ use Rattle.mbe_matcher.specs.Fragments.{takes, taken, reach}
 use Rattle.mbe_matcher.specs.Fronts.{StopsAt, TakesUpTo}
 use Rattle.mbe_pattern.specs.Patterns.{Pattern}
 use Rattle.mbe_matcher.specs.Readings.{Reading, done, took, held, round, over, IsInstance, IsNoInstance, IsReadBy, IsAmbiguous}
-use Rattle.mbe_pattern.specs.Spelling.{pattern_of}
+use Rattle.mbe_pattern.specs.Placed.{pattern_of}
 use Rattle.mbe_pattern.proofs.Rows.{word, raw_word, alone, joint, arrow, life, comma, var, rounds, listed}
 
 -- An ident takes an ident, raw or not, except `_`, and no lifetime.

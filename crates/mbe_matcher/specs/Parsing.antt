@@ -10,7 +10,7 @@ use Rattle.mbe_matcher.specs.Labels.{Label, label_of}
 use Rattle.mbe_matcher.specs.Labels as label
 use Rattle.mbe_matcher.specs.Compiled.{separator_count, place_count, entries}
 use Rattle.mbe_pattern.specs.Patterns.{Pattern, may_be_none}
-use Rattle.mbe_pattern.specs.Spelling.{pattern_of}
+use Rattle.mbe_pattern.specs.Placed.{pattern_of}
 use Rattle.mbe_matcher.specs.Pieces.{Bit, begin, bit_of, bits_of, close, place}
 
 -- what is left of a subtree or a repetition, how it is closed, where it may begin, and whether no required part of it was read so far

@@ -5,7 +5,7 @@ ghost use Rattle.mbe_matcher.specs.Finding.{IsFound};
 ghost use Rattle.mbe_matcher.specs.Matchers.{IsMatcherOf};
 ghost use Rattle.mbe_pattern.specs.Faults.{pattern_fault, IsPatternError};
 ghost use Rattle.mbe_pattern.specs.Patterns.{Pattern};
-ghost use Rattle.mbe_pattern.specs.Spelling.{pattern_of};
+ghost use Rattle.mbe_pattern.specs.Placed.{pattern_of};
 
 use crate::binding::{Found, found_by};
 use crate::compile::{Compiled, compile};

@@ -5,7 +5,7 @@ ghost use Rattle.tt.specs.Iters.{rest_of};
 ghost use Rattle.mbe_matcher.specs.Compiled.{separator_count};
 ghost use Rattle.mbe_matcher.specs.Parsing.{marked, closed_in, level_left, levels_left, fresh_level, placed, entered, opened, ended, stepped, IsStepped};
 ghost use Rattle.mbe_matcher.specs.Pieces.{bit_of, all_bits};
-ghost use Rattle.mbe_pattern.specs.Spelling.{pattern_of};
+ghost use Rattle.mbe_pattern.specs.Placed.{pattern_of};
 
 use crate::pieces::{Level, Parser, Piece};
 use crate::places::Atom;

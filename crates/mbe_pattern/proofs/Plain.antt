@@ -1,21 +1,20 @@
--- Without places, a pattern is the one that its trees spell. A pattern without faults has no repetition that may be empty.
-use Rattle.std.proofs.Common.{◌≡◌, ◌-◌, ℕ, zero, suc, Bool, true, false, List, [], Option, None, Some, refl, ap, ap₂, subst, ◌∙◌, cond}
+-- Without places, a pattern does not depend on the place at its end. A pattern without faults has no repetition that may be empty.
+use Rattle.std.proofs.Common.{◌≡◌, ◌-◌, ℕ, zero, suc, Bool, true, false, List, [], ◌∷◌, Option, None, Some, refl, ap, ap₂, sym, ◌∙◌}
 use Rattle.tt.specs.Forest.{Forest, end, leaf, node, size}
+use Rattle.tt.specs.Iters.{rest_of}
 use Rattle.tt.specs.Types.Leaf.{Leaf}
 use Rattle.mbe_pattern.specs.declared.error.PatternError.{PatternError}
+use Rattle.mbe_pattern.specs.declared.first.First.{First}
+use Rattle.mbe_pattern.specs.declared.first.First.TheVariants as first
 use Rattle.mbe_pattern.specs.Faults.{or_else, names_with, names_behind, name_fault, separator_fault, empty_fault, fault_behind, pattern_fault}
 use Rattle.mbe_pattern.specs.Patterns.{Pattern, IsFull, may_be_empty}
 use Rattle.mbe_pattern.specs.Patterns as pattern
-use Rattle.mbe_pattern.specs.Placed.{Placed, nothing, variable, wrong, token, subtree, repetition, plain, inner_part, part_of, placed_behind, placed_of}
-use Rattle.mbe_pattern.specs.Spelling.{Dollar, is_dollar, dollar_in, dollar_length, pattern_behind, pattern_of}
+use Rattle.mbe_pattern.specs.Placed.{Placed, nothing, variable, wrong, token, subtree, repetition, plain, inner_part, placed_behind, placed_until, placed_of, pattern_of}
+use Rattle.mbe_pattern.specs.Spelling.{Dollar, is_dollar, dollar_in, tail_length}
 use Rattle.mbe_pattern.specs.Spelling as spelling
-use Rattle.mbe_pattern.specs.Units.{unit_from, first_unit}
-
-plain_part : (at : ℕ) (it : Leaf) (s : Dollar) (siblings : Forest) (held others : Placed) → plain (part_of at it s siblings held others) ≡ spelling.part_of it s (plain held) (plain others)
-plain_part at it (spelling.variable found) siblings held others = refl
-plain_part at it (spelling.repetition tail) siblings held others = refl
-plain_part at it spelling.crate_root siblings held others = refl
-plain_part at it spelling.nothing siblings held others = refl
+use Rattle.mbe_pattern.specs.Units.{unit_from, first_unit, front_leaves}
+use Rattle.mbe_pattern.specs.Validating.{IsFirst, begun_with}
+use Rattle.mbe_pattern.proofs.FirstSteps.{begun}
 
 plain_inner : (it : Placed) → plain (inner_part it) ≡ pattern.inner_part (plain it)
 plain_inner nothing = refl
@@ -25,27 +24,55 @@ plain_inner (token its others) = refl
 plain_inner (subtree kind inner others) = refl
 plain_inner (repetition at inner separator op others) = refl
 
-either : (b : Bool) (one other : Placed) (p q : Pattern) → plain one ≡ p → plain other ≡ q → plain (cond b one other) ≡ cond b p q
-either true one other p q h k = h
-either false one other p q h k = k
+-- the pattern is the same, whatever the place at the end
+abbrev AreSame : (until other n : ℕ) → Forest → Type 0
+AreSame until other n trees = plain (placed_behind until n trees) ≡ plain (placed_behind other n trees)
 
--- The pattern is that of the trees.
-pub plain_behind : (until n : ℕ) (trees : Forest) → plain (placed_behind until n trees) ≡ pattern_behind n trees
-plain_behind until zero end = refl
-plain_behind until (suc n) end = refl
-plain_behind until zero (leaf it rest) =
-    either (is_dollar it)
-    (part_of (until - size (leaf it rest)) it (dollar_in rest) rest (inner_part (placed_behind until zero rest)) (placed_behind until (dollar_length (dollar_in rest)) rest))
-    (token (first_unit (leaf it rest)) (placed_behind until (unit_from it rest - 1) rest))
-    (spelling.part_of it (dollar_in rest) (pattern.inner_part (pattern_behind zero rest)) (pattern_behind (dollar_length (dollar_in rest)) rest))
-    (pattern.token (first_unit (leaf it rest)) (pattern_behind (unit_from it rest - 1) rest))
-    (plain_part (until - size (leaf it rest)) it (dollar_in rest) rest (inner_part (placed_behind until zero rest)) (placed_behind until (dollar_length (dollar_in rest)) rest)
-    ∙ ap₂ (spelling.part_of it (dollar_in rest)) (plain_inner (placed_behind until zero rest) ∙ ap pattern.inner_part (plain_behind until zero rest))
-    (plain_behind until (dollar_length (dollar_in rest)) rest))
-    (ap (pattern.token (first_unit (leaf it rest))) (plain_behind until (unit_from it rest - 1) rest))
-plain_behind until zero (node delimiter children rest) = ap₂ (pattern.subtree delimiter.kind) (plain_behind (until - size rest) zero children) (plain_behind until zero rest)
-plain_behind until (suc n) (leaf it rest) = plain_behind until n rest
-plain_behind until (suc n) (node delimiter children rest) = plain_behind until n rest
+begun_same : (until other : ℕ) (it : Leaf) (rest : Forest) (is_sign : Bool) (sign : Dollar) → ((n : ℕ) → AreSame until other n rest)
+    → plain (begun until it rest is_sign sign) ≡ plain (begun other it rest is_sign sign)
+begun_same until other it rest false sign same = ap (pattern.token (first_unit (leaf it rest))) (same (unit_from it rest - 1))
+begun_same until other it rest true (spelling.variable found) same = ap (pattern.variable found) (same 3)
+begun_same until other it rest true (spelling.repetition tail) same =
+    ap₂ (λ held more. pattern.repetition held tail.separator tail.kind more)
+    (plain_inner (placed_behind until zero rest) ∙ ap pattern.inner_part (same zero) ∙ sym (plain_inner (placed_behind other zero rest))) (same (suc (tail_length tail)))
+begun_same until other it rest true spelling.crate_root same = ap (pattern.token (it ∷ [])) (same 0)
+begun_same until other it rest true spelling.nothing same = ap (pattern.token (it ∷ [])) (same 0)
+
+plain_same : (until other n : ℕ) (trees : Forest) → AreSame until other n trees
+plain_same until other zero end = refl
+plain_same until other (suc n) end = refl
+plain_same until other zero (leaf it rest) = begun_same until other it rest (is_dollar it) (dollar_in rest) (λ n. plain_same until other n rest)
+plain_same until other zero (node delimiter children rest) =
+    ap₂ (pattern.subtree delimiter.kind) (plain_same (until - size rest) (other - size rest) zero children) (plain_same until other zero rest)
+plain_same until other (suc n) (leaf it rest) = plain_same until other n rest
+plain_same until other (suc n) (node delimiter children rest) = plain_same until other n rest
+
+-- So it is that of the trees.
+pub plain_of : (until : ℕ) (trees : Forest) → plain (placed_until until trees) ≡ pattern_of trees
+plain_of until trees = plain_same until (size trees) zero trees
+
+-- the pattern of which this part was read at the front of the trees, and which goes on with the others, without places
+abbrev pub plain_with : Forest → First → (others : Pattern) → Pattern
+plain_with trees first.End others = pattern.nothing
+plain_with trees (first.Variable at it) others = pattern.variable it others
+plain_with trees (first.Wrong why it) others = pattern.token (it ∷ []) others
+plain_with trees (first.Token count) others = pattern.token (front_leaves count trees) others
+plain_with trees (first.Subtree kind inner until) others = pattern.subtree kind (pattern_of (rest_of inner)) others
+plain_with trees (first.Repetition at inner until tail) others = pattern.repetition (pattern_of (rest_of inner)) tail.separator.items tail.kind others
+
+begun_plain : (until : ℕ) (trees rest : Forest) (found : First) → plain (begun_with trees found (placed_until until rest)) ≡ plain_with trees found (pattern_of rest)
+begun_plain until trees rest first.End = refl
+begun_plain until trees rest (first.Variable at it) = ap (pattern.variable it) (plain_of until rest)
+begun_plain until trees rest (first.Wrong why it) = ap (pattern.token (it ∷ [])) (plain_of until rest)
+begun_plain until trees rest (first.Token count) = ap (pattern.token (front_leaves count trees)) (plain_of until rest)
+begun_plain until trees rest (first.Subtree kind inner inside) = ap₂ (pattern.subtree kind) (plain_of inside (rest_of inner)) (plain_of until rest)
+begun_plain until trees rest (first.Repetition at inner inside tail) =
+    ap₂ (λ held more. pattern.repetition held tail.separator.items tail.kind more) (plain_of inside (rest_of inner)) (plain_of until rest)
+
+-- Without places, the part that was read is that of the pattern.
+pub plain_first : (until : ℕ) (trees rest : Forest) (found it : First) → found ≡ it → IsFirst until trees found rest → pattern_of trees ≡ plain_with trees it (pattern_of rest)
+plain_first until trees rest found it same is =
+    sym (plain_of until trees) ∙ ap plain is ∙ begun_plain until trees rest found ∙ ap (λ f. plain_with trees f (pattern_of rest)) same
 
 -- If `or_else` gives no fault, neither is one.
 none_left : (a b : Option PatternError) → or_else a b ≡ None → a ≡ None
@@ -83,4 +110,4 @@ sound_full names (repetition at inner separator op others) is =
 
 -- If there is no fault, what each repetition holds takes at least one tree.
 pub sound_pattern : (trees : Forest) → pattern_fault trees ≡ None → IsFull (pattern_of trees)
-sound_pattern trees is = subst IsFull (plain_behind (size trees) zero trees) (sound_full [] (placed_of trees) is)
+sound_pattern trees is = sound_full [] (placed_of trees) is

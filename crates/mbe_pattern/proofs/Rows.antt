@@ -12,7 +12,7 @@ use Rattle.mbe_pattern.specs.declared.pattern.GrammarFragment.TheVariants as gra
 use Rattle.mbe_pattern.specs.declared.pattern.RepeatKind.TheVariants as repeat
 use Rattle.mbe_pattern.specs.Faults.{pattern_fault}
 use Rattle.mbe_pattern.specs.Patterns.{Pattern, nothing, variable, token, subtree as held_by, repetition, may_be_empty}
-use Rattle.mbe_pattern.specs.Spelling.{pattern_of}
+use Rattle.mbe_pattern.specs.Placed.{pattern_of}
 use Rattle.mbe_pattern.specs.Units.{unit_size, IsUnitLike}
 
 -- small trees before others: an ident, and puncts with spacing `Alone` or `Joint`

@@ -78,7 +78,13 @@ held_fault (Some it) before held behind at kind e = refl
 held_fault None (Some it) held behind at kind e = refl
 held_fault None None held behind at kind e = sym (or_else_more (empty_fault at e) held behind)
 
-module _ (names : List (List ℕ)) (fault : Option PatternError) (outer : List LevelLeft) (closing : Option Opened) (is_open : Bool) (whole others : Placed) where
+module _ (names : List (List ℕ)) (fault : Option PatternError) (outer : List LevelLeft) (closing : Option Opened) (is_open : Bool) (until : ℕ) (trees rest : Forest) where
+  abbrev whole : Placed
+  whole = placed_until until trees
+
+  abbrev others : Placed
+  others = placed_until until rest
+
   abbrev before : State
   before = record { names = names; fault = fault; levels = outer }
 
@@ -92,7 +98,7 @@ module _ (names : List (List ℕ)) (fault : Option PatternError) (outer : List L
   end_step (next ∷ outer) = refl
 
   -- After a part is judged, the final fault is the same as before.
-  pub validated_step : (found : First) → IsFirst whole found others → fault_left (stepped found (level_of others closing is_open) before) ≡ left whole
+  pub validated_step : (found : First) → IsFirst until trees found rest → fault_left (stepped found (level_of others closing is_open) before) ≡ left whole
   validated_step first.End is =
       end_step outer ∙ ap₂ (λ f e. fault_outside names f closing e outer) (sym (or_else_none fault)) (sym (and_true is_open)) ∙ ap left (sym is)
   validated_step (first.Variable at it) is =
@@ -102,15 +108,15 @@ module _ (names : List (List ℕ)) (fault : Option PatternError) (outer : List L
       ∙ ap left (sym is)
   validated_step (first.Wrong why it) is =
       ap₂ (λ f e. fault_outside (names_behind names others) f closing e outer) (sym (or_else_more fault (Some why) (fault_behind names others))) (sym (and_false is_open)) ∙ ap left (sym is)
-  validated_step first.Token is =
-      ap (λ e. fault_outside (names_behind names others) (or_else fault (fault_behind names others)) closing e outer) (sym (and_false is_open)) ∙ ap left (sym is.1)
-  validated_step (first.Subtree kind inner until) is =
-      let held = placed_until until (rest_of inner) in
+  validated_step (first.Token count) is =
+      ap (λ e. fault_outside (names_behind names others) (or_else fault (fault_behind names others)) closing e outer) (sym (and_false is_open)) ∙ ap left (sym is)
+  validated_step (first.Subtree kind inner inside) is =
+      let held = placed_until inside (rest_of inner) in
       let now = names_behind names held in
       ap₂ (λ f e. fault_outside (names_behind now others) f closing e outer) (sym (or_else_more fault (fault_behind names held) (fault_behind now others))) (sym (and_false is_open))
       ∙ ap left (sym is)
-  validated_step (first.Repetition at inner until tail) is =
-      let held = placed_until until (rest_of inner) in
+  validated_step (first.Repetition at inner inside tail) is =
+      let held = placed_until inside (rest_of inner) in
       let now = names_behind names held in
       let empty = may_be_empty (plain held) in
       ap₂ (λ f e. fault_outside (names_behind now others) f closing e outer)
@@ -123,14 +129,14 @@ module _ (names : List (List ℕ)) (fault : Option PatternError) (outer : List L
   less_end (next ∷ outer) = refl
 
   -- Less is left to read after a part.
-  pub less_step : (found : First) → IsFirst whole found others
+  pub less_step : (found : First) → IsFirst until trees found rest
       → work_of (stepped found (level_of others closing is_open) before).levels < work_of (level_of whole closing is_open ∷ outer)
   less_step first.End is = omega (arith, less_end outer)
   less_step (first.Variable at it) is = omega (arith, ap parts is)
   less_step (first.Wrong why it) is = omega (arith, ap parts is)
-  less_step first.Token is = omega (arith, ap parts is.1)
-  less_step (first.Subtree kind inner until) is = omega (arith, ap parts is)
-  less_step (first.Repetition at inner until tail) is = omega (arith, ap parts is)
+  less_step (first.Token count) is = omega (arith, ap parts is)
+  less_step (first.Subtree kind inner inside) is = omega (arith, ap parts is)
+  less_step (first.Repetition at inner inside tail) is = omega (arith, ap parts is)
 
 -- The first fault is why the trees are no pattern.
 pub is_error : (trees : Forest) (fault : PatternError) → pattern_fault trees ≡ Some fault → IsPatternError trees fault

@@ -1,5 +1,5 @@
 -- What was read of a pattern, in the terms of its definitions.
-use Rattle.std.specs.Prelude.{◌≡◌, ◌<◌, ℕ}
+use Rattle.std.specs.Prelude.{◌≡◌, ◌<◌, ◌+◌, ℕ, Option, None, Some}
 use Rattle.tt.specs.Forest.{size}
 use Rattle.tt.specs.Iters.{rest_of}
 use Rattle.mbe_pattern.specs.declared.parts.Part.{Part}
@@ -9,7 +9,7 @@ use Rattle.mbe_pattern.specs.declared.dollar.Dollar.TheVariants as dollar
 use Rattle.mbe_pattern.specs.declared.dollar.Tail.{Tail}
 use Rattle.mbe_pattern.specs.Patterns.{Pattern}
 use Rattle.mbe_pattern.specs.Patterns as pattern
-use Rattle.mbe_pattern.specs.Spelling.{pattern_of}
+use Rattle.mbe_pattern.specs.Placed.{pattern_of}
 use Rattle.mbe_pattern.specs.Spelling as spelling
 
 -- a tail
@@ -31,18 +31,15 @@ IsPart whole (part.Token leaves) others = whole ≡ pattern.token leaves.items o
 IsPart whole (part.Subtree kind inner) others = whole ≡ pattern.subtree kind (pattern_of (rest_of inner)) others
 IsPart whole (part.Repetition inner tail) others = whole ≡ pattern.repetition (pattern_of (rest_of inner)) tail.separator.items tail.kind others
 
--- how many tokens a part holds
-abbrev pub held_size : Part → ℕ
-held_size part.End = 0
-held_size (part.Variable it) = 0
-held_size (part.Token leaves) = 0
-held_size (part.Subtree kind inner) = size (rest_of inner)
-held_size (part.Repetition inner tail) = size (rest_of inner)
+-- how many tokens a part holds, if there is a part
+abbrev pub held_size : Part → Option ℕ
+held_size part.End = None
+held_size (part.Variable it) = Some 0
+held_size (part.Token leaves) = Some 0
+held_size (part.Subtree kind inner) = Some (size (rest_of inner))
+held_size (part.Repetition inner tail) = Some (size (rest_of inner))
 
--- if there is a part, less is left
-abbrev pub AreLess : Part → (left whole : ℕ) → Type 0
-AreLess part.End left whole = Unit {0}
-AreLess (part.Variable it) left whole = left < whole
-AreLess (part.Token leaves) left whole = left < whole
-AreLess (part.Subtree kind inner) left whole = left < whole
-AreLess (part.Repetition inner tail) left whole = left < whole
+-- if there is a part, what it holds and what is left are less than the whole
+abbrev pub AreLess : (held : Option ℕ) → (left whole : ℕ) → Type 0
+AreLess None left whole = Unit {0}
+AreLess (Some held) left whole = held + left < whole

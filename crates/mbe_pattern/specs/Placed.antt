@@ -83,3 +83,7 @@ placed_until until trees = placed_behind until zero trees
 -- the pattern that trees spell, with places
 abbrev pub placed_of : Forest → Placed
 placed_of trees = placed_until (size trees) trees
+
+-- the pattern that trees spell
+abbrev pub pattern_of : Forest → Pattern
+pattern_of trees = plain (placed_of trees)

@@ -1,5 +1,5 @@
--- What pattern trees spell.
-use Rattle.std.specs.Prelude.{◌==◌, ◌-◌, not, ℕ, suc, zero, Bool, true, false, List, [], ◌∷◌, length, Option, None, Some, option_map, codes, bytes_eq, if◌then◌else◌}
+-- What a `$` of a pattern begins.
+use Rattle.std.specs.Prelude.{◌==◌, not, ℕ, suc, Bool, true, false, List, [], ◌∷◌, length, Option, None, Some, option_map, codes, bytes_eq, if◌then◌else◌}
 use Rattle.tt.specs.Expectations.{first_leaf_as, as_ident_or_underscore}
 use Rattle.tt.specs.Forest.{Forest, end, leaf, node}
 use Rattle.tt.specs.Gluing.{after_trees}
@@ -18,9 +18,7 @@ use Rattle.mbe_pattern.specs.declared.pattern.GrammarFragment.TheVariants as gra
 use Rattle.mbe_pattern.specs.declared.pattern.RepeatKind.{RepeatKind}
 use Rattle.mbe_pattern.specs.declared.pattern.RepeatKind.TheVariants as repeat
 use Rattle.mbe_pattern.specs.declared.pattern.Variable.{Variable}
-use Rattle.mbe_pattern.specs.Patterns.{Pattern, inner_part}
-use Rattle.mbe_pattern.specs.Patterns as pattern
-use Rattle.mbe_pattern.specs.Units.{is_at_punct, unit_from, first_unit}
+use Rattle.mbe_pattern.specs.Units.{is_at_punct, first_unit}
 
 -- the leaf is the punct `$`
 abbrev pub is_dollar : Leaf → Bool
@@ -166,24 +164,3 @@ dollar_length (variable it) = 3
 dollar_length (repetition tail) = suc (tail_length tail)
 dollar_length crate_root = 0
 dollar_length nothing = 0
-
--- the part that a `$` begins, before what follows; if it begins nothing, it is a literal token
-abbrev pub part_of : Leaf → Dollar → (held others : Pattern) → Pattern
-part_of it (variable found) held others = pattern.variable found others
-part_of it (repetition tail) held others = pattern.repetition held tail.separator tail.kind others
-part_of it crate_root held others = pattern.token (it ∷ []) others
-part_of it nothing held others = pattern.token (it ∷ []) others
-
--- the pattern that trees spell after that many of them, which belong to an earlier part
-abbrev pub pattern_behind : ℕ → Forest → Pattern
-pattern_behind passed end = pattern.nothing
-pattern_behind zero (leaf it rest) =
-    if is_dollar it then part_of it (dollar_in rest) (inner_part (pattern_behind zero rest)) (pattern_behind (dollar_length (dollar_in rest)) rest)
-    else pattern.token (first_unit (leaf it rest)) (pattern_behind (unit_from it rest - 1) rest)
-pattern_behind zero (node delimiter children rest) = pattern.subtree delimiter.kind (pattern_behind zero children) (pattern_behind zero rest)
-pattern_behind (suc passed) (leaf it rest) = pattern_behind passed rest
-pattern_behind (suc passed) (node delimiter children rest) = pattern_behind passed rest
-
--- the pattern that trees spell
-abbrev pub pattern_of : Forest → Pattern
-pattern_of trees = pattern_behind zero trees

@@ -1,7 +1,7 @@
 -- What is left of a pattern that is judged, part by part.
 use Rattle.std.specs.Prelude.{◌≡◌, ◌&&◌, ◌||◌, not, ℕ, Bool, true, false, List, [], ◌∷◌, map, reverse, Option, None, Some, is_some, if◌then◌else◌}
+use Rattle.tt.specs.Forest.{Forest, size}
 use Rattle.tt.specs.Iters.{rest_of}
-use Rattle.tt.specs.Types.Leaf.{Leaf}
 use Rattle.mbe_pattern.specs.declared.error.PatternError.{PatternError}
 use Rattle.mbe_pattern.specs.declared.first.First.{First}
 use Rattle.mbe_pattern.specs.declared.first.First.TheVariants as first
@@ -14,16 +14,30 @@ use Rattle.mbe_pattern.specs.Faults.{or_else, names_with, name_fault, separator_
 use Rattle.mbe_pattern.specs.Patterns.{may_take_none, may_be_none}
 use Rattle.mbe_pattern.specs.Placed.{Placed, placed_until}
 use Rattle.mbe_pattern.specs.Placed as placed
+use Rattle.mbe_pattern.specs.Units.{front_leaves}
 
--- the pattern begins with the part that was read, and the others follow it
-abbrev pub IsFirst : Placed → First → (others : Placed) → Type 0
-IsFirst whole first.End others = whole ≡ placed.nothing
-IsFirst whole (first.Variable at it) others = whole ≡ placed.variable at it others
-IsFirst whole (first.Wrong why it) others = whole ≡ placed.wrong why it others
-IsFirst whole first.Token others = (its : List Leaf) × (whole ≡ placed.token its others)
-IsFirst whole (first.Subtree kind inner until) others = whole ≡ placed.subtree kind (placed_until until (rest_of inner)) others
-IsFirst whole (first.Repetition at inner until tail) others =
-    whole ≡ placed.repetition at (placed_until until (rest_of inner)) tail.separator.items tail.kind others
+-- the pattern of which this part was read at the front of the trees, and which goes on with the others
+abbrev pub begun_with : Forest → First → (others : Placed) → Placed
+begun_with trees first.End others = placed.nothing
+begun_with trees (first.Variable at it) others = placed.variable at it others
+begun_with trees (first.Wrong why it) others = placed.wrong why it others
+begun_with trees (first.Token count) others = placed.token (front_leaves count trees) others
+begun_with trees (first.Subtree kind inner until) others = placed.subtree kind (placed_until until (rest_of inner)) others
+begun_with trees (first.Repetition at inner until tail) others =
+    placed.repetition at (placed_until until (rest_of inner)) tail.separator.items tail.kind others
+
+-- the pattern of the trees begins with the part that was read, and goes on with that of the rest
+abbrev pub IsFirst : (until : ℕ) → (trees : Forest) → First → (rest : Forest) → Type 0
+IsFirst until trees first rest = placed_until until trees ≡ begun_with trees first (placed_until until rest)
+
+-- how many tokens a part holds, if there is a part
+abbrev pub held_in : First → Option ℕ
+held_in first.End = None
+held_in (first.Variable at it) = Some 0
+held_in (first.Wrong why it) = Some 0
+held_in (first.Token count) = Some 0
+held_in (first.Subtree kind inner until) = Some (size (rest_of inner))
+held_in (first.Repetition at inner until tail) = Some (size (rest_of inner))
 
 -- what is left of a subtree or a repetition, the repetition, and whether all of it so far may take no tree
 pub record LevelLeft : Type 0 where
@@ -104,7 +118,7 @@ abbrev pub stepped : First → LevelLeft → State → State
 stepped first.End level state = ended level state
 stepped (first.Variable at it) level state = with_level (taken it.fragment level) (with_name at it.name state)
 stepped (first.Wrong why it) level state = with_level (full level) (with_fault (Some why) state)
-stepped first.Token level state = with_level (full level) state
+stepped (first.Token count) level state = with_level (full level) state
 stepped (first.Subtree kind inner until) level state = with_level (level_of (placed_until until (rest_of inner)) None true) (with_level (full level) state)
 stepped (first.Repetition at inner until tail) level state =
     begun at tail.kind (placed_until until (rest_of inner)) level (with_fault (separator_fault at tail.separator.items tail.kind) state)

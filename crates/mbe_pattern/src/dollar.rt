@@ -40,11 +40,15 @@ pub fn is_dollar(leaf: &Leaf) -> bool
     }
 }
 
-// Returns the first `count` leaves, or fewer if a subtree or the end comes before.
-fn front_leaves(alloc: Global, count: usize, mut trees: TtIter<'_>) -> Result<Vec<Leaf>, AllocError>
+/// Returns the first `count` leaves, or fewer if a subtree or the end comes before.
+pub(crate) fn front_leaves(
+    alloc: Global,
+    count: usize,
+    mut trees: TtIter<'_>,
+) -> Result<Vec<Leaf>, AllocError>
     ensures { IfOk result (λ leaves. leaves.items ≡ front_leaves count (rest_of trees.entry)) }
 {
-    let mut leaves = Vec::new(alloc);
+    let mut leaves = Vec::with_capacity(alloc, count)?;
     for _ in 0..count {
         let Ok(leaf) = trees.expect_leaf() else {
             return Ok(leaves);
@@ -54,8 +58,8 @@ fn front_leaves(alloc: Global, count: usize, mut trees: TtIter<'_>) -> Result<Ve
     Ok(leaves)
 }
 
-/// Returns the leaves of the first token; none if no leaf comes first.
-pub(crate) fn first_unit(alloc: Global, trees: TtIter<'_>) -> Result<Vec<Leaf>, AllocError>
+// Returns the leaves of the first token; none if no leaf comes first.
+fn first_unit(alloc: Global, trees: TtIter<'_>) -> Result<Vec<Leaf>, AllocError>
     ensures { IfOk result (λ leaves. leaves.items ≡ first_unit (rest_of trees.entry)) }
 {
     let count = unit_size(trees.remaining().iter());

@@ -2,8 +2,9 @@
 ghost use Rattle.std.specs.Prelude.{◌≡◌, ◌-◌, true, IfOk};
 ghost use Rattle.tt.specs.Forest.{leaf, size};
 ghost use Rattle.tt.specs.Iters.{rest_of};
-ghost use Rattle.mbe_pattern.specs.Validating.{IsFirst};
-ghost use Rattle.mbe_pattern.specs.Placed.{fault_in, placed_until};
+ghost use Rattle.mbe_pattern.specs.Dollars.{AreLess};
+ghost use Rattle.mbe_pattern.specs.Validating.{IsFirst, held_in};
+ghost use Rattle.mbe_pattern.specs.Placed.{fault_in};
 ghost use Rattle.mbe_pattern.specs.Spelling.{is_dollar};
 
 use crate::dollar::{Dollar, Tail, dollar_in, is_dollar};
@@ -23,7 +24,8 @@ pub(crate) enum First<'p> {
     Variable(usize, Variable),
     /// A `$` that begins nothing, and what is wrong with it.
     Wrong(PatternError, Leaf),
-    Token,
+    /// A token of that many leaves.
+    Token(usize),
     Subtree(DelimiterKind, TtIter<'p>, usize),
     Repetition(usize, TtIter<'p>, usize, Tail),
 }
@@ -56,7 +58,8 @@ fn dollar_first<'p>(
     siblings: &mut TtIter<'p>,
 ) -> Result<First<'p>, AllocError>
     requires { is_dollar dollar ≡ true }
-    ensures { IfOk result (λ part. IsFirst (placed_until until (leaf dollar (rest_of siblings.old))) part (placed_until until (rest_of siblings.new))) }
+    ensures part { IfOk result (λ part. IsFirst until (leaf dollar (rest_of siblings.old)) part (rest_of siblings.new)) }
+    ensures less { IfOk result (λ part. AreLess (held_in part) (size (rest_of siblings.new)) (size (leaf dollar (rest_of siblings.old)))) }
 {
     let at = place_before(until, siblings).saturating_sub(1);
     match dollar_in(alloc, siblings.remaining().iter())? {
@@ -73,7 +76,7 @@ fn dollar_first<'p>(
             }
             Err(()) => unreachable!(),
         },
-        Dollar::CrateRoot => Ok(First::Token),
+        Dollar::CrateRoot => Ok(First::Token(1)),
         Dollar::Nothing => {
             let fault = fault_in(at, siblings.remaining().iter());
             Ok(First::Wrong(fault, dollar))
@@ -81,13 +84,16 @@ fn dollar_first<'p>(
     }
 }
 
-/// Reads and passes the first part of the pattern that these trees spell. They end before that flat place.
+/// Reads and passes the first part of the pattern that these trees spell. They end before that flat place. The call is inline, so that no
+/// caller moves a part to look at it.
+#[inline(always)]
 pub(crate) fn next_first<'p>(
     alloc: Global,
     until: usize,
     trees: &mut TtIter<'p>,
 ) -> Result<First<'p>, AllocError>
-    ensures { IfOk result (λ part. IsFirst (placed_until until (rest_of trees.old)) part (placed_until until (rest_of trees.new))) }
+    ensures part { IfOk result (λ part. IsFirst until (rest_of trees.old) part (rest_of trees.new)) }
+    ensures less { IfOk result (λ part. AreLess (held_in part) (size (rest_of trees.new)) (size (rest_of trees.old))) }
 {
     let before = trees.remaining().iter();
     match trees.next() {
@@ -101,8 +107,9 @@ pub(crate) fn next_first<'p>(
                 let part = dollar_first(alloc, until, leaf, trees)?;
                 return Ok(part);
             }
-            pass(trees, unit_size(before).saturating_sub(1));
-            Ok(First::Token)
+            let count = unit_size(before);
+            pass(trees, count.saturating_sub(1));
+            Ok(First::Token(count))
         }
     }
 }

@@ -268,7 +268,7 @@ impl<'p> Validation<'p> {
                 self.note(Some(fault));
                 self.stay(level)
             }
-            First::Token => self.stay(level),
+            First::Token(_) => self.stay(level),
             First::Subtree(_, inner, until) => {
                 self.stay(level)?;
                 self.enter(inner, until, None)

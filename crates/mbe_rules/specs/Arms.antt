@@ -7,7 +7,7 @@ use Rattle.tt.specs.Types.Delimiter.{Delimiter}
 use Rattle.mbe_matcher.specs.Grouping.{Where, variables_of}
 use Rattle.mbe_pattern.specs.Faults.{pattern_fault}
 use Rattle.mbe_pattern.specs.Patterns.{Pattern}
-use Rattle.mbe_pattern.specs.Spelling.{pattern_of}
+use Rattle.mbe_pattern.specs.Placed.{pattern_of}
 use Rattle.mbe_rules.specs.Faults.{template_fault}
 use Rattle.mbe_rules.specs.Spelling.{template_of}
 use Rattle.mbe_rules.specs.Templates.{Template}

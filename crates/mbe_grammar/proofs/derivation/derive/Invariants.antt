@@ -7,7 +7,7 @@ use Rattle.mbe_grammar.proofs.derivation.derive.Given as goal
 
 abbrev pub invariant-loop-derivation : goal.invariant-loop-derivation
 invariant-loop-derivation l =
-    Collects (GivesAhead l.derivation) (StopsAhead l.derivation) (Derives l.table.rules.now l.at (trees_of l.trees)) (Refuses l.table.rules.now (whole l.at (trees_of l.trees))) l.events.items
+    Collects (GivesAhead l.derivation) (StopsAhead l.derivation) (Derives l.table.rules.now l.at (trees_of l.fn.trees)) (Refuses l.table.rules.now (whole l.at (trees_of l.fn.trees))) l.events.items
 
 abbrev pub decreases-loop-derivation : goal.decreases-loop-derivation
 decreases-loop-derivation l = steps_ahead l.derivation

@@ -1,5 +1,6 @@
 -- What the expression of a level took is left to read, or its trees are refused.
 use Rattle.std.proofs.Common.{rules, ap₂, ◌≡◌, ◌+◌, ◌^◌, ◌<◌, ◌≤◌, true, List, [], ◌++◌, length, Some, None, refl, ap, sym, subst, ◌∙◌, arith}
+use Rattle.std.proofs.lemmas.List.{nil_from_length}
 use Rattle.std.specs.Prelude.{option_map}
 use Rattle.tt.specs.Gluing.{after_trees}
 use Rattle.tt.specs.Siblings.{is_end}
@@ -13,6 +14,7 @@ use Rattle.mbe_grammar.specs.Places.{position_of, trees_in}
 use Rattle.mbe_grammar.specs.Positions.{first_position}
 use Rattle.mbe_grammar.proofs.Ahead.{entries_added, added_length}
 use Rattle.mbe_grammar.proofs.Deriving.{onto, refuses_failed, read_level}
+use Rattle.mbe_grammar.proofs.derivation.read.Goals.{then-since-eq0, else-since-eq0+in_ok-append}
 use Rattle.mbe_grammar.proofs.derivation.read.Goals as goal
 
 pub returns-in_default : goal.returns-in_default
@@ -43,12 +45,19 @@ returns c =
     let parses : Parses true rules_of c.args.it.name (first_position trees) (Some to) =
     subst (Parses true rules_of c.args.it.name (first_position trees)) found (subst (λ f. Parses true rules_of c.args.it.name f (option_map (position_of trees c.parse.new.log.items) c.in_ok-to.field-0)) from (subst (λ t. Parses true rules_of c.args.it.name (position_of (trees_in c.restart.new.self) c.truncate.new.self.items 0) (option_map (position_of t c.parse.new.log.items) c.in_ok-to.field-0)) same c.in_ok-to.ensures.parses)) in
     let ended : c.is_at_end.result ≡ is_end (after_trees c.in-Some.to trees) = c.is_at_end.ensures ∙ ap (λ t. is_end (after_trees c.in-Some.to t)) (c.in_ok-to.ensures.same ∙ same) in
-    let added : c.append.new.self.items ≡ old ++ more = search rules in
     let first : c.len-since.result ≡ length old = search rules in
+    let added : c.if-since-eq0.log.items ≡ old ++ more = elim c.if-since-eq0.branch [
+      | then-since-eq0 w ↦
+          let at_start : c.len-since.result ≡ 0 = search rules in
+          let none : old ≡ [] = nil_from_length old (sym first ∙ at_start) in
+          let moved : c.if-since-eq0.log.items ≡ more = search rules in
+          subst (λ items. c.if-since-eq0.log.items ≡ items ++ more) (sym none) moved
+      | else-since-eq0+in_ok-append w ↦ search rules
+    ] in
     let short : length more < 2 ^ 64 = omega (arith, c.len-taken.type_inv, c.len-taken.ensures, c.parse.new.log.ok) in
     let stop = c.stop_of-stop.result in
-    let left : (older : List Open) → ahead_in c.append.new.self.items c.len-since.result c.len-since.result stop older ≡ onto rules_of more (stopped stop (around old older)) =
-    λ older. entries_added old more c.append.new.self.items c.len-since.result stop older added first in
+    let left : (older : List Open) → ahead_in c.if-since-eq0.log.items c.len-since.result c.len-since.result stop older ≡ onto rules_of more (stopped stop (around old older)) =
+    λ older. entries_added old more c.if-since-eq0.log.items c.len-since.result stop older added first in
     record {
       fits = λ older. subst (λ l. length l ≤ length (around old older) + 2 ^ 64) (sym (left older)) (omega (arith, added_length more stop (around old older), short));
       read = λ older. subst (λ l. IsRead rules_of (place c.args.it) (around old older) (Some l)) (sym (left older))

@@ -2,7 +2,7 @@ use Rattle.std.proofs.Common.{rules, ◌≡◌, [], ◌∷◌, ◌++◌, map, ap
 use Rattle.tt.specs.Iters.{rest_of}
 use Rattle.mbe_matcher.specs.Parsing.{level_left, levels_left, stepped, with_rest}
 use Rattle.mbe_matcher.specs.Pieces.{bit_of}
-use Rattle.mbe_pattern.specs.Spelling.{pattern_of}
+use Rattle.mbe_pattern.specs.Placed.{pattern_of}
 use Rattle.mbe_matcher.proofs.ParseLevels.{levels_last}
 use Rattle.mbe_matcher.proofs.ParseWhole.{Parse, parse_more, parse_same}
 use Rattle.mbe_matcher.proofs.parse.parse.Goals as goal

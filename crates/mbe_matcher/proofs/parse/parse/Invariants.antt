@@ -3,7 +3,7 @@ use Rattle.std.proofs.Common.{map}
 use Rattle.tt.specs.Iters.{rest_of}
 use Rattle.mbe_matcher.specs.Parsing.{levels_left}
 use Rattle.mbe_matcher.specs.Pieces.{bit_of}
-use Rattle.mbe_pattern.specs.Spelling.{pattern_of}
+use Rattle.mbe_pattern.specs.Placed.{pattern_of}
 use Rattle.mbe_matcher.proofs.ParseWhole.{Parse, work_of}
 use Rattle.mbe_matcher.proofs.parse.parse.Given as goal
 

@@ -1,4 +1,4 @@
-use Rattle.std.proofs.Common.{rules, ◌≡◌, ◌-◌, ◌∷◌, [], false, ap, ap₂, sym, ◌∙◌, length, arith}
+use Rattle.std.proofs.Common.{rules, ◌≡◌, ◌≤◌, ◌-◌, false, ap, ap₂, sym, ◌∙◌, length, arith}
 use Rattle.tt.specs.Expectations.{is_at_node}
 use Rattle.tt.specs.Forest.{leaf, node, size}
 use Rattle.tt.specs.Gluing.{after_trees}
@@ -9,13 +9,13 @@ use Rattle.mbe_pattern.specs.Placed as placed
 use Rattle.mbe_pattern.specs.Spelling.{dollar_in}
 use Rattle.mbe_pattern.specs.Spelling as spelling
 use Rattle.mbe_pattern.specs.Dollars.{tail_of}
-use Rattle.mbe_pattern.proofs.FirstSteps.{placed_repetition, placed_crate, placed_wrong}
+use Rattle.mbe_pattern.proofs.FirstSteps.{node_there, placed_repetition, placed_crate, placed_wrong}
 use Rattle.mbe_pattern.proofs.FirstTrees.{node_before}
-use Rattle.mbe_pattern.proofs.PartSteps.{node_there}
+use Rattle.mbe_pattern.proofs.Passing.{after_less}
 use Rattle.mbe_pattern.proofs.first.dollar_first.Goals as goal
 
-pub returns-in-Ok : goal.returns-in-Ok
-returns-in-Ok c =
+pub returns-in-Ok-clause-part : goal.returns-in-Ok-clause-part
+returns-in-Ok-clause-part c =
     let until = c.args.until in
     let rest = rest_of c.args.siblings.now in
     let inner = c.in-Ok.inner in
@@ -36,6 +36,17 @@ returns-in-Ok c =
     placed_repetition until c.args.dollar rest c.requires header.delimiter (rest_of inner) (after_tree rest) (rest_of c.pass-in-Ok.new.trees) tail.separator.items tail.kind begins same left
     ∙ sym (ap₂ (λ n m. placed.repetition n (placed_until m (rest_of inner)) tail.separator.items tail.kind (placed_until until (rest_of c.pass-in-Ok.new.trees))) at until_inside)
 
+pub returns-in-Ok-clause-less : goal.returns-in-Ok-clause-less
+returns-in-Ok-clause-less c =
+    let rest = rest_of c.args.siblings.now in
+    let inner = c.in-Ok.inner in
+    let header = c.in-Ok.field-0-0 in
+    let first : IsFirstSubtree rest header inner = search rules in
+    let begins : rest ≡ node header.delimiter (rest_of inner) (after_tree rest) = node_before rest header inner first in
+    let next : rest_of c.next.new.self ≡ after_tree (after_tree rest) = search rules in
+    let passed : size (rest_of c.pass-in-Ok.new.trees) ≤ size (rest_of c.next.new.self) = search rules in
+    omega (arith, ap size begins, ap size next, passed, after_less 1 (after_tree rest))
+
 pub unreachable-requires : goal.unreachable-requires
 unreachable-requires c =
     let rest = rest_of c.args.siblings.now in
@@ -45,15 +56,15 @@ unreachable-requires c =
     let none : is_at_node rest ≡ false = search rules in
     node_there rest tail (sym (found ∙ ap dollar_in seen)) none
 
-pub returns-in-CrateRoot : goal.returns-in-CrateRoot
-returns-in-CrateRoot c =
+pub returns-in-CrateRoot-clause-part : goal.returns-in-CrateRoot-clause-part
+returns-in-CrateRoot-clause-part c =
     let rest = rest_of c.args.siblings.now in
     let seen : rest_of c.iter.result ≡ rest = search rules in
     let found : spelling.crate_root ≡ dollar_in (rest_of c.iter.result) = search rules in
-    (c.args.dollar ∷ [], placed_crate c.args.until c.args.dollar rest c.requires (sym (found ∙ ap dollar_in seen)))
+    placed_crate c.args.until c.args.dollar rest c.requires (sym (found ∙ ap dollar_in seen))
 
-pub returns-in-Nothing : goal.returns-in-Nothing
-returns-in-Nothing c =
+pub returns-in-Nothing-clause-part : goal.returns-in-Nothing-clause-part
+returns-in-Nothing-clause-part c =
     let until = c.args.until in
     let rest = rest_of c.args.siblings.now in
     let seen : rest_of c.iter.result ≡ rest = search rules in

@@ -4,7 +4,7 @@ use Rattle.mbe_matcher.specs.Compiled.{all_stops, starts_of}
 use Rattle.mbe_matcher.specs.Grouping.{variables_of}
 use Rattle.mbe_matcher.specs.Compiling.{Made, made_of, made_by, nothing_made, stop_of}
 use Rattle.mbe_pattern.specs.Faults.{pattern_fault}
-use Rattle.mbe_pattern.specs.Spelling.{pattern_of}
+use Rattle.mbe_pattern.specs.Placed.{pattern_of}
 use Rattle.mbe_pattern.proofs.Plain.{sound_pattern}
 use Rattle.mbe_matcher.proofs.CompileSteps.{made_whole}
 use Rattle.mbe_matcher.specs.Pieces.{bit_of}

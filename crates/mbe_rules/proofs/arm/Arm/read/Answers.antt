@@ -6,7 +6,7 @@ use Rattle.tt.specs.Iters.{rest_of, IsFirstSubtree}
 use Rattle.tt.specs.Moves.{after_tree}
 use Rattle.mbe_matcher.specs.Matchers.{IsMatcherOf}
 use Rattle.mbe_matcher.specs.Stepping.{where_of}
-use Rattle.mbe_pattern.specs.Spelling.{pattern_of}
+use Rattle.mbe_pattern.specs.Placed.{pattern_of}
 use Rattle.mbe_rules.specs.Results.{IsTemplate, IsTemplateError}
 use Rattle.mbe_rules.specs.Spelling.{template_of}
 use Rattle.mbe_rules.specs.declared.rules_error.ArmFault.TheVariants.{NoArrow, NoTemplate}
