@@ -114,7 +114,7 @@ def try_missing(files):
         status, written, told = files.run(command, "/proc/self/mem")
         wants("the run", (status, written), (1, b""))
         if not told.startswith(b"error: couldn't read /proc/self/mem: "):
-            raise Wrong(f"it is told: {told[:200]}")
+            raise Wrong(f"the diagnostic is: {told[:200]}")
 
 
 def try_several(files):
@@ -160,7 +160,7 @@ def try_no_utf8(files):
 def try_bytes_stay(files):
     """What is no call stays byte for byte: a mark in front, ends of lines, white space, comments, characters of any width."""
     text = "\ufeff" + DEFINITION.decode().replace("\n", "\r\n") + "é\t= m!(1, 2) ; // 漢 \r\n\r\n \tx\u0301 /* m!(1) */ 'a'\r\n"
-    judge(files, text.replace("m!(1, 2)", "(1 + 2)").encode(), "", files.made("text", text.encode()), is_file=False)
+    judge(files, text.replace("m!(1, 2)", "1 + 2").encode(), "", files.made("text", text.encode()), is_file=False)
     wrong = files.made("text", text.replace("m!(1, 2)", "m!(1)").encode())
     told = (
         f"error: no rule of `m` matches this\n --> {wrong}:2:9\n  |\n2 | é\t= m!(1) ; // 漢 \n  |  \t      ^\n"
@@ -175,7 +175,7 @@ def try_first_line(files):
     for mark in ("", "\ufeff"):
         text = f"{mark}{line}{DEFINITION.decode()}const A: u8 = m!(1, 2);"
         name = files.made("script", text.encode())
-        judge(files, text.replace("m!(1, 2)", "(1 + 2)").encode(), "", name)
+        judge(files, text.replace("m!(1, 2)", "1 + 2").encode(), "", name)
     wrong = files.made("wrong", f"{line}{DEFINITION.decode()}m!(1)".encode())
     told = (
         f"error: no rule of `m` matches this\n --> {wrong}:3:5\n  |\n3 | m!(1)\n  |     ^\n"
@@ -224,7 +224,7 @@ def try_options(files):
         status, written, told = files.run("expand", *words)
         wants("the run", (status, written), (2, b""))
         if b"--limit" not in told:
-            raise Wrong(f"it is told: {told[:200]}")
+            raise Wrong(f"the diagnostic is: {told[:200]}")
     for option in ("--crate", "--only"):
         for value in ("", "a b", "1", "a-b", "r#a", "r#", "r#r#a", "é "):
             if (option, value) != ("--only", "r#a"):
@@ -252,7 +252,7 @@ def try_deep(files):
     """Brackets in one another, in a text and in an input."""
     deep = b"(" * DEPTH + b")" * DEPTH
     judge(files, deep, "", "-", given=deep, is_file=False)
-    judge(files, DEFINITION + b"x = (" + deep + b" + 1)", "", "-", given=DEFINITION + b"x = m!(" + deep + b", 1)", is_file=False)
+    judge(files, DEFINITION + b"x = " + deep + b" + 1", "", "-", given=DEFINITION + b"x = m!(" + deep + b", 1)", is_file=False)
 
 
 def try_forever(files):
@@ -267,10 +267,10 @@ def try_forever(files):
 
 def try_long(files):
     """A text of 10 MB and more with many calls, and one with many faults."""
-    lines = b"let a = m!(1, 2); // what stands behind a call stays as it is, and so does what stands between two of them\n"
+    lines = b"let a = m!(1, 2); // what follows a call stays as it is, and so do all the bytes that are between two of them\n"
     text = DEFINITION + lines * LINES
     wants("how long it is", len(text) > 10_000_000, True)
-    files.gives(text.replace(b"m!(1, 2)", b"(1 + 2)"), "expand", files.made("long", text))
+    files.gives(text.replace(b"m!(1, 2)", b"1 + 2"), "expand", files.made("long", text))
     name = files.made("wrong", DEFINITION + b"m!(1);\n" * CALLS)
     status, written, told = files.run("check", name)
     wants("the run", (status, written), (1, b""))
@@ -285,7 +285,7 @@ def try_closed_pipe(files):
     """A reader that closes the pipe has read enough: there is no diagnostic."""
     first, told = files.reads_some("expand", given=DEFINITION + b"m!(1, 2);\n" * LINES)
     wants("what is read", first, (DEFINITION + b"1 + 2\n" * LINES)[: len(first)])
-    wants("what is told", told, b"")
+    wants("the diagnostic", told, b"")
 
 
 def told_on_terminal(files, *words, given, **environment):
@@ -309,11 +309,11 @@ def try_colours(files):
     text = DEFINITION + b"m!(1);"
     plain = files.run("check", "-", given=text)[2]
     coloured = told_on_terminal(files, "check", "-", given=text)
-    wants("what is told without colours", re.sub(rb"\x1b\[[0-9;]*m", b"", coloured), plain)
+    wants("the diagnostics without colours", re.sub(rb"\x1b\[[0-9;]*m", b"", coloured), plain)
     for colour, word in ((31, b"error"), (31, b"^"), (32, b"note"), (34, b"-->"), (34, b"|")):
         wants("a colour", b"\x1b[1;%dm%s\x1b[0m" % (colour, word) in coloured, True)
-    wants("what is told to one who wants none", told_on_terminal(files, "check", "-", given=text, NO_COLOR="1"), plain)
-    wants("what is told without a terminal", b"\x1b" in plain, False)
+    wants("the diagnostics if NO_COLOR is set", told_on_terminal(files, "check", "-", given=text, NO_COLOR="1"), plain)
+    wants("colours without a terminal", b"\x1b" in plain, False)
 
 
 def tried(files, examples):

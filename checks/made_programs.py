@@ -112,6 +112,30 @@ class Maker:
         self.lines.append(f"fn {function}() -> i64 {{\n    {call}\n    let x = {self.operand(calls)};\n    x + {last} // the value\n}}")
         self.values.append(f"{function}()")
 
+    def blocks(self, calls):
+        """Functions whose value is a call, or begins or ends with one, of a macro that writes blocks."""
+        name, operator = self.name("block"), self.operator()
+        self.lines.append(
+            f"macro_rules! {name} {{ ($a:literal) => {{ {{ $a }} {operator} 1 }}; (if $a:literal) => {{ if $a > 4 {{ 1 }} else {{ 2 }} }}; "
+            f"(cast $a:literal) => {{ unsafe {{ $a as u8 }} as i64 }}; (sum $a:literal) => {{ $a {operator} 2 }}; (block $a:literal) => {{ {{ $a }} }}; "
+            f"(call $a:literal) => {{ {name}!(block $a) {operator} {name}!($a) }}; }}"
+        )
+
+        def call(maker):
+            bracket = maker.chance.choice(("()", "[]"))
+            word = maker.chance.choice(("", "if ", "cast ", "sum ", "block ", "call "))
+            return f"{name}!{bracket[0]}{word}{maker.number()}{bracket[1]}"
+
+        for _ in range(self.chance.randint(2, 5)):
+            function, one, other = self.name("f"), call(self), self.operand([*calls, call])
+            value = self.chance.choice((
+                f"{one}", f"{one} {self.operator()} {other}", f"0 {self.operator()} {other} {self.operator()} {one}", f"i64::from({one} == {one})",
+                f"let x = {one}; x {self.operator()} {one}", f"match {self.number()} {{ 0..5 => {one}, _ => {one} }}", f"[{one}, {other}][0]",
+                f"if true {{ {one} }} else {{ {one} }}", f"let mut x = {other}; x = {one}; x", f"{name}! {{ block {self.number()} }}.min({other})",
+            ))
+            self.lines.append(f"fn {function}() -> i64 {{ {value} }}")
+            self.values.append(f"{function}()")
+
     def constants(self, calls):
         """Items that a macro writes, in braces or with a `;` behind the call."""
         name = self.name("constants")
@@ -174,7 +198,7 @@ def made(seed):
     maker = Maker(seed)
     calls = [make() for make in maker.chance.sample((maker.folding, maker.counting, maker.choosing), maker.chance.randint(1, 3))]
     for _ in range(maker.chance.randint(2, 6)):
-        what = maker.chance.choice(("statements", "constants", "conditions", "defining", "modules"))
-        getattr(maker, what)(*([calls] if what in ("statements", "constants", "conditions") else []))
+        what = maker.chance.choice(("statements", "blocks", "constants", "conditions", "defining", "modules"))
+        getattr(maker, what)(*([calls] if what in ("statements", "blocks", "constants", "conditions") else []))
     printed = "".join(f'    println!("{{}}", {it});\n' for it in maker.values)
     return "\n".join(maker.lines) + f"\n\nfn main() {{\n{printed}}}\n"

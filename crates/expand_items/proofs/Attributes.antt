@@ -1,7 +1,7 @@
 -- Attributes that come first, and calls, are trees that exist.
 use Rattle.std.proofs.Common.{◌≡◌, ◌+◌, ◌<◌, ◌≤◌, ℕ, zero, suc, Bool, true, false, List, inl, inr, ◌⊎◌, refl, ap, sym, ◌∙◌, arith, cond}
 use Rattle.std.proofs.lemmas.Bool.{and_parts, false≢true}
-use Rattle.std.specs.Prelude.{◌&&◌, ◌==◌}
+use Rattle.std.specs.Prelude.{◌&&◌, ◌||◌, ◌==◌, codes}
 use Rattle.tt.specs.Forest.{Forest, end, leaf, node, join, size}
 use Rattle.tt.specs.Gluing.{after_trees}
 use Rattle.tt.specs.Types.Delimiter.{Delimiter}
@@ -9,9 +9,9 @@ use Rattle.tt.specs.Types.Leaf.{Leaf}
 use Rattle.tt.specs.Types.Leaf.TheVariants as leaf_of
 use Rattle.expand_items.specs.Attributes.{attributes_len, is_at_attribute, is_attribute_sign}
 use Rattle.expand_items.specs.Items.{Call, calls, item_in}
-use Rattle.expand_items.specs.Positions.{is_bracket}
+use Rattle.expand_items.specs.Positions.{begins_with_attribute, is_at_attribute_of, is_at_inner, is_attribute_of, is_bracket}
 use Rattle.expand_items.proofs.Shapes.{call_ends}
-use Rattle.mbe_pattern.specs.Units.{front_trees}
+use Rattle.mbe_pattern.specs.Units.{front_trees, is_at_punct}
 use Rattle.mbe_pattern.proofs.Passing.{after_end}
 
 -- no brackets are there
@@ -112,3 +112,34 @@ pub call_fits : (root : List ℕ) (trees : Forest) (it : Call) → item_in root 
 call_fits root trees it is =
     let call = call_ends root trees it is in
     omega (arith, call.len, before_fits (suc call.before) trees it.delimiter it.input call.rest call.shape)
+
+-- Three trees of an inner attribute exist.
+pub inner_fits : (trees : Forest) → is_at_inner trees ≡ true → 3 + size (after_trees 3 trees) ≤ size trees
+inner_fits end e = absurd (false≢true e)
+inner_fits (node delimiter children rest) e = absurd (false≢true e)
+inner_fits (leaf it end) e = absurd (false≢true (and_parts (is_at_punct (codes "#") (leaf it end)) false e).1)
+inner_fits (leaf it (node delimiter children rest)) e = absurd (false≢true (and_parts (is_at_punct (codes "#") (leaf it end)) false e).1)
+inner_fits (leaf it (leaf next end)) e = absurd (no_brackets (is_at_punct (codes "!") (leaf next end)) (and_parts (is_at_punct (codes "#") (leaf it end)) _ e).1)
+inner_fits (leaf it (leaf next (leaf third rest))) e = absurd (no_brackets (is_at_punct (codes "!") (leaf next end)) (and_parts (is_at_punct (codes "#") (leaf it end)) _ e).1)
+inner_fits (leaf it (leaf next (node delimiter children rest))) e = omega arith
+
+-- The first inner attribute begins with the word, or one of the others does.
+pub one_inner : (word : List ℕ) (trees : Forest) → is_at_inner trees ≡ true
+    → begins_with_attribute word trees ≡ (is_at_attribute_of word (after_trees 2 trees) || begins_with_attribute word (after_trees 3 trees))
+one_inner word end e = absurd (false≢true e)
+one_inner word (node delimiter children rest) e = absurd (false≢true e)
+one_inner word (leaf it end) e = absurd (false≢true (and_parts (is_at_punct (codes "#") (leaf it end)) false e).1)
+one_inner word (leaf it (node delimiter children rest)) e = absurd (false≢true (and_parts (is_at_punct (codes "#") (leaf it end)) false e).1)
+one_inner word (leaf it (leaf next end)) e = absurd (no_brackets (is_at_punct (codes "!") (leaf next end)) (and_parts (is_at_punct (codes "#") (leaf it end)) _ e).1)
+one_inner word (leaf it (leaf next (leaf third rest))) e = absurd (no_brackets (is_at_punct (codes "!") (leaf next end)) (and_parts (is_at_punct (codes "#") (leaf it end)) _ e).1)
+one_inner word (leaf it (leaf next (node delimiter children rest))) e = ap (λ b. cond b (is_attribute_of word delimiter.kind children || begins_with_attribute word rest) false) e
+
+-- If no inner attribute comes first, none begins with the word.
+pub no_inner : (word : List ℕ) (trees : Forest) → is_at_inner trees ≡ false → begins_with_attribute word trees ≡ false
+no_inner word end e = refl
+no_inner word (node delimiter children rest) e = refl
+no_inner word (leaf it end) e = refl
+no_inner word (leaf it (node delimiter children rest)) e = refl
+no_inner word (leaf it (leaf next end)) e = refl
+no_inner word (leaf it (leaf next (leaf third rest))) e = refl
+no_inner word (leaf it (leaf next (node delimiter children rest))) e = ap (λ b. cond b (is_attribute_of word delimiter.kind children || begins_with_attribute word rest) false) e

@@ -98,7 +98,7 @@ module _ (root : List ℕ) (position : Position) (trees : Forest) where
   behind = after_trees (attributes_len trees) trees
 
   call_there : (it : Call) → item_at root position trees ≡ calls it → IsCallThere root trees it
-  call_there it is = by (begins_condition position trees) is
+  call_there it is = at position.is_verbatim is
     where
       judged : (bare : Call) (statement : Bool) → item_in root behind ≡ calls bare
           → cond statement (calls (with_attributes (attributes_len trees) bare)) other ≡ calls it → IsCallThere root trees it
@@ -110,7 +110,7 @@ module _ (root : List ℕ) (position : Position) (trees : Forest) where
 
       found : (item : Item) → item_in root behind ≡ item → item_behind position (attributes_len trees) behind item ≡ calls it → IsCallThere root trees it
       found (defines d) shape e = absurd (cc e)
-      found (calls bare) shape e = judged bare (is_statement bare.delimiter.kind (after_trees bare.len behind) position) shape e
+      found (calls bare) shape e = judged bare (is_statement (attributes_len trees) bare.delimiter.kind (after_trees bare.len behind) position) shape e
       found other shape e = absurd (cc e)
 
       by : (begins : Bool) → cond begins (item_behind position (attributes_len trees) behind (item_in root behind)) (item_in root trees) ≡ calls it
@@ -118,13 +118,19 @@ module _ (root : List ℕ) (position : Position) (trees : Forest) where
       by true e = found (item_in root behind) refl e
       by false e = by_itself root trees it e
 
+      at : (verbatim : Bool)
+          → cond verbatim other (cond (begins_condition position trees) (item_behind position (attributes_len trees) behind (item_in root behind)) (item_in root trees)) ≡ calls it
+          → IsCallThere root trees it
+      at true e = absurd (cc e)
+      at false e = by (begins_condition position trees) e
+
   -- A call at a position is one after its attributes.
   pub call_at : (it : Call) → item_at root position trees ≡ calls it → IsCallBehind root trees it
   call_at it is = (call_there it is).behind
 
   -- A definition at a position has no attributes.
   pub definition_at : (it : Definition) → item_at root position trees ≡ defines it → item_in root trees ≡ defines it
-  definition_at it is = by (begins_condition position trees) is
+  definition_at it is = at position.is_verbatim is
     where
       judged : (bare : Call) (statement : Bool) → cond statement (calls (with_attributes (attributes_len trees) bare)) other ≡ defines it → ⊥
       judged bare true e = cc e
@@ -132,13 +138,19 @@ module _ (root : List ℕ) (position : Position) (trees : Forest) where
 
       none : (item : Item) → item_behind position (attributes_len trees) behind item ≡ defines it → ⊥
       none (defines d) e = cc e
-      none (calls bare) e = judged bare (is_statement bare.delimiter.kind (after_trees bare.len behind) position) e
+      none (calls bare) e = judged bare (is_statement (attributes_len trees) bare.delimiter.kind (after_trees bare.len behind) position) e
       none other e = cc e
 
       by : (begins : Bool) → cond begins (item_behind position (attributes_len trees) behind (item_in root behind)) (item_in root trees) ≡ defines it
           → item_in root trees ≡ defines it
       by true e = absurd (none (item_in root behind) e)
       by false e = e
+
+      at : (verbatim : Bool)
+          → cond verbatim other (cond (begins_condition position trees) (item_behind position (attributes_len trees) behind (item_in root behind)) (item_in root trees)) ≡ defines it
+          → item_in root trees ≡ defines it
+      at true e = absurd (cc e)
+      at false e = by (begins_condition position trees) e
 
   -- Attributes before a call end with a subtree, if there are any.
   pub attributes_closed : (it : Call) → item_at root position trees ≡ calls it

@@ -2,8 +2,11 @@ pub mod Adding
 pub mod PartRows
 pub mod PartsSoFar
 pub mod Lengths
+pub mod ManyTrees
 pub mod OneSize
 pub mod Rows
+pub mod EnclosureRows
+pub mod Blocks
 pub mod Shapes
 pub mod Beginnings
 pub mod Attributes

@@ -91,28 +91,38 @@ raw_defines_nothing : item_in (codes "crate") (raw_word (codes "macro_rules") (b
 raw_defines_nothing = refl
 
 -- Among statements `m!();` and `m!{} a` are statements; `m!() + ..` is none, and a call in parentheses is none.
-statement_ends : is_statement Parenthesis (alone 59 end) (begun Statements) ≡ true
+statement_ends : is_statement 0 Parenthesis (alone 59 end) (begun Statements) ≡ true
 statement_ends = refl
 
-statement_in_braces : is_statement Brace (word (codes "a") end) (begun Statements) ≡ true
+statement_in_braces : is_statement 0 Brace (word (codes "a") end) (begun Statements) ≡ true
 statement_in_braces = refl
 
-operand_is_none : is_statement Parenthesis (alone 43 end) (begun Statements) ≡ false
+operand_is_none : is_statement 0 Parenthesis (alone 43 end) (begun Statements) ≡ false
 operand_is_none = refl
 
-argument_is_none : is_statement Parenthesis end (begun Others) ≡ false
+argument_is_none : is_statement 0 Parenthesis end (begun Others) ≡ false
 argument_is_none = refl
 
 -- What `{}` after `#[macro_use] mod n` defines stays in scope, and what `{}` after `mod n` defines does not.
-used : keeps_macros Brace
+used : keeps_macros Brace end
     (behind_leaf (ident (codes "n")) end
     (behind_leaf (ident (codes "mod")) end
     (behind_subtree Bracket (behind_leaf (punct 35 Alone) (subtree Bracket (word (codes "macro_use") end)) (begun Statements)))))
     ≡ true
 used = refl
 
-not_used : keeps_macros Brace (behind_leaf (ident (codes "n")) end (behind_leaf (ident (codes "mod")) end (begun Statements))) ≡ false
+not_used : keeps_macros Brace (word (codes "a") end) (behind_leaf (ident (codes "n")) end (behind_leaf (ident (codes "mod")) end (begun Statements))) ≡ false
 not_used = refl
+
+-- What `{#![a] #![macro_use]}` defines does too, and what `{#[macro_use]}` defines does not.
+abbrev inner : List ℕ → Forest → Forest
+inner text rest = alone 35 (bang (join (subtree Bracket (word text end)) rest))
+
+used_inside : keeps_macros Brace (inner (codes "a") (inner (codes "macro_use") end)) (begun Items) ≡ true
+used_inside = refl
+
+not_used_inside : keeps_macros Brace (attribute (codes "macro_use") end) (begun Items) ≡ false
+not_used_inside = refl
 
 -- after a word
 abbrev behind_word : List ℕ → Position → Position
@@ -170,10 +180,10 @@ later_semicolon : takes_semicolon Parenthesis (alone 59 end) (behind_word (codes
 later_semicolon = refl
 
 -- `m!();` among items expands to items, and `m!() + ..` among statements expands to neither.
-items_come : siblings_of_call Parenthesis (alone 59 end) (begun Items) ≡ Items
+items_come : siblings_of_call 0 Parenthesis (alone 59 end) (begun Items) ≡ Items
 items_come = refl
 
-operands_come : siblings_of_call Parenthesis (alone 43 end) (begun Statements) ≡ Others
+operands_come : siblings_of_call 0 Parenthesis (alone 43 end) (begun Statements) ≡ Others
 operands_come = refl
 
 -- after `#` and a word in brackets, before the trees in them
@@ -208,7 +218,7 @@ not_open : (behind_attribute (codes "inline") (begun Items)).is_open ≡ false
 not_open = refl
 
 -- After `#![a]` a statement may still begin.
-inner_attribute : is_statement Parenthesis (alone 59 end)
+inner_attribute : is_statement 0 Parenthesis (alone 59 end)
     (behind_subtree Bracket (behind_leaf (punct 33 Alone) end (behind_leaf (punct 35 Alone) (alone 33 end) (begun Statements))))
     ≡ true
 inner_attribute = refl

@@ -6,7 +6,7 @@ use Rattle.tt.specs.Moves.{after_tree}
 use Rattle.tt.specs.Types.Leaf.{Leaf}
 use Rattle.tt.specs.Types.Leaf.TheVariants as leaf_of
 use Rattle.expand_items.specs.Items.{Call, Item, defines, calls, other, item_in}
-use Rattle.expand_items.specs.Positions.{is_at_attribute_of, is_bracket, is_statement}
+use Rattle.expand_items.specs.Positions.{is_at_attribute_of, is_at_brackets, is_bracket, is_statement}
 use Rattle.expand_items.specs.declared.position.Position.{Position}
 use Rattle.mbe_pattern.specs.Units.{is_at_punct}
 
@@ -19,12 +19,6 @@ abbrev pub is_attribute_sign : Leaf → Bool
 is_attribute_sign (leaf_of.Literal it) = false
 is_attribute_sign (leaf_of.Punct it) = it.char == 35
 is_attribute_sign (leaf_of.Ident it) = false
-
--- brackets come first
-abbrev pub is_at_brackets : Forest → Bool
-is_at_brackets end = false
-is_at_brackets (leaf it rest) = false
-is_at_brackets (node delimiter children rest) = is_bracket delimiter.kind
 
 -- an attribute comes first: `#` and brackets
 abbrev pub is_at_attribute : Forest → Bool
@@ -74,12 +68,14 @@ with_attributes len it = record it { attributes = len; len = len + it.len }
 abbrev pub item_behind : Position → (attributes : ℕ) → (trees : Forest) → Item → Item
 item_behind position attributes trees (defines it) = other
 item_behind position attributes trees (calls it) =
-    if is_statement it.delimiter.kind (after_trees it.len trees) position then calls (with_attributes attributes it) else other
+    if is_statement attributes it.delimiter.kind (after_trees it.len trees) position then calls (with_attributes attributes it) else other
 item_behind position attributes trees other = other
 
--- what comes first at a position: a call under a condition contains the attributes from the first condition on
+-- what comes first at a position: nothing in the brackets that an attribute gets; a call under a condition contains the attributes from the
+-- first condition on
 abbrev pub item_at : (root : List ℕ) → Position → Forest → Item
 item_at root position trees =
-    if begins_condition position trees
+    if position.is_verbatim then other
+    else (if begins_condition position trees
     then item_behind position (attributes_len trees) (after_trees (attributes_len trees) trees) (item_in root (after_trees (attributes_len trees) trees))
-    else item_in root trees
+    else item_in root trees)

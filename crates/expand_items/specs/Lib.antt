@@ -3,5 +3,7 @@ pub mod Parts
 pub mod Spreads
 -- What comes among siblings, as far as macros need it.
 pub mod Attributes
+pub mod Expressions
+pub mod Fronts
 pub mod Items
 pub mod Positions

@@ -1,6 +1,8 @@
 -- The position of a tree among its siblings, as far as it matters to the tree.
-use Rattle.std.specs.Prelude.{ℕ, ◌==◌, ◌&&◌, ◌||◌, not, Bool, true, false, List, codes, bytes_eq, if◌then◌else◌}
+use Rattle.std.specs.Prelude.{ℕ, ◌==◌, ◌&&◌, ◌||◌, not, nat_lt, Bool, true, false, List, codes, bytes_eq, if◌then◌else◌}
 use Rattle.tt.specs.Forest.{Forest, end, leaf, node}
+use Rattle.tt.specs.Gluing.{after_trees}
+use Rattle.tt.specs.Moves.{after_tree}
 use Rattle.tt.specs.Siblings.{is_end}
 use Rattle.tt.specs.Types.DelimiterKind.{DelimiterKind}
 use Rattle.tt.specs.Types.DelimiterKind.TheVariants as delimited
@@ -9,11 +11,16 @@ use Rattle.tt.specs.Types.IdentIsRaw.{IdentIsRaw}
 use Rattle.tt.specs.Types.IdentIsRaw.TheVariants as raw
 use Rattle.tt.specs.Types.Leaf.{Leaf}
 use Rattle.tt.specs.Types.Leaf.TheVariants as leaf_of
+use Rattle.expand_items.specs.declared.expression.Enclosure.{Enclosure}
+use Rattle.expand_items.specs.declared.expression.Enclosure.TheVariants as enclosed
+use Rattle.expand_items.specs.declared.front.Front.TheVariants as front
 use Rattle.expand_items.specs.declared.position.Head.{Head}
 use Rattle.expand_items.specs.declared.position.Head.TheVariants as head
 use Rattle.expand_items.specs.declared.position.Position.{Position}
 use Rattle.expand_items.specs.declared.position.Siblings.{Siblings}
 use Rattle.expand_items.specs.declared.position.Siblings.TheVariants as siblings
+use Rattle.expand_items.specs.Expressions.{enclosure_at_start, goes_on, may_end}
+use Rattle.expand_items.specs.Fronts.{front_behind, front_of_expansion, is_at_start, is_free}
 use Rattle.mbe_pattern.specs.Units.{is_at_word, is_brace, is_at_punct}
 use Rattle.mbe_pattern.specs.Spelling.{is_parenthesis}
 
@@ -57,6 +64,12 @@ is_bracket delimited.Bracket = true
 is_bracket delimited.Invisible = false
 is_bracket delimited.InvisibleOpaque = false
 
+-- square brackets come first
+abbrev pub is_at_brackets : Forest → Bool
+is_at_brackets end = false
+is_at_brackets (leaf it rest) = false
+is_at_brackets (node delimiter children rest) = is_bracket delimiter.kind
+
 -- brackets that begin with a word
 abbrev pub is_attribute_of : (word : List ℕ) → DelimiterKind → (inside : Forest) → Bool
 is_attribute_of word kind inside = is_bracket kind && is_at_word word inside
@@ -79,6 +92,10 @@ begun its =
       is_attribute = false;
       is_under = false;
       is_open = false;
+      is_top = true;
+      is_in_attribute = false;
+      is_verbatim = false;
+      front = front.Free;
     }
 
 -- what the trees in brackets of a kind are, and the position before the first of them: all are under a condition that is in force before them
@@ -86,7 +103,14 @@ abbrev pub siblings_in : DelimiterKind → Position → Siblings
 siblings_in kind it = if is_brace kind then held_by it.head else siblings.Others
 
 abbrev pub first_in : DelimiterKind → Position → Position
-first_in kind it = record (begun (siblings_in kind it)) { is_under = it.is_open; is_open = it.is_open }
+first_in kind it =
+    record (begun (siblings_in kind it)) {
+      is_under = it.is_open;
+      is_open = it.is_open;
+      is_top = false;
+      is_in_attribute = it.is_attribute && is_bracket kind;
+      is_verbatim = it.is_verbatim || it.is_in_attribute;
+    }
 
 -- the position after trees that end a statement or an item if `ends`
 abbrev pub behind : (ends : Bool) → Position → Position
@@ -100,6 +124,10 @@ behind ends it =
       is_attribute = false;
       is_under = it.is_under;
       is_open = if ends then it.is_under else it.is_open;
+      is_top = it.is_top;
+      is_in_attribute = it.is_in_attribute;
+      is_verbatim = it.is_verbatim;
+      front = front.Bound;
     }
 
 -- after `#`, before these trees: it begins an attribute
@@ -125,12 +153,18 @@ head_behind_ident raw.Yes word it = it
 -- after an ident, which leaves `#[macro_use]` in force
 abbrev pub behind_ident : Ident → Position → Position
 behind_ident ident it =
-    record it { is_start = false; head = head_behind_ident ident.is_raw ident.sym it.head; is_conditional = false; is_attribute = false }
+    record it {
+      is_start = false;
+      head = head_behind_ident ident.is_raw ident.sym it.head;
+      is_conditional = false;
+      is_attribute = false;
+      front = front.Bound;
+    }
 
 -- after a leaf, before these trees
 abbrev pub behind_leaf : Leaf → Forest → Position → Position
 behind_leaf (leaf_of.Literal literal) trees it = behind false it
-behind_leaf (leaf_of.Punct punct) trees it = behind_punct punct.char trees it
+behind_leaf (leaf_of.Punct punct) trees it = record (behind_punct punct.char trees it) { front = front_behind punct it.front }
 behind_leaf (leaf_of.Ident ident) trees it = behind_ident ident it
 
 -- after a subtree of a kind: an attribute changes nothing, parentheses leave
@@ -139,18 +173,54 @@ abbrev pub behind_subtree : DelimiterKind → Position → Position
 behind_subtree kind it =
     if it.is_attribute then record it { is_attribute = false } else record (behind (is_brace kind) it) { is_used = it.is_used && is_parenthesis kind }
 
--- what a subtree of a kind defines stays in scope after it: in braces under `#[macro_use]`
-abbrev pub keeps_macros : DelimiterKind → Position → Bool
-keeps_macros kind it = it.is_used && (not it.is_attribute && is_brace kind)
+-- an inner attribute comes first: `#`, `!` and brackets
+abbrev pub is_at_inner : Forest → Bool
+is_at_inner trees = is_at_punct (codes "#") trees && (is_at_punct (codes "!") (after_tree trees) && is_at_brackets (after_trees 2 trees))
 
--- a call whose subtree is of a kind is a statement or an item, if these trees follow it: it begins at the start of one, and ends one
-abbrev pub is_statement : DelimiterKind → (behind : Forest) → Position → Bool
-is_statement kind behind it = it.is_start && (is_brace kind || (is_end behind || is_at_punct (codes ";") behind))
+-- one of the inner attributes that come first begins with a word
+abbrev pub begins_with_attribute : (word : List ℕ) → Forest → Bool
+begins_with_attribute word end = false
+begins_with_attribute word (node delimiter children rest) = false
+begins_with_attribute word (leaf it end) = false
+begins_with_attribute word (leaf it (node delimiter children rest)) = false
+begins_with_attribute word (leaf it (leaf next end)) = false
+begins_with_attribute word (leaf it (leaf next (leaf third rest))) = false
+begins_with_attribute word (leaf it (leaf next (node delimiter children rest))) =
+    if is_at_inner (leaf it (leaf next (node delimiter children rest)))
+    then is_attribute_of word delimiter.kind children || begins_with_attribute word rest else false
+
+-- what a subtree of a kind defines stays in scope after it: in braces under `#[macro_use]`, or that begin with `#![macro_use]`
+abbrev pub keeps_macros : DelimiterKind → (children : Forest) → Position → Bool
+keeps_macros kind children it =
+    is_brace kind && (not it.is_attribute && (it.is_used || begins_with_attribute (codes "macro_use") children))
+
+-- a call with so many trees of attributes and a subtree of a kind ends a statement or an item before these trees: at the end, without
+-- attributes, one in parentheses or brackets does so only among items or at the end of an expansion
+abbrev pub ends_statement : (attributes : ℕ) → DelimiterKind → (behind : Forest) → Position → Bool
+ends_statement attributes kind behind it =
+    if is_end behind then is_brace kind || (is_items it.siblings || (it.is_top || nat_lt 0 attributes))
+    else is_at_punct (codes ";") behind || (is_brace kind && not (goes_on behind))
+
+-- a call is a statement or an item, if these trees follow it: it begins at the start of one, and ends one
+abbrev pub is_statement : (attributes : ℕ) → DelimiterKind → (behind : Forest) → Position → Bool
+is_statement attributes kind behind it = it.is_start && ends_statement attributes kind behind it
 
 -- the `;` after a call is a part of it: among items, because no `;` may come alone there
 abbrev pub takes_semicolon : DelimiterKind → (behind : Forest) → Position → Bool
 takes_semicolon kind behind it = is_items it.siblings && (it.is_start && (not (is_brace kind) && is_at_punct (codes ";") behind))
 
 -- what the trees that a call expands to are: its siblings, if it is a statement or an item
-abbrev pub siblings_of_call : DelimiterKind → (behind : Forest) → Position → Siblings
-siblings_of_call kind behind it = if is_statement kind behind it then it.siblings else siblings.Others
+abbrev pub siblings_of_call : (attributes : ℕ) → DelimiterKind → (behind : Forest) → Position → Siblings
+siblings_of_call attributes kind behind it = if is_statement attributes kind behind it then it.siblings else siblings.Others
+
+-- the position before the first of these trees
+abbrev pub first_of_call : (attributes : ℕ) → DelimiterKind → (behind : Forest) → Position → Position
+first_of_call attributes kind behind it =
+    record (begun (siblings_of_call attributes kind behind it)) { front = front_of_expansion it.is_start it.front }
+
+-- how the expansion of a call is enclosed: a statement or an item is bare, and so is an expression that is whole between its neighbours
+abbrev pub enclosure : (attributes : ℕ) → DelimiterKind → (behind expansion : Forest) → Position → Enclosure
+enclosure attributes kind behind expansion it =
+    if is_statement attributes kind behind it then enclosed.Bare
+    else (if is_at_start it.is_start it.front then enclosure_at_start behind expansion
+    else (if may_end behind && is_free it.front then enclosed.Bare else enclosed.Opaque))

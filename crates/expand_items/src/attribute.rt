@@ -2,8 +2,9 @@
 ghost use Rattle.std.specs.Prelude.{◌≡◌, ◌+◌, ◌<◌, ◌^◌};
 ghost use Rattle.tt.specs.Forest.{size};
 ghost use Rattle.tt.specs.Iters.{rest_of};
-ghost use Rattle.expand_items.specs.Attributes.{attributes_len, is_at_attribute, is_at_brackets, is_at_condition, item_at, item_behind, with_attributes};
+ghost use Rattle.expand_items.specs.Attributes.{attributes_len, is_at_attribute, is_at_condition, item_at, item_behind, with_attributes};
 ghost use Rattle.expand_items.specs.Items.{call_of, item_in, item_meant};
+ghost use Rattle.expand_items.specs.Positions.{begins_with_attribute, is_at_brackets, is_at_inner};
 
 use crate::item::{Call, Item, item_in};
 use crate::position::{Position, is_at_attribute_of};
@@ -31,6 +32,27 @@ pub fn is_attribute(mut trees: TtIter<'_>) -> bool
         Some(TtElement::Leaf(Leaf::Punct(punct))) => punct.char == '#' && is_at_brackets(trees),
         _ => false,
     }
+}
+
+// Returns whether an inner attribute, `#![..]`, comes first.
+fn is_at_inner(mut trees: TtIter<'_>) -> bool
+    ensures { result ≡ is_at_inner (rest_of trees.entry) }
+{
+    trees.expect_char('#').is_ok() && trees.expect_char('!').is_ok() && is_at_brackets(trees)
+}
+
+/// Returns whether one of the inner attributes that come first begins with a word.
+pub(crate) fn begins_with_attribute(word: &str, mut trees: TtIter<'_>) -> bool
+    ensures { result ≡ begins_with_attribute word.now (rest_of trees.entry) }
+{
+    while is_at_inner(trees.remaining().iter()) {
+        pass(&mut trees, ATTRIBUTE_LEN);
+        if is_at_attribute_of(word, trees.remaining().iter()) {
+            return true;
+        }
+        pass(&mut trees, 1);
+    }
+    false
 }
 
 /// Returns the number of trees of the attributes that come first.
@@ -77,7 +99,7 @@ fn item_behind<'a>(
     match item_in(trees.remaining().iter(), root) {
         Item::Call(call) => {
             pass(&mut trees, call.len);
-            if position.is_statement(call.header.delimiter.kind, trees) {
+            if position.is_statement(attributes, call.header.delimiter.kind, trees) {
                 Item::Call(with_attributes(attributes, call))
             } else {
                 Item::Other
@@ -87,10 +109,14 @@ fn item_behind<'a>(
     }
 }
 
-/// Returns what comes first at a position: a call under a condition contains the attributes from the first condition on.
+/// Returns what comes first at a position: a call under a condition contains the attributes from the first condition on. What an attribute
+/// gets in brackets contains no call and no definition.
 pub fn item_at<'a>(position: Position, mut trees: TtIter<'a>, root: &str) -> Item<'a>
     ensures { item_meant result ≡ item_at root.now position (rest_of trees.entry) }
 {
+    if position.is_verbatim() {
+        return Item::Other;
+    }
     if !position.begins_condition(trees.remaining().iter()) {
         return item_in(trees, root);
     }

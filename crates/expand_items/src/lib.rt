@@ -2,7 +2,8 @@
 //! `#[cfg(..)]` they are under.
 //!
 //! A `Position` says what the siblings are (items, statements or neither), whether one may begin at the next tree, what the words since its
-//! beginning say of the braces that follow, and which attributes are in force. `item_in` returns what is first there: a definition, a
+//! beginning say of the braces that follow, which attributes are in force, and how the expansion of a call there is enclosed (`Enclosure`,
+//! by its neighbours: `Front` and `expression`). `item_in` returns what is first there: a definition, a
 //! call or something else, with its number of trees; `item_at` takes the attributes from the first condition on together with a
 //! call. `parts` splits trees into items or statements by `reach` of `mbe_grammar`, and `put_under` adds them to a builder with the
 //! conditions before each part but the first.
@@ -11,12 +12,15 @@
 #![tactic(auto)]
 
 mod attribute;
+mod expression;
+mod front;
 mod item;
 mod part;
 mod position;
 mod spread;
 
 pub use attribute::{attributes_len, is_attribute, is_condition, item_at};
+pub use expression::{Enclosure, without_semicolon};
 pub use item::{Call, Definition, Item, definition_in, item_in};
 pub use part::{Part, parts};
 pub use position::{Position, Siblings};

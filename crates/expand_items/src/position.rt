@@ -1,10 +1,12 @@
 //! The position of a tree among its siblings, as far as it matters to the tree.
 ghost use Rattle.std.specs.Prelude.{◌≡◌, true};
 ghost use Rattle.tt.specs.Iters.{rest_of};
-ghost use Rattle.expand_items.specs.Positions.{is_block, head_behind, held_by, is_attribute_of, is_at_attribute_of, begun, siblings_in, first_in, behind, behind_attribute_sign, behind_punct, behind_ident, behind_leaf, behind_subtree, keeps_macros, is_statement, takes_semicolon, siblings_of_call};
+ghost use Rattle.expand_items.specs.Positions.{is_block, head_behind, held_by, is_attribute_of, is_at_attribute_of, begun, siblings_in, first_in, behind, behind_attribute_sign, behind_punct, behind_ident, behind_leaf, behind_subtree, keeps_macros, ends_statement, is_statement, takes_semicolon, siblings_of_call, first_of_call, enclosure};
 ghost use Rattle.expand_items.specs.Attributes.{begins_condition};
 
-use crate::attribute::is_condition;
+use crate::attribute::{begins_with_attribute, is_condition};
+use crate::expression::{Enclosure, enclosure_at_start, goes_on, may_end};
+use crate::front::Front;
 use mbe_pattern::{is_at_punct, is_at_word};
 use tt::{DelimiterKind, Ident, IdentIsRaw, Leaf, TtElement, TtIter};
 
@@ -50,6 +52,14 @@ pub struct Position {
     is_under: bool,
     /// Whether a condition is in force here: all siblings are under one, or one precedes the statement or the item that has begun.
     is_open: bool,
+    /// Whether no brackets contain the siblings.
+    is_top: bool,
+    /// Whether the brackets of an attribute contain the siblings.
+    is_in_attribute: bool,
+    /// Whether brackets in those of an attribute do: the attribute gets their tokens as they are.
+    is_verbatim: bool,
+    /// What precedes the tree.
+    front: Front,
 }
 
 impl Siblings {
@@ -124,6 +134,10 @@ impl Position {
             is_attribute: false,
             is_under: false,
             is_open: false,
+            is_top: true,
+            is_in_attribute: false,
+            is_verbatim: false,
+            front: Front::Free,
         }
     }
 
@@ -145,6 +159,9 @@ impl Position {
         Position {
             is_under: self.is_open,
             is_open: self.is_open,
+            is_top: false,
+            is_in_attribute: self.is_attribute && kind == DelimiterKind::Bracket,
+            is_verbatim: self.is_verbatim || self.is_in_attribute,
             ..Position::begun(self.siblings_in(kind))
         }
     }
@@ -162,6 +179,10 @@ impl Position {
             is_attribute: false,
             is_under: self.is_under,
             is_open: if ends { self.is_under } else { self.is_open },
+            is_top: self.is_top,
+            is_in_attribute: self.is_in_attribute,
+            is_verbatim: self.is_verbatim,
+            front: Front::Bound,
         }
     }
 
@@ -205,6 +226,7 @@ impl Position {
             head,
             is_conditional: false,
             is_attribute: false,
+            front: Front::Bound,
             ..self
         }
     }
@@ -215,7 +237,10 @@ impl Position {
     {
         match leaf {
             Leaf::Literal(_) => self.behind(false),
-            Leaf::Punct(punct) => self.behind_punct(punct.char, trees),
+            Leaf::Punct(punct) => Position {
+                front: self.front.behind_punct(punct),
+                ..self.behind_punct(punct.char, trees)
+            },
             Leaf::Ident(ident) => self.behind_ident(ident),
         }
     }
@@ -244,19 +269,48 @@ impl Position {
         self.is_open
     }
 
-    /// Returns whether what a subtree of a kind defines stays in scope after it.
-    pub fn keeps_macros(self, kind: DelimiterKind) -> bool
-        ensures { result ≡ keeps_macros kind self }
+    // Returns whether brackets in those of an attribute contain the siblings.
+    pub(crate) fn is_verbatim(self) -> bool
+        ensures { result ≡ self.is_verbatim }
     {
-        self.is_used && !self.is_attribute && kind == DelimiterKind::Brace
+        self.is_verbatim
     }
 
-    /// Returns whether a call whose subtree is of a kind is a statement or an item, if these trees follow it.
-    pub fn is_statement(self, kind: DelimiterKind, behind: TtIter<'_>) -> bool
-        ensures { result ≡ is_statement kind (rest_of behind.entry) self }
+    /// Returns what the siblings are.
+    pub fn siblings(self) -> Siblings
+        ensures { result ≡ self.siblings }
     {
-        self.is_start
-            && (kind == DelimiterKind::Brace || behind.is_empty() || is_at_punct(behind, ';'))
+        self.siblings
+    }
+
+    /// Returns whether what a subtree of a kind with these children defines stays in scope after it: under `#[macro_use]`, or if it begins
+    /// with `#![macro_use]`.
+    pub fn keeps_macros(self, kind: DelimiterKind, children: TtIter<'_>) -> bool
+        ensures { result ≡ keeps_macros kind (rest_of children.entry) self }
+    {
+        kind == DelimiterKind::Brace
+            && !self.is_attribute
+            && (self.is_used || begins_with_attribute("macro_use", children))
+    }
+
+    // Returns whether a call with so many trees of attributes and a subtree of a kind ends a statement or an item before these trees.
+    fn ends_statement(self, attributes: usize, kind: DelimiterKind, behind: TtIter<'_>) -> bool
+        ensures { result ≡ ends_statement attributes kind (rest_of behind.entry) self }
+    {
+        let is_braced = kind == DelimiterKind::Brace;
+        if behind.is_empty() {
+            return is_braced || self.siblings == Siblings::Items || self.is_top || attributes > 0;
+        }
+        is_at_punct(behind.remaining().iter(), ';') || is_braced && !goes_on(behind)
+    }
+
+    /// Returns whether a call is a statement or an item: it has so many trees of attributes and a subtree of a kind, and these trees
+    /// follow it. Without attributes, a call in parentheses or brackets at the end of a block is an expression, unless an expansion
+    /// ends there.
+    pub fn is_statement(self, attributes: usize, kind: DelimiterKind, behind: TtIter<'_>) -> bool
+        ensures { result ≡ is_statement attributes kind (rest_of behind.entry) self }
+    {
+        self.is_start && self.ends_statement(attributes, kind, behind)
     }
 
     /// Returns whether the `;` after such a call is a part of it: it is among items, because no `;` may come alone there.
@@ -269,14 +323,55 @@ impl Position {
             && is_at_punct(behind, ';')
     }
 
-    /// Returns what the trees that such a call expands to are.
-    pub fn siblings_of_call(self, kind: DelimiterKind, behind: TtIter<'_>) -> Siblings
-        ensures { result ≡ siblings_of_call kind (rest_of behind.entry) self }
+    // Returns what the trees that a call expands to are.
+    fn siblings_of_call(
+        self,
+        attributes: usize,
+        kind: DelimiterKind,
+        behind: TtIter<'_>,
+    ) -> Siblings
+        ensures { result ≡ siblings_of_call attributes kind (rest_of behind.entry) self }
     {
-        if self.is_statement(kind, behind) {
+        if self.is_statement(attributes, kind, behind) {
             self.siblings
         } else {
             Siblings::Others
+        }
+    }
+
+    /// Returns the position before the first of the trees that such a call expands to.
+    pub fn first_of_call(
+        self,
+        attributes: usize,
+        kind: DelimiterKind,
+        behind: TtIter<'_>,
+    ) -> Position
+        ensures { result ≡ first_of_call attributes kind (rest_of behind.entry) self }
+    {
+        Position {
+            front: self.front.of_expansion(self.is_start),
+            ..Position::begun(self.siblings_of_call(attributes, kind, behind))
+        }
+    }
+
+    /// Returns how such a call's expansion, these trees, is enclosed.
+    pub fn enclosure(
+        self,
+        attributes: usize,
+        kind: DelimiterKind,
+        behind: TtIter<'_>,
+        expansion: TtIter<'_>,
+    ) -> Enclosure
+        ensures { result ≡ enclosure attributes kind (rest_of behind.entry) (rest_of expansion.entry) self }
+    {
+        if self.is_statement(attributes, kind, behind.remaining().iter()) {
+            Enclosure::Bare
+        } else if self.front.is_at_start(self.is_start) {
+            enclosure_at_start(behind, expansion)
+        } else if may_end(behind) && self.front == Front::Free {
+            Enclosure::Bare
+        } else {
+            Enclosure::Opaque
         }
     }
 

@@ -11,7 +11,7 @@ use Rattle.expand_text.specs.declared.fault.MacroFault.{MacroFault}
 use Rattle.expand_text.specs.CallSites.{PutAs, IsKept}
 use Rattle.expand_text.specs.Contexts.{Config, Context, with_finding}
 use Rattle.expand_text.specs.Macros.{IsRead, IsCallFault, MayBePut, called_by, arms_of, found_of, context_behind}
-use Rattle.expand_text.specs.Meaning.{ExpandsTo, ends, on_leaf, on_node, on_definition, on_other_call, into_other_call, into_attributes, on_faulty_call, on_call, on_kept_call, IsPlain, plain_behind, context_after, behind_call, rest_in, behind_in, begun_by, site_in, begin_in, becomes_in, stays_in}
+use Rattle.expand_text.specs.Meaning.{ExpandsTo, ends, on_leaf, on_node, on_definition, on_other_call, into_other_call, into_attributes, on_faulty_call, on_call, on_kept_call, IsPlain, plain_behind, context_after, behind_call, rest_in, behind_in, begun_by, site_in, begin_in, becomes_in, stays_in, body_in}
 use Rattle.expand_text.specs.Outcomes.{Outcome, nothing, passes, enters, stays, trees_left}
 use Rattle.expand_text.specs.Scopes.{Macro}
 use Rattle.mbe_pattern.specs.Units.{front_trees, is_brace}
@@ -39,11 +39,12 @@ plain_first config context position zero trees (inr (inr is)) = by context.is_ov
 -- At the end nothing comes first.
 pub end_first : (config : Config) (context : Context) (position : Position) (plain : ℕ) → first_item config context position plain end ≡ other
 end_first config context position (suc plain) = refl
-end_first config context position zero = plain_first config context position zero end (inr (inr (by (begins_condition position end))))
+end_first config context position zero = plain_first config context position zero end (inr (inr (by position.is_verbatim (begins_condition position end))))
   where
-    by : (b : Bool) → cond b (item_behind position (attributes_len end) (after_trees (attributes_len end) end) (item_in config.root (after_trees (attributes_len end) end))) (item_in config.root end) ≡ other
-    by true = refl
-    by false = refl
+    by : (verbatim b : Bool) → cond verbatim other (cond b (item_behind position (attributes_len end) (after_trees (attributes_len end) end) (item_in config.root (after_trees (attributes_len end) end))) (item_in config.root end)) ≡ other
+    by true b = refl
+    by false true = refl
+    by false false = refl
 
 -- Otherwise it is the item at the position.
 pub item_first : (config : Config) (context : Context) (position : Position) (trees : Forest) (item : Item) → context.is_over ≡ false → item_at config.root position trees ≡ item
@@ -59,7 +60,7 @@ module _ (config : Config) (in_text : Bool) (limit : ℕ) (position : Position) 
   GoesPlain plain (node delimiter children rest) =
       (inside : Context) × (held : Outcome) × (others : Outcome)
       × ExpandsTo config in_text limit (first_in delimiter.kind position) 0 context children inside held
-      × ExpandsTo config in_text limit (behind_subtree delimiter.kind position) (plain - 1) (context_after (keeps_macros delimiter.kind position) context inside) rest after others
+      × ExpandsTo config in_text limit (behind_subtree delimiter.kind position) (plain - 1) (context_after (keeps_macros delimiter.kind children position) context inside) rest after others
       × (outcome ≡ enters delimiter held others)
 
   -- a definition is read
@@ -86,17 +87,17 @@ module _ (config : Config) (in_text : Bool) (limit : ℕ) (position : Position) 
       × (outcome ≡ stays (front_trees it.len trees) others)
 
   -- a call with that expansion is replaced
-  abbrev pub Changes : (left : ℕ) → Call → Forest → (inside : Context) → (held : Outcome) → Type 0
-  Changes left it trees inside held =
-      (put : Forest) × (others : Outcome) × PutAs (site_in position it trees) (trees_left held) (Some put) × MayBePut in_text it.delimiter put
+  abbrev pub Changes : (left : ℕ) → Call → Forest → Root → (inside : Context) → (held : Outcome) → Type 0
+  Changes left it trees tree inside held =
+      (put : Forest) × (others : Outcome) × PutAs (site_in position it trees tree) (trees_left held) (Some put) × MayBePut in_text it.delimiter put
       × ExpandsTo config in_text (suc left) (behind_in position it trees) 0 inside (rest_in position it trees) after others
       × (outcome ≡ becomes_in position it trees put others)
 
   -- a call with that expansion stays
-  abbrev pub Stays : (left : ℕ) → Call → Forest → (inside : Context) → (held : Outcome) → Type 0
-  Stays left it trees inside held =
+  abbrev pub Stays : (left : ℕ) → Call → Forest → Root → (inside : Context) → (held : Outcome) → Type 0
+  Stays left it trees tree inside held =
       (macro : Macro) × (at : ℕ) × (fault : MacroFault) × (others : Outcome) × (called_by config context.macros it ≡ Some macro)
-      × IsKept in_text (site_in position it trees) (trees_left held) (start_of (begin_in it trees).range) at fault
+      × IsKept in_text (site_in position it trees tree) (trees_left held) (start_of (begin_in it trees).range) at fault
       × ExpandsTo config in_text (suc left) (behind_in position it trees) 0 (with_finding (found_of it macro at fault) inside) (rest_in position it trees) after others
       × (outcome ≡ stays_in position it trees others)
 
@@ -105,8 +106,8 @@ module _ (config : Config) (in_text : Bool) (limit : ℕ) (position : Position) 
   Tries zero arms it trees = ⊥
   Tries (suc left) arms it trees =
       (tree : Root) × (inside : Context) × (held : Outcome) × IsExpansion arms 0 0 it.input (expansion.Tree tree)
-      × ExpandsTo config false left (begun_by position it trees) 0 context tree.children inside held
-      × (Changes left it trees inside held ⊎ Stays left it trees inside held)
+      × ExpandsTo config false left (begun_by position it trees) 0 context (body_in position it trees tree) inside held
+      × (Changes left it trees tree inside held ⊎ Stays left it trees tree inside held)
 
   -- a call
   abbrev pub Calls : Option (List Arm) → Call → Forest → Type 0

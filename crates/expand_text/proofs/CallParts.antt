@@ -1,11 +1,11 @@
 -- The parts of a call: its attributes, what follows them, and what follows the call.
 use Rattle.std.proofs.Common.{◌≡◌, ◌+◌, ℕ, zero, suc, Bool, true, false, List, refl, ap, ap₂, sym, subst, ◌∙◌, arith, cond}
-use Rattle.tt.specs.Forest.{Forest, end, leaf, node, join}
+use Rattle.tt.specs.Forest.{Forest, Root, end, leaf, node, join}
 use Rattle.tt.specs.Gluing.{after_trees}
 use Rattle.tt.specs.Moves.{after_tree}
 use Rattle.tt_base.proofs.Joins.{join-assoc}
 use Rattle.syntax_edit.specs.Places.{begin_at}
-use Rattle.expand_text.proofs.ManyTrees.{after_both, after_more}
+use Rattle.expand_items.proofs.ManyTrees.{after_both, after_more}
 use Rattle.expand_text.specs.CallSites.{CallSite}
 use Rattle.expand_text.specs.Meaning.{attributes_in, begin_in, behind_call, end_in, len_in, rest_in, site_in, takes_in, whole_in}
 use Rattle.expand_items.proofs.Conditions.{IsCallBehind, call_at}
@@ -13,6 +13,7 @@ use Rattle.expand_items.proofs.Shapes.{EndsClosed, by_subtree, by_semicolon, cal
 use Rattle.expand_items.specs.Attributes.{item_at, with_attributes}
 use Rattle.expand_items.specs.Items.{Call, calls}
 use Rattle.expand_items.specs.Positions.{takes_semicolon}
+use Rattle.expand_items.specs.declared.expression.Enclosure.{Enclosure}
 use Rattle.expand_items.specs.declared.position.Position.{Position}
 use Rattle.expand_items.specs.declared.position.Siblings.{Siblings}
 use Rattle.mbe_pattern.proofs.Passing.{front_joined, after_end}
@@ -70,18 +71,19 @@ module _ (position : Position) (it : Call) (trees : Forest) where
   pub split_in : trees ≡ join (whole_in position it trees) (rest_in position it trees)
   split_in = front_joined (len_in position it trees) trees ∙ ap (join (whole_in position it trees)) (sym rest_behind)
 
-  -- the place of a call that has these trees, is a statement or not, and has these siblings
-  abbrev site_made : Forest → (is_statement : Bool) → Siblings → CallSite
-  site_made whole is_statement siblings =
-      record { attributes = front_trees it.attributes whole; len = it.attributes; is_statement = is_statement; siblings = siblings; delimiter = it.delimiter }
+  -- the place of a call that has these trees, this enclosure, and these siblings
+  abbrev site_made : Forest → Enclosure → Siblings → CallSite
+  site_made whole enclosure siblings =
+      record { attributes = front_trees it.attributes whole; len = it.attributes; enclosure = enclosure; siblings = siblings; delimiter = it.delimiter }
 
   -- If these values are those of the call, this is the place of the call.
-  pub site_same : (whole : Forest) (is_statement : Bool) (siblings : Siblings) → whole ≡ whole_in position it trees → is_statement ≡ (site_in position it trees).is_statement
-      → siblings ≡ (site_in position it trees).siblings → site_made whole is_statement siblings ≡ site_in position it trees
-  site_same whole is_statement siblings all one among =
-      let site = site_in position it trees in
-      ap (λ f. site_made f is_statement siblings) all ∙ ap (λ b. site_made (whole_in position it trees) b siblings) one
-      ∙ ap (λ s. site_made (whole_in position it trees) site.is_statement s) among
+  pub site_same : (tree : Root) (whole : Forest) (enclosure : Enclosure) (siblings : Siblings) → whole ≡ whole_in position it trees
+      → enclosure ≡ (site_in position it trees tree).enclosure → siblings ≡ (site_in position it trees tree).siblings
+      → site_made whole enclosure siblings ≡ site_in position it trees tree
+  site_same tree whole enclosure siblings all one among =
+      let site = site_in position it trees tree in
+      ap (λ f. site_made f enclosure siblings) all ∙ ap (λ e. site_made (whole_in position it trees) e siblings) one
+      ∙ ap (λ s. site_made (whole_in position it trees) site.enclosure s) among
 
 -- A call with attributes is the call alone after them.
 module _ (position : Position) (attributes : ℕ) (bare : Call) (trees : Forest) where

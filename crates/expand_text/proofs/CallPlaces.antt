@@ -16,7 +16,7 @@ use Rattle.syntax_edit.specs.Laid.{Lies, Laid, lies_end, lies_leaf, lies_node}
 use Rattle.expand_items.proofs.Shapes.{call_ends}
 use Rattle.syntax_edit.proofs.LaidFacts.{laid_behind, laid_order, laid_past, starts_before}
 use Rattle.expand_text.proofs.CallParts.{alone, begin_alone, end_alone, rest_alone}
-use Rattle.expand_text.proofs.ManyTrees.{after_more}
+use Rattle.expand_items.proofs.ManyTrees.{after_more}
 use Rattle.expand_items.proofs.Conditions.{IsCallBehind}
 use Rattle.expand_items.specs.Attributes.{item_at}
 use Rattle.mbe_pattern.proofs.Passing.{after_end}

@@ -12,8 +12,7 @@ use Rattle.expand_text.specs.Meaning.{ExpandsTo}
 use Rattle.expand_text.specs.Expanding.{IsPutOrKept}
 use Rattle.expand_text.specs.Contexts.{Config, Context}
 use Rattle.expand_text.specs.Outcomes.{Outcome, nothing, passes, enters, stays, becomes, trees_left}
-use Rattle.expand_items.specs.Positions.{begun as begun_among}
-use Rattle.expand_items.specs.declared.position.Siblings.{Siblings}
+use Rattle.expand_items.specs.declared.position.Position.{Position}
 use Rattle.expand_text.specs.declared.walk.Invocation.{Invocation}
 use Rattle.expand_text.specs.Walks.{Level, begun, Ends, Leads, GoesPast, site_of, first_leaf, first_subtree, first_stay, first_becomes, closes_of}
 
@@ -59,21 +58,21 @@ module _ (close : Span) (closes : List Span) (others : Outcome) (outer : List Ou
 
 -- Whatever the rest expands to, the expansion of the trees is built once that is: what is
 -- known, the levels, and what is built, at first and now.
-pub record IsGoing (config : Config) (limit : ℕ) (siblings : Siblings) (trees : Forest) (before : Context) (old : Stack) (levels : List Level) (now : Context) (stack : Stack) : Type 0 where
+pub record IsGoing (config : Config) (limit : ℕ) (position : Position) (trees : Forest) (before : Context) (old : Stack) (levels : List Level) (now : Context) (stack : Stack) : Type 0 where
   pub finishes : (after : Context) (outcomes : List Outcome) → Ends config false limit levels now after outcomes
-      → (outcome : Outcome) × ExpandsTo config false limit (begun_among siblings) 0 before trees after outcome × (finished (closes_of levels) outcomes stack ≡ append (trees_left outcome) old)
+      → (outcome : Outcome) × ExpandsTo config false limit position 0 before trees after outcome × (finished (closes_of levels) outcomes stack ≡ append (trees_left outcome) old)
 
-module _ (config : Config) (limit : ℕ) (siblings : Siblings) (trees : Forest) (before now others : Context) (old stack : Stack) (level next : Level) (outer nexts : List Level)
-    (going : IsGoing config limit siblings trees before old (level ∷ outer) now stack) where
+module _ (config : Config) (limit : ℕ) (position : Position) (trees : Forest) (before now others : Context) (old stack : Stack) (level next : Level) (outer nexts : List Level)
+    (going : IsGoing config limit position trees before old (level ∷ outer) now stack) where
   -- The walk goes on if something more is built in the innermost level.
   pub goes_on : (grown : List Outcome → List Outcome) (built : Stack) → Leads config false limit (level ∷ outer) now grown (next ∷ nexts) others
       → closes_of (next ∷ nexts) ≡ closes_of (level ∷ outer)
       → ((first : Outcome) (more : List Outcome) → finished (closes_of (level ∷ outer)) (grown (first ∷ more)) stack ≡ finished (closes_of (level ∷ outer)) (first ∷ more) built)
-      → IsGoing config limit siblings trees before old (next ∷ nexts) others built
+      → IsGoing config limit position trees before old (next ∷ nexts) others built
   goes_on grown built leads closes same = record { finishes = by }
     where
       by : (after : Context) (outcomes : List Outcome) → Ends config false limit (next ∷ nexts) others after outcomes
-          → (outcome : Outcome) × ExpandsTo config false limit (begun_among siblings) 0 before trees after outcome × (finished (closes_of (next ∷ nexts)) outcomes built ≡ append (trees_left outcome) old)
+          → (outcome : Outcome) × ExpandsTo config false limit position 0 before trees after outcome × (finished (closes_of (next ∷ nexts)) outcomes built ≡ append (trees_left outcome) old)
       by after [] e = absurd e
       by after (first ∷ more) e =
           let (outcome, expands_to, is) = going.finishes after (grown (first ∷ more)) (leads after (first ∷ more) e) in
@@ -81,23 +80,23 @@ module _ (config : Config) (limit : ℕ) (siblings : Siblings) (trees : Forest) 
 
   -- The walk goes on if the expansion of a call takes its place, or the call stays.
   pub goes_past : (it : Invocation) (held : Forest) (inside : Context) (built : Stack) → GoesPast config false limit (level ∷ outer) now it held (next ∷ nexts) inside
-      → IsPutOrKept it held inside others stack built → closes_of (next ∷ nexts) ≡ closes_of (level ∷ outer) → IsGoing config limit siblings trees before old (next ∷ nexts) others built
-  goes_past it held inside built past (inl (put, so, context, is)) closes = subst (IsGoing config limit siblings trees before old (next ∷ nexts) others) (sym is)
+      → IsPutOrKept it held inside others stack built → closes_of (next ∷ nexts) ≡ closes_of (level ∷ outer) → IsGoing config limit position trees before old (next ∷ nexts) others built
+  goes_past it held inside built past (inl (put, so, context, is)) closes = subst (IsGoing config limit position trees before old (next ∷ nexts) others) (sym is)
       (goes_on (first_becomes (site_of it).attributes it.first_span it.last_span put) (append put (append (site_of it).attributes stack))
       (subst (Leads config false limit (level ∷ outer) now (first_becomes (site_of it).attributes it.first_span it.last_span put) (next ∷ nexts)) (sym context) (past.puts put so tt)) closes
       (λ first more. finished_becomes level.close (closes_of outer) first more stack (site_of it).attributes it.first_span it.last_span put))
-  goes_past it held inside built past (inr (fault, misplaced, context, is)) closes = subst (IsGoing config limit siblings trees before old (next ∷ nexts) others) (sym is)
+  goes_past it held inside built past (inr (fault, misplaced, context, is)) closes = subst (IsGoing config limit position trees before old (next ∷ nexts) others) (sym is)
       (goes_on (first_stay (trees_of it.whole)) (append (trees_of it.whole) stack)
       (subst (Leads config false limit (level ∷ outer) now (first_stay (trees_of it.whole)) (next ∷ nexts)) (sym context) (past.stays (start_of it.first_span.range) fault (inl (misplaced, refl)))) closes
       (λ first more. finished_stay level.close (closes_of outer) first more stack (trees_of it.whole)))
 
   -- The walk goes on in a subtree.
   pub goes_into : (it : Delimiter) → Leads config false limit (level ∷ outer) now (first_subtree it) (next ∷ nexts) others → closes_of (next ∷ nexts) ≡ it.close ∷ closes_of (level ∷ outer)
-      → IsGoing config limit siblings trees before old (next ∷ nexts) others (above stack it.kind it.open_span end)
+      → IsGoing config limit position trees before old (next ∷ nexts) others (above stack it.kind it.open_span end)
   goes_into it leads closes = record { finishes = by }
     where
       by : (after : Context) (outcomes : List Outcome) → Ends config false limit (next ∷ nexts) others after outcomes
-          → (outcome : Outcome) × ExpandsTo config false limit (begun_among siblings) 0 before trees after outcome
+          → (outcome : Outcome) × ExpandsTo config false limit position 0 before trees after outcome
           × (finished (closes_of (next ∷ nexts)) outcomes (above stack it.kind it.open_span end) ≡ append (trees_left outcome) old)
       by after [] e = absurd e
       by after (held ∷ []) e = absurd (none after held (leads after (held ∷ []) e))
@@ -114,11 +113,11 @@ module _ (config : Config) (limit : ℕ) (siblings : Siblings) (trees : Forest) 
 
   -- The walk goes on after a subtree.
   pub goes_out : (close : Span) → Leads config false limit (level ∷ outer) now (λ outcomes. nothing ∷ outcomes) (next ∷ nexts) others → close ∷ closes_of (next ∷ nexts) ≡ closes_of (level ∷ outer)
-      → IsGoing config limit siblings trees before old (next ∷ nexts) others (close_innermost close stack)
+      → IsGoing config limit position trees before old (next ∷ nexts) others (close_innermost close stack)
   goes_out close leads closes = record { finishes = by }
     where
       by : (after : Context) (outcomes : List Outcome) → Ends config false limit (next ∷ nexts) others after outcomes
-          → (outcome : Outcome) × ExpandsTo config false limit (begun_among siblings) 0 before trees after outcome
+          → (outcome : Outcome) × ExpandsTo config false limit position 0 before trees after outcome
           × (finished (closes_of (next ∷ nexts)) outcomes (close_innermost close stack) ≡ append (trees_left outcome) old)
       by after [] e = absurd e
       by after (first ∷ more) e =
@@ -129,21 +128,21 @@ module _ (config : Config) (limit : ℕ) (siblings : Siblings) (trees : Forest) 
           )
 
 -- Nothing is built yet.
-pub begins : (config : Config) (limit : ℕ) (siblings : Siblings) (trees : Forest) (before : Context) (old : Stack) (close : Span)
-    → IsGoing config limit siblings trees before old (begun siblings trees close ∷ []) before old
-begins config limit siblings trees before old close = record { finishes = by }
+pub begins : (config : Config) (limit : ℕ) (position : Position) (trees : Forest) (before : Context) (old : Stack) (close : Span)
+    → IsGoing config limit position trees before old (begun position trees close ∷ []) before old
+begins config limit position trees before old close = record { finishes = by }
   where
-    by : (after : Context) (outcomes : List Outcome) → Ends config false limit (begun siblings trees close ∷ []) before after outcomes
-        → (outcome : Outcome) × ExpandsTo config false limit (begun_among siblings) 0 before trees after outcome × (finished (close ∷ []) outcomes old ≡ append (trees_left outcome) old)
+    by : (after : Context) (outcomes : List Outcome) → Ends config false limit (begun position trees close ∷ []) before after outcomes
+        → (outcome : Outcome) × ExpandsTo config false limit position 0 before trees after outcome × (finished (close ∷ []) outcomes old ≡ append (trees_left outcome) old)
     by after [] e = absurd e
-    by after (it ∷ []) (inside, expands_to, e) = (it, subst (λ k. ExpandsTo config false limit (begun_among siblings) 0 before trees k it) e expands_to, refl)
+    by after (it ∷ []) (inside, expands_to, e) = (it, subst (λ k. ExpandsTo config false limit position 0 before trees k it) e expands_to, refl)
     by after (it ∷ other ∷ more) (inside, expands_to, e) = absurd e
 
 -- All is built.
-pub ends_so : (config : Config) (limit : ℕ) (siblings : Siblings) (trees : Forest) (before now after : Context) (old stack : Stack) (level : Level) (outer : List Level)
-    → IsGoing config limit siblings trees before old (level ∷ outer) now stack → Ends config false limit (level ∷ outer) now after (nothing ∷ [])
-    → (outcome : Outcome) × ExpandsTo config false limit (begun_among siblings) 0 before trees after outcome × (stack ≡ append (trees_left outcome) old)
-ends_so config limit siblings trees before now after old stack level [] going e =
+pub ends_so : (config : Config) (limit : ℕ) (position : Position) (trees : Forest) (before now after : Context) (old stack : Stack) (level : Level) (outer : List Level)
+    → IsGoing config limit position trees before old (level ∷ outer) now stack → Ends config false limit (level ∷ outer) now after (nothing ∷ [])
+    → (outcome : Outcome) × ExpandsTo config false limit position 0 before trees after outcome × (stack ≡ append (trees_left outcome) old)
+ends_so config limit position trees before now after old stack level [] going e =
     let (outcome, expands_to, is) = going.finishes after (nothing ∷ []) e in
     (outcome, expands_to, sym (append-end stack) ∙ is)
-ends_so config limit siblings trees before now after old stack level (next ∷ outer) going (inside, expands_to, e) = absurd e
+ends_so config limit position trees before now after old stack level (next ∷ outer) going (inside, expands_to, e) = absurd e

@@ -44,8 +44,8 @@ pub keep_before : {config : Config} {in_text : Bool} {limit plain : ℕ} {positi
     → ExpandsTo config in_text limit position plain context trees after outcome → KeepLimits after.findings → KeepLimits context.findings
 keep_before ends keep = keep
 keep_before (on_leaf plain others) keep = keep_before others keep
-keep_before (on_node {position = position} {context = context} {inside = inside} {delimiter = delimiter} plain held others) keep =
-    keep_before held (keep_inside (keeps_macros delimiter.kind position) context inside (keep_before others keep))
+keep_before (on_node {position = position} {context = context} {inside = inside} {delimiter = delimiter} {children = children} plain held others) keep =
+    keep_before held (keep_inside (keeps_macros delimiter.kind children position) context inside (keep_before others keep))
 keep_before {config = config} (on_definition {position = position} {context = context} {it = it} inside going is read others) keep = keep_read config position.is_open it context inside read (keep_before others keep)
 keep_before {config = config} (on_other_call {context = context} {it = it} going is bare unexpanded not_into others) keep =
     keep_behind it (called_by config context.macros it) context (keep_before others keep)

@@ -12,7 +12,7 @@ use Rattle.expand_text.specs.Scopes.{Macro}
 use Rattle.expand_text.specs.declared.walk.Event.{Event}
 use Rattle.expand_text.specs.declared.walk.Event.TheVariants as event
 use Rattle.expand_text.specs.Calling.{IsFaulty}
-use Rattle.expand_text.specs.Meaning.{IsPlain, ExpandsTo, ends, on_leaf, on_node, on_definition, on_other_call, into_other_call, into_attributes, on_faulty_call, on_call, on_kept_call, attributes_in, begin_in, begun_by, behind_in, end_in, rest_in, site_in, whole_in, context_after}
+use Rattle.expand_text.specs.Meaning.{IsPlain, ExpandsTo, ends, on_leaf, on_node, on_definition, on_other_call, into_other_call, into_attributes, on_faulty_call, on_call, on_kept_call, attributes_in, begin_in, begun_by, behind_in, end_in, rest_in, site_in, whole_in, context_after, body_in}
 use Rattle.expand_items.specs.Attributes.{item_at}
 use Rattle.expand_items.specs.Items.{Definition, Call, defines, calls}
 use Rattle.expand_text.specs.Contexts.{Config, Context, with_finding, left_in_scope}
@@ -41,14 +41,14 @@ module _ (config : Config) (in_text : Bool) (limit : ℕ) (level : Level) (outer
   -- Enters a subtree.
   pub leads_subtree : (delimiter : Delimiter) (children : Forest) → level.rest ≡ node delimiter children (after_tree level.rest) → IsPlain config context level.position level.plain level.rest
       → Leads config in_text limit (level ∷ outer) context (first_subtree delimiter)
-      (inside delimiter children level.position (kept_behind (keeps_macros delimiter.kind level.position) (length context.macros)) ∷ past_subtree delimiter.kind level ∷ outer) context
+      (inside delimiter children level.position (kept_behind (keeps_macros delimiter.kind children level.position) (length context.macros)) ∷ past_subtree delimiter.kind level ∷ outer) context
   leads_subtree delimiter children begins plain after [] e = absurd e
   leads_subtree delimiter children begins plain after (held ∷ []) (within, expands_to, e) = absurd e
   leads_subtree delimiter children begins plain after (held ∷ others ∷ more) (within, expands_to, (behind, then, rest)) = (
     behind,
     subst (λ f. ExpandsTo config in_text limit level.position level.plain context f behind (enters delimiter held others)) (sym begins)
         (on_node (subst (IsPlain config context level.position level.plain) begins plain) expands_to
-        (subst (λ k. ExpandsTo config in_text limit (behind_subtree delimiter.kind level.position) (level.plain - 1) k (after_tree level.rest) behind others) (same (keeps_macros delimiter.kind level.position)) then)),
+        (subst (λ k. ExpandsTo config in_text limit (behind_subtree delimiter.kind level.position) (level.plain - 1) k (after_tree level.rest) behind others) (same (keeps_macros delimiter.kind children level.position)) then)),
     rest,
   )
     where
@@ -127,9 +127,9 @@ module _ (config : Config) (in_text : Bool) (limit : ℕ) (level : Level) (outer
 module _ (config : Config) (in_text : Bool) (left : ℕ) (level : Level) (outer : List Level) (context : Context) (first : level.plain ≡ 0) (goes_on : context.is_over ≡ false) (it : Call)
     (macro : Macro) (arms : List Arm) (tree : Root) (there : item_at config.root level.position level.rest ≡ calls it) (called : called_by config context.macros it ≡ Some macro)
     (expands : macro.arms ≡ Some arms) (makes : IsExpansion arms 0 0 it.input (expansion.Tree tree)) (within : Context) (held : Outcome)
-    (expands_to : ExpandsTo config false left (begun_by level.position it level.rest) 0 context tree.children within held) where
+    (expands_to : ExpandsTo config false left (begun_by level.position it level.rest) 0 context (body_in level.position it level.rest tree) within held) where
   -- The expansion takes the place of the call.
-  pub leads_call : (put : Forest) → PutAs (site_in level.position it level.rest) (trees_left held) (Some put) → MayBePut in_text it.delimiter put
+  pub leads_call : (put : Forest) → PutAs (site_in level.position it level.rest tree) (trees_left held) (Some put) → MayBePut in_text it.delimiter put
       → Leads config in_text (suc left) (level ∷ outer) context
       (first_becomes (attributes_in level.position it level.rest) (begin_in it level.rest) (end_in level.position it level.rest) put) (past_call it level ∷ outer) within
   leads_call put so may after [] e = absurd e
@@ -143,7 +143,7 @@ module _ (config : Config) (in_text : Bool) (left : ℕ) (level : Level) (outer 
   )
 
   -- The call stays, if the expansion does not fit there or is not written.
-  pub leads_kept : (at : ℕ) (fault : MacroFault) → IsKept in_text (site_in level.position it level.rest) (trees_left held) (start_of (begin_in it level.rest).range) at fault
+  pub leads_kept : (at : ℕ) (fault : MacroFault) → IsKept in_text (site_in level.position it level.rest tree) (trees_left held) (start_of (begin_in it level.rest).range) at fault
       → Leads config in_text (suc left) (level ∷ outer) context (first_stay (whole_in level.position it level.rest)) (past_call it level ∷ outer) (with_finding (found_of it macro at fault) within)
   leads_kept at fault kept after [] e = absurd e
   leads_kept at fault kept after (others ∷ more) (beyond, then, behind) = (

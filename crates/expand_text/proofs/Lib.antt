@@ -9,7 +9,6 @@ pub mod KeptLimits
 pub mod Leading
 pub mod LinkRows
 pub mod Linking
-pub mod ManyTrees
 pub mod NoneLeft
 pub mod Nth
 pub mod OneExpansion

@@ -46,8 +46,8 @@ none_before : {config : Config} {in_text : Bool} {limit plain : ℕ} {position :
     → ExpandsTo config in_text limit position plain context trees after outcome → after.findings ≡ [] → context.findings ≡ []
 none_before ends none = none
 none_before (on_leaf plain others) none = none_before others none
-none_before (on_node {position = position} {context = context} {inside = inside} {delimiter = delimiter} plain held others) none =
-    none_before held (inside_none (keeps_macros delimiter.kind position) context inside (none_before others none))
+none_before (on_node {position = position} {context = context} {inside = inside} {delimiter = delimiter} {children = children} plain held others) none =
+    none_before held (inside_none (keeps_macros delimiter.kind children position) context inside (none_before others none))
 none_before {config = config} (on_definition {position = position} {context = context} {it = it} inside going is read others) none = (read_none config position.is_open it context inside read (none_before others none)).0
 none_before {config = config} (on_other_call {context = context} {it = it} going is bare unexpanded not_into others) none =
     (behind_none it (called_by config context.macros it) context (none_before others none)).1
@@ -65,8 +65,8 @@ pub none_left : {config : Config} {in_text : Bool} {limit plain : ℕ} {position
     → (it : ExpandsTo config in_text limit position plain context trees after outcome) → context.is_over ≡ false → after.findings ≡ [] → NoneIsLeft it × (after.is_over ≡ false)
 none_left ends goes none = (tt, goes)
 none_left (on_leaf plain others) goes none = let it = none_left others goes none in ((goes, it.0), it.1)
-none_left (on_node {position = position} {context = context} {inside = inside} {delimiter = delimiter} plain held others) goes none =
-    let are_kept = keeps_macros delimiter.kind position in
+none_left (on_node {position = position} {context = context} {inside = inside} {delimiter = delimiter} {children = children} plain held others) goes none =
+    let are_kept = keeps_macros delimiter.kind children position in
     let within = none_left held goes (inside_none are_kept context inside (none_before others none)) in
     let it = none_left others (inside_goes are_kept context inside within.1) none in
     ((goes, within.0, it.0), it.1)

@@ -6,7 +6,7 @@ use Rattle.tt.specs.Moves.{after_tree}
 use Rattle.tt.specs.Siblings.{is_end}
 use Rattle.tt.specs.Types.Delimiter.{Delimiter}
 use Rattle.mbe_pattern.specs.Patterns.{Pattern}
-use Rattle.mbe_pattern.specs.Spelling.{pattern_of}
+use Rattle.mbe_pattern.specs.Placed.{pattern_of}
 use Rattle.mbe_rules.specs.Spelling.{template_of}
 use Rattle.mbe_rules.specs.Templates.{Template}
 use Rattle.mbe_rules.specs.declared.rules_error.ArmFault.{ArmFault}

@@ -10,7 +10,7 @@ use Rattle.expand_text.specs.CallSites.{PutAs, IsKept}
 use Rattle.expand_text.specs.Contexts.{Config, Context, with_finding}
 use Rattle.expand_text.specs.Limits.{names_limit, KeepLimits}
 use Rattle.expand_text.specs.Macros.{IsCallFault, MayBePut, called_by, arms_of, found_of}
-use Rattle.expand_text.specs.Meaning.{ExpandsTo, ends, on_leaf, on_node, on_definition, on_other_call, into_other_call, into_attributes, on_faulty_call, on_call, on_kept_call, context_after, begun_by, site_in, begin_in, becomes_in, stays_in}
+use Rattle.expand_text.specs.Meaning.{ExpandsTo, ends, on_leaf, on_node, on_definition, on_other_call, into_other_call, into_attributes, on_faulty_call, on_call, on_kept_call, context_after, begun_by, site_in, begin_in, becomes_in, stays_in, body_in}
 use Rattle.expand_text.specs.Outcomes.{Outcome, passes, enters, stays, trees_left}
 use Rattle.expand_text.specs.Scopes.{Macro}
 use Rattle.expand_text.proofs.Beginning.{plain_first, end_first, item_first, Leaves, IsWrong, Changes, Stays, Tries, goes_out, begins_by, begins_call}
@@ -58,28 +58,28 @@ module _ (config : Config) (in_text : Bool) (position : Position) (context after
       absurd (no_fault arms it tree so.1 so.2 makes so.5 (keep_first context.findings (found_of it so.0 so.1 so.2) (keep_before so.6 keep)).1)
   tries_only left tree makes keep (inr so) = so
 
-  module _ (limit left : ℕ) (inside : Context) (held : Outcome) where
+  module _ (limit left : ℕ) (tree : Root) (inside : Context) (held : Outcome) where
     -- The findings of the expansion of a call name no limit.
     keep_held : KeepLimits after.findings
-        → Changes config in_text limit position context after outcome left it trees inside held ⊎ Stays config in_text limit position context after outcome left it trees inside held
+        → Changes config in_text limit position context after outcome left it trees tree inside held ⊎ Stays config in_text limit position context after outcome left it trees tree inside held
         → KeepLimits inside.findings
     keep_held keep (inl so) = keep_before so.4 keep
     keep_held keep (inr so) = (keep_first inside.findings (found_of it so.0 so.1 so.2) (keep_before so.6 keep)).0
 
     -- A call that may be replaced is.
-    changes_only : (put : Forest) → PutAs (site_in position it trees) (trees_left held) (Some put) → MayBePut in_text it.delimiter put → KeepLimits after.findings
-        → Changes config in_text limit position context after outcome left it trees inside held ⊎ Stays config in_text limit position context after outcome left it trees inside held
-        → Changes config in_text limit position context after outcome left it trees inside held
+    changes_only : (put : Forest) → PutAs (site_in position it trees tree) (trees_left held) (Some put) → MayBePut in_text it.delimiter put → KeepLimits after.findings
+        → Changes config in_text limit position context after outcome left it trees tree inside held ⊎ Stays config in_text limit position context after outcome left it trees tree inside held
+        → Changes config in_text limit position context after outcome left it trees tree inside held
     changes_only put fits may keep (inl so) = so
     changes_only put fits may keep (inr so) =
-        absurd (never_kept (site_in position it trees) (trees_left held) in_text put (start_of (begin_in it trees).range) so.1 so.2 so.5 fits may
+        absurd (never_kept (site_in position it trees tree) (trees_left held) in_text put (start_of (begin_in it trees).range) so.1 so.2 so.5 fits may
         (keep_first inside.findings (found_of it so.0 so.1 so.2) (keep_before so.6 keep)).1)
 
     -- A call that has a reason to stay does.
-    stays_only : (at : ℕ) (fault : MacroFault) → IsKept in_text (site_in position it trees) (trees_left held) (start_of (begin_in it trees).range) at fault → names_limit fault ≡ false
-        → Changes config in_text limit position context after outcome left it trees inside held ⊎ Stays config in_text limit position context after outcome left it trees inside held
-        → Stays config in_text limit position context after outcome left it trees inside held
-    stays_only at fault kept free (inl so) = absurd (never_kept (site_in position it trees) (trees_left held) in_text so.0 (start_of (begin_in it trees).range) at fault kept so.2 so.3 free)
+    stays_only : (at : ℕ) (fault : MacroFault) → IsKept in_text (site_in position it trees tree) (trees_left held) (start_of (begin_in it trees).range) at fault → names_limit fault ≡ false
+        → Changes config in_text limit position context after outcome left it trees tree inside held ⊎ Stays config in_text limit position context after outcome left it trees tree inside held
+        → Stays config in_text limit position context after outcome left it trees tree inside held
+    stays_only at fault kept free (inl so) = absurd (never_kept (site_in position it trees tree) (trees_left held) in_text so.0 (start_of (begin_in it trees).range) at fault kept so.2 so.3 free)
     stays_only at fault kept free (inr so) = so
 
 -- Trees expand to one thing, and one thing is known then.
@@ -95,7 +95,7 @@ one_outcome {config = config} (on_leaf {plain = plain} {position = position} {co
     (same.0, ap (passes it) same.1 ∙ sym go.2)
 one_outcome {config = config} (on_node {plain = plain} {position = position} {context = context} {inside = inside} {delimiter = delimiter} {children = children} {rest = rest} is within behind) second x y =
     let go = begins_by second other (plain_first config context position plain (node delimiter children rest) is) in
-    let kept = keeps_macros delimiter.kind position in
+    let kept = keeps_macros delimiter.kind children position in
     let one = one_outcome within go.3 (keep_inside kept context inside (keep_before behind x)) (keep_inside kept context go.0 (keep_before go.4 y)) in
     let same = one_outcome behind (moved (ap (context_after kept context) one.0) go.4) x y in
     (same.0, ap₂ (enters delimiter) one.1 same.1 ∙ sym go.5)
@@ -124,26 +124,28 @@ one_outcome {config = config} {in_text = in_text} {limit = limit} {again = again
 one_outcome {config = config} {in_text = in_text} {again = again} {that = that} (on_call {limit = left} {position = position} {context = context} {inside = inside} {it = it} {arms = arms} {trees = trees} {held = held} tree put going is expands makes within fits may behind) second x y =
     let go = tries_only config in_text position context again that arms it trees left tree makes y (begins_call second it (Some arms) going is expands) in
     let filled = one_tree arms it tree go.0 makes go.3 in
-    let held_there = subst (λ t. ExpandsTo config false left (begun_by position it trees) 0 context t.children go.1 go.2) (sym filled) go.4 in
-    let one = one_outcome within held_there (keep_before behind x) (keep_held config in_text position context again that arms it trees (suc left) left go.1 go.2 y go.5) in
+    let held_there = subst (λ t. ExpandsTo config false left (begun_by position it trees) 0 context (body_in position it trees t) go.1 go.2) (sym filled) go.4 in
+    let one = one_outcome within held_there (keep_before behind x) (keep_held config in_text position context again that arms it trees (suc left) left go.0 go.1 go.2 y go.5) in
     let so =
-    changes_only config in_text position context again that arms it trees (suc left) left inside held put fits may y
-    (subst₂ (λ i h. Changes config in_text (suc left) position context again that left it trees i h ⊎ Stays config in_text (suc left) position context again that left it trees i h) (sym one.0) (sym one.1) go.5) in
-    let both = one_put (site_in position it trees) (trees_left held) (Some put) (Some so.0) fits so.2 in
+    changes_only config in_text position context again that arms it trees (suc left) left tree inside held put fits may y
+    (subst₂ (λ i h. Changes config in_text (suc left) position context again that left it trees tree i h ⊎ Stays config in_text (suc left) position context again that left it trees tree i h) (sym one.0) (sym one.1)
+    (subst (λ t. Changes config in_text (suc left) position context again that left it trees t go.1 go.2 ⊎ Stays config in_text (suc left) position context again that left it trees t go.1 go.2) (sym filled) go.5)) in
+    let both = one_put (site_in position it trees tree) (trees_left held) (Some put) (Some so.0) fits so.2 in
     let placed : put ≡ so.0 = cc both in
     let same = one_outcome behind so.4 x y in
     (same.0, ap₂ (becomes_in position it trees) placed same.1 ∙ sym so.5)
 one_outcome {config = config} {in_text = in_text} {again = again} {that = that} (on_kept_call {limit = left} {position = position} {context = context} {inside = inside} {it = it} {macro = macro} {arms = arms} {trees = trees} {held = held} tree at fault going is called expands makes within kept behind) second x y =
     let go = tries_only config in_text position context again that arms it trees left tree makes y (begins_call second it (Some arms) going is (ap arms_of called ∙ expands)) in
     let filled = one_tree arms it tree go.0 makes go.3 in
-    let held_there = subst (λ t. ExpandsTo config false left (begun_by position it trees) 0 context t.children go.1 go.2) (sym filled) go.4 in
+    let held_there = subst (λ t. ExpandsTo config false left (begun_by position it trees) 0 context (body_in position it trees t) go.1 go.2) (sym filled) go.4 in
     let first = keep_first inside.findings (found_of it macro at fault) (keep_before behind x) in
-    let one = one_outcome within held_there first.0 (keep_held config in_text position context again that arms it trees (suc left) left go.1 go.2 y go.5) in
+    let one = one_outcome within held_there first.0 (keep_held config in_text position context again that arms it trees (suc left) left go.0 go.1 go.2 y go.5) in
     let so =
-    stays_only config in_text position context again that arms it trees (suc left) left inside held at fault kept first.1
-    (subst₂ (λ i h. Changes config in_text (suc left) position context again that left it trees i h ⊎ Stays config in_text (suc left) position context again that left it trees i h) (sym one.0) (sym one.1) go.5) in
+    stays_only config in_text position context again that arms it trees (suc left) left tree inside held at fault kept first.1
+    (subst₂ (λ i h. Changes config in_text (suc left) position context again that left it trees tree i h ⊎ Stays config in_text (suc left) position context again that left it trees tree i h) (sym one.0) (sym one.1)
+    (subst (λ t. Changes config in_text (suc left) position context again that left it trees t go.1 go.2 ⊎ Stays config in_text (suc left) position context again that left it trees t go.1 go.2) (sym filled) go.5)) in
     let none = (keep_first inside.findings (found_of it so.0 so.1 so.2) (keep_before so.6 y)).1 in
-    let reason = one_kept (site_in position it trees) (trees_left held) in_text (start_of (begin_in it trees).range) at so.1 fault so.2 kept so.5 first.1 none in
+    let reason = one_kept (site_in position it trees tree) (trees_left held) in_text (start_of (begin_in it trees).range) at so.1 fault so.2 kept so.5 first.1 none in
     let known = same_found it inside macro so.0 at so.1 fault so.2 (one_called config context it macro so.0 called so.4) reason in
     let same = one_outcome behind (moved known so.6) x y in
     (same.0, ap (stays_in position it trees) same.1 ∙ sym so.7)

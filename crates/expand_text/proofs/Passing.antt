@@ -12,15 +12,14 @@ use Rattle.expand_text.specs.declared.walk.Event.{Event}
 use Rattle.expand_text.specs.declared.walk.Event.TheVariants as event
 use Rattle.expand_text.specs.declared.walk.Walk.{Walk}
 use Rattle.expand_text.specs.Calling.{IsFaulty, IsExpanded}
-use Rattle.expand_text.specs.Meaning.{begin_in, begun_by, end_in, site_in, takes_in, whole_in, ExpandsTo}
+use Rattle.expand_text.specs.Meaning.{begin_in, begun_by, body_in, end_in, site_in, takes_in, whole_in, ExpandsTo}
 use Rattle.expand_items.specs.Items.{Call, calls}
 use Rattle.expand_text.specs.Contexts.{Config, Context, with_finding}
 use Rattle.expand_text.specs.Macros.{MayBePut, called_by, arms_of, found_of, context_behind}
 use Rattle.expand_text.specs.Outcomes.{Outcome, trees_left}
 use Rattle.expand_text.specs.CallSites.{CallSite, PutAs, IsKept}
 use Rattle.expand_text.specs.Passing.{IsStay, IsInvoked}
-use Rattle.expand_items.specs.Positions.{begun as begun_among}
-use Rattle.expand_text.specs.Walks.{Level, level_of, levels_of, past, past_call, first_stay, first_becomes, Leads, GoesPast, found_by, site_of, closes_of, work_in, IsNext, IsFirst, IsAtItem, Steps}
+use Rattle.expand_text.specs.Walks.{body_of, Level, level_of, levels_of, past, past_call, first_stay, first_becomes, Leads, GoesPast, found_by, site_of, closes_of, work_in, IsNext, IsFirst, IsAtItem, Steps}
 use Rattle.expand_text.proofs.Leading.{leads_other, leads_faulty, leads_call, leads_kept}
 use Rattle.expand_items.proofs.Conditions.{call_at_less}
 use Rattle.expand_items.proofs.Lengths.{fewer_behind}
@@ -83,7 +82,7 @@ module _ (config : Config) (in_text : Bool) (limit : ℕ) (old : Walk) (context 
       end = end_in old.level.position it trees
 
       site : CallSite
-      site = site_in old.level.position it trees
+      site = site_in old.level.position it trees tree
 
       nexts : List Level
       nexts = past_call it (level_of old.level) ∷ map level_of (reverse old.outer.items)
@@ -94,15 +93,18 @@ module _ (config : Config) (in_text : Bool) (limit : ℕ) (old : Walk) (context 
           finding : List ℕ → ℕ → Finding
           finding name place = record { name = name; at = at; fault = fault; defined_at = Some place }
 
-      by : (inside : Context) (held : Outcome) → ExpandsTo config false from.left (begun_among i.siblings) 0 others i.tree.children inside held
+      by : (inside : Context) (held : Outcome) → ExpandsTo config false from.left i.position 0 others (body_of i) inside held
           → GoesPast config in_text limit (levels_of old) context i (trees_left held) nexts inside
       by inside held expands_to = record { puts = puts; stays = stays }
         where
-          came : ExpandsTo config false from.left (begun_by old.level.position it trees) 0 context tree.children inside held
+          body : Forest
+          body = body_in old.level.position it trees tree
+
+          came : ExpandsTo config false from.left (begun_by old.level.position it trees) 0 context body inside held
           came =
-              subst (λ k. ExpandsTo config false from.left (begun_by old.level.position it trees) 0 k tree.children inside held) from.context
-              (subst (λ t. ExpandsTo config false from.left (begun_by old.level.position it trees) 0 others t.children inside held) is.makes
-              (subst (λ s. ExpandsTo config false from.left (begun_among s.siblings) 0 others i.tree.children inside held) is.site expands_to))
+              subst (λ k. ExpandsTo config false from.left (begun_by old.level.position it trees) 0 k body inside held) from.context
+              (subst (λ f. ExpandsTo config false from.left (begun_by old.level.position it trees) 0 others f inside held) is.makes
+              (subst (λ p. ExpandsTo config false from.left p 0 others (body_of i) inside held) is.begins expands_to))
 
           puts : (put : Forest) → PutAs (site_of i) (trees_left held) (Some put) → MayBePut in_text i.delimiter put
               → Leads config in_text limit (levels_of old) context (first_becomes (site_of i).attributes i.first_span i.last_span put) nexts inside

@@ -19,8 +19,8 @@ use Rattle.expand_text.specs.CallSites.{CallSite, PutAs, PutUnder, IsTooLarge}
 use Rattle.expand_items.specs.Attributes.{conditions_of}
 
 -- Without attributes, the trees are as they are placed.
-pub free_put : (it : CallSite) (trees : Forest) → it.len ≡ 0 → PutAs it trees (Some (placed it.is_statement it.delimiter trees))
-free_put it trees none = subst (λ n. PutUnder n it trees (Some (placed it.is_statement it.delimiter trees))) (sym none) refl
+pub free_put : (it : CallSite) (trees : Forest) → it.len ≡ 0 → PutAs it trees (Some (placed it.enclosure it.delimiter trees))
+free_put it trees none = subst (λ n. PutUnder n it trees (Some (placed it.enclosure it.delimiter trees))) (sym none) refl
 
 module _ (it : CallSite) (trees : Forest) (some : 0 < it.len) where
   -- With attributes, the trees are under conditions.

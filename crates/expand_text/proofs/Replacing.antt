@@ -15,7 +15,7 @@ use Rattle.expand_text.specs.Outcomes.{Outcome, nothing, trees_left}
 use Rattle.expand_items.specs.Positions.{begun as begun_among}
 use Rattle.expand_items.specs.declared.position.Siblings.TheVariants.{Items}
 use Rattle.syntax_edit.specs.Texts.{Replacement, Writing, finished, with_all, FitAll, IsReplaced, AreReplaced}
-use Rattle.expand_text.specs.Walks.{Level, begun, Ends, Leads, first_leaf, first_subtree, first_stay, first_becomes, GoesPast, found_by, site_of, work_in, IsNext, Steps}
+use Rattle.expand_text.specs.Walks.{Level, body_of, begun, Ends, Leads, first_leaf, first_subtree, first_stay, first_becomes, GoesPast, found_by, site_of, work_in, IsNext, Steps}
 
 -- all replacements of what levels expand to
 abbrev pub all_replacements : List Outcome → List Replacement
@@ -28,10 +28,10 @@ pub record IsReading (config : Config) (limit : ℕ) (trees : Forest) (before : 
       → (outcome : Outcome) × ExpandsTo config true limit (begun_among Items) 0 before trees after outcome × (done ++ all_replacements outcomes ≡ replacements outcome)
 
 -- Nothing is replaced yet.
-pub begins : (config : Config) (limit : ℕ) (trees : Forest) (before : Context) (close : Span) → IsReading config limit trees before (begun Items trees close ∷ []) before []
+pub begins : (config : Config) (limit : ℕ) (trees : Forest) (before : Context) (close : Span) → IsReading config limit trees before (begun (begun_among Items) trees close ∷ []) before []
 begins config limit trees before close = record { finishes = by }
   where
-    by : (after : Context) (outcomes : List Outcome) → Ends config true limit (begun Items trees close ∷ []) before after outcomes
+    by : (after : Context) (outcomes : List Outcome) → Ends config true limit (begun (begun_among Items) trees close ∷ []) before after outcomes
         → (outcome : Outcome) × ExpandsTo config true limit (begun_among Items) 0 before trees after outcome × ([] ++ all_replacements outcomes ≡ replacements outcome)
     by after [] e = absurd e
     by after (it ∷ []) (inside, expands_to, e) = (it, subst (λ k. ExpandsTo config true limit (begun_among Items) 0 before trees k it) e expands_to, append-nil (replacements it))
@@ -128,8 +128,8 @@ module _ (config : Config) (limit : ℕ) (trees : Forest) (before now others the
   reads_event (event.Stays stay) next goes is = same (reads_stay config limit trees before now others level outer nexts done reading (trees_of stay) next) is
   reads_event (event.Invocation it) (left, fits, goes_past) goes is =
       let back : limit - 1 ≡ left = omega (arith, fits) in
-      let expands_to : ExpandsTo config false left (begun_among it.siblings) 0 others it.tree.children is.inside is.outcome =
-      subst (λ n. ExpandsTo config false n (begun_among it.siblings) 0 others it.tree.children is.inside is.outcome) back is.expands_to in
+      let expands_to : ExpandsTo config false left it.position 0 others (body_of it) is.inside is.outcome =
+      subst (λ n. ExpandsTo config false n it.position 0 others (body_of it) is.inside is.outcome) back is.expands_to in
       by (goes_past is.inside is.outcome expands_to) is.put
     where
       by : GoesPast config true limit (level ∷ outer) now it (trees_left is.outcome) nexts is.inside → IsPut it (trees_left is.outcome) is.inside then old new → IsRead

@@ -34,7 +34,7 @@ lacks_behind word (suc n) (node delimiter children rest) lacks = lacks_behind wo
 item_behind_defines : (position : Position) (attributes : ℕ) (trees : Forest) (found : Item) (it : Definition) → item_behind position attributes trees found ≡ defines it → ⊥
 item_behind_defines position attributes trees (defines its) it is = cc is
 item_behind_defines position attributes trees other it is = cc is
-item_behind_defines position attributes trees (calls its) it is = by (is_statement its.delimiter.kind (after_trees its.len trees) position) is
+item_behind_defines position attributes trees (calls its) it is = by (is_statement attributes its.delimiter.kind (after_trees its.len trees) position) is
   where
     by : (b : Bool) → cond b (calls (with_attributes attributes its)) other ≡ defines it → ⊥
     by true is = cc is
@@ -42,7 +42,7 @@ item_behind_defines position attributes trees (calls its) it is = by (is_stateme
 
 -- Without the word there is no definition at all.
 no_definition : (root : List ℕ) (position : Position) (trees : Forest) (it : Definition) → Lacks (codes "macro_rules") trees → item_at root position trees ≡ defines it → ⊥
-no_definition root position trees it lacks is = by (begins_condition position trees) is
+no_definition root position trees it lacks is = at position.is_verbatim is
   where
     none : definition_in trees ≡ None
     none =
@@ -56,6 +56,11 @@ no_definition root position trees it lacks is = by (begins_condition position tr
     by : (b : Bool) → cond b (item_behind position (attributes_len trees) (after_trees (attributes_len trees) trees) (item_in root (after_trees (attributes_len trees) trees))) (item_in root trees) ≡ defines it → ⊥
     by true is = item_behind_defines position (attributes_len trees) (after_trees (attributes_len trees) trees) (item_in root (after_trees (attributes_len trees) trees)) it is
     by false is = from (call_in root trees) (ap (λ d. item_from d (call_in root trees)) (sym none) ∙ is)
+
+    at : (verbatim : Bool)
+        → cond verbatim other (cond (begins_condition position trees) (item_behind position (attributes_len trees) (after_trees (attributes_len trees) trees) (item_in root (after_trees (attributes_len trees) trees))) (item_in root trees)) ≡ defines it → ⊥
+    at true is = cc is
+    at false is = by (begins_condition position trees) is
 
 -- If no macro is in scope, no call names one.
 called_none : (config : Config) (macros : List Macro) (it : Call) → macros ≡ [] → called_by config macros it ≡ None
@@ -78,9 +83,9 @@ comes_quiet : {config : Config} {in_text : Bool} {limit plain : ℕ} {position :
     → ExpandsTo config in_text limit position plain context trees after outcome → context.macros ≡ [] → Lacks (codes "macro_rules") trees → (replacements outcome ≡ []) × (after ≡ context)
 comes_quiet ends none lacks = (refl, refl)
 comes_quiet (on_leaf plain others) none lacks = comes_quiet others none lacks.1
-comes_quiet (on_node {position = position} {context = context} {delimiter = delimiter} plain held others) none lacks =
+comes_quiet (on_node {position = position} {context = context} {delimiter = delimiter} {children = children} plain held others) none lacks =
     let inside = comes_quiet held none lacks.0 in
-    let same = ap (context_after (keeps_macros delimiter.kind position) context) inside.1 ∙ context_same (keeps_macros delimiter.kind position) context in
+    let same = ap (context_after (keeps_macros delimiter.kind children position) context) inside.1 ∙ context_same (keeps_macros delimiter.kind children position) context in
     let behind = comes_quiet others (ap (λ k. k.macros) same ∙ none) lacks.1 in
     (ap₂ (λ a b. a ++ b) inside.0 behind.0, behind.1 ∙ same)
 comes_quiet {config = config} (on_definition {position = position} {it = it} {trees = trees} inside going is read others) none lacks =

@@ -9,20 +9,21 @@ use Rattle.expand_text.specs.declared.fault.MacroFault.TheVariants as wrong
 use Rattle.expand_text.specs.Macros.{IsPastLimit, IsUnwritten, tree_of}
 use Rattle.expand_text.specs.Outcomes.{placed}
 use Rattle.expand_items.specs.Attributes.{conditions_of}
+use Rattle.expand_items.specs.declared.expression.Enclosure.{Enclosure}
 use Rattle.expand_items.specs.declared.position.Siblings.{Siblings}
 
--- the place of a call: the attributes before it and their number of trees (none if it is under no condition); whether it is a statement or
--- an item; its siblings; and its delimiter
+-- the place of a call: the attributes before it and their number of trees (none if it is under no condition); how its expansion is enclosed;
+-- what its expansion is; and its delimiter
 pub record CallSite : Type 0 where
   pub attributes : Forest
   pub len : ℕ
-  pub is_statement : Bool
+  pub enclosure : Enclosure
   pub siblings : Siblings
   pub delimiter : Delimiter
 
 -- an expansion in its place: as it is, or under the conditions of the call, if possible
 abbrev pub PutUnder : (attributes : ℕ) → CallSite → (trees : Forest) → (put : Option Forest) → Type 0
-PutUnder zero it trees put = put ≡ Some (placed it.is_statement it.delimiter trees)
+PutUnder zero it trees put = put ≡ Some (placed it.enclosure it.delimiter trees)
 PutUnder (suc more) it trees put = IsWithinLimits (tree_of it.delimiter trees) × AreUnder it.siblings it.delimiter (conditions_of it.attributes) trees put
 
 abbrev pub PutAs : CallSite → (trees : Forest) → (put : Option Forest) → Type 0

@@ -10,14 +10,13 @@ use Rattle.expand_text.specs.Meaning.{ExpandsTo}
 use Rattle.expand_text.specs.Contexts.{Config, Context, with_finding}
 use Rattle.expand_text.specs.Outcomes.{Outcome, trees_left}
 use Rattle.expand_text.specs.CallSites.{CallSite, PutAs, IsMisplaced}
-use Rattle.expand_text.specs.Walks.{found_by, site_of}
-use Rattle.expand_items.specs.Positions.{begun}
-use Rattle.expand_items.specs.declared.position.Siblings.{Siblings}
+use Rattle.expand_text.specs.Walks.{body_of, found_by, site_of}
+use Rattle.expand_items.specs.declared.position.Position.{Position}
 
--- what sibling trees expand to, with at most so many nested expansions, is added to the innermost level of the builder
-pub record AreExpanded (config : Config) (limit : ℕ) (siblings : Siblings) (trees : Forest) (old new : Stack) (before after : Context) : Type 0 where
+-- what trees from a position on expand to, with at most so many nested expansions, is added to the innermost level of the builder
+pub record AreExpanded (config : Config) (limit : ℕ) (position : Position) (trees : Forest) (old new : Stack) (before after : Context) : Type 0 where
   pub outcome : Outcome
-  pub expands_to : ExpandsTo config false limit (begun siblings) 0 before trees after outcome
+  pub expands_to : ExpandsTo config false limit position 0 before trees after outcome
   pub added : new ≡ append (trees_left outcome) old
 
 -- these trees are added in the place of a call that expands to them; or nothing is added, with the reason why they do not fit there
@@ -28,7 +27,7 @@ IsAdded it trees (Some fault) old new = IsMisplaced it trees fault × (new ≡ o
 -- the expansion of a call is added
 pub record IsPlaced (config : Config) (limit : ℕ) (it : Invocation) (misplaced : Option MacroFault) (old new : Stack) (before after : Context) : Type 0 where
   pub outcome : Outcome
-  pub expands_to : ExpandsTo config false limit (begun it.siblings) 0 before it.tree.children after outcome
+  pub expands_to : ExpandsTo config false limit it.position 0 before (body_of it) after outcome
   pub added : IsAdded (site_of it) (trees_left outcome) misplaced old new
 
 -- these trees are added after a call's attributes, in its place; or all of the call is added, which is found
@@ -42,5 +41,5 @@ IsPutOrKept it trees inside after old new =
 pub record IsPassed (config : Config) (limit : ℕ) (it : Invocation) (old new : Stack) (before after : Context) : Type 0 where
   pub inside : Context
   pub outcome : Outcome
-  pub expands_to : ExpandsTo config false limit (begun it.siblings) 0 before it.tree.children inside outcome
+  pub expands_to : ExpandsTo config false limit it.position 0 before (body_of it) inside outcome
   pub passed : IsPutOrKept it (trees_left outcome) inside after old new

@@ -27,7 +27,7 @@ use Rattle.syntax_edit.specs.Places.{text_part}
 use Rattle.syntax_edit.specs.Texts.{Replacement, Writing, begun, finished, with_all, IsReplaced, AreReplaced, FitAll}
 use Rattle.expand_text.specs.Reading.{sorts_left}
 use Rattle.expand_text.specs.CallSites.{CallSite, PutAs, IsKept}
-use Rattle.expand_text.specs.Walks.{found_by, site_of}
+use Rattle.expand_text.specs.Walks.{body_of, found_by, site_of}
 use Rattle.syntax_parse.specs.Parsed.{IsParse}
 use Rattle.syntax_parse.specs.Refusal.{IsFaultOf, IsRefusal}
 use Rattle.syntax_parse.specs.Spelled.{Sort, spelled}
@@ -60,7 +60,7 @@ IsCallText it trees begin (made.Faulty at fault) = IsKept true it trees begin at
 -- what a call expands to is written as Rust, or cannot be
 pub record IsInvocationText (config : Config) (limit : ℕ) (it : Invocation) (result : Written) (before after : Context) : Type 0 where
   pub outcome : Outcome
-  pub expands_to : ExpandsTo config false limit (begun_among it.siblings) 0 before it.tree.children after outcome
+  pub expands_to : ExpandsTo config false limit it.position 0 before (body_of it) after outcome
   pub text : IsCallText (site_of it) (trees_left outcome) (start_of it.first_span.range) result
 
 -- an expansion replaces its call, if that part of the source is left; or the call stays, and that is found
@@ -75,7 +75,7 @@ IsPut it trees inside after old new =
 pub record IsInvocationWritten (config : Config) (limit : ℕ) (it : Invocation) (old new : Writing) (before after : Context) : Type 0 where
   pub inside : Context
   pub outcome : Outcome
-  pub expands_to : ExpandsTo config false limit (begun_among it.siblings) 0 before it.tree.children inside outcome
+  pub expands_to : ExpandsTo config false limit it.position 0 before (body_of it) inside outcome
   pub put : IsPut it (trees_left outcome) inside after old new
 
 -- nothing is written, and nothing more is known

@@ -16,7 +16,8 @@ use Rattle.expand_items.specs.Items.{Definition, Call, defines, calls, other}
 use Rattle.expand_text.specs.Contexts.{Config, Context, with_finding}
 use Rattle.expand_text.specs.Macros.{IsRead, IsCallFault, MayBePut, called_by, arms_of, found_of, context_behind}
 use Rattle.expand_text.specs.Outcomes.{Outcome, nothing, passes, enters, stays, becomes, trees_left}
-use Rattle.expand_items.specs.Positions.{begun, first_in, behind, behind_leaf, behind_subtree, keeps_macros, is_statement, takes_semicolon, siblings_of_call}
+use Rattle.expand_items.specs.Expressions.{without_semicolon}
+use Rattle.expand_items.specs.Positions.{enclosure, first_in, first_of_call, behind, behind_leaf, behind_subtree, keeps_macros, is_statement, takes_semicolon, siblings_of_call}
 use Rattle.expand_text.specs.Scopes.{Macro}
 use Rattle.expand_text.specs.CallSites.{CallSite, PutAs, IsKept}
 use Rattle.mbe_rules.specs.Arms.{Arm}
@@ -70,7 +71,15 @@ behind_in position it trees =
 
 -- the position before the first of the trees that the call expands to
 abbrev pub begun_by : Position → Call → (trees : Forest) → Position
-begun_by position it trees = begun (siblings_of_call it.delimiter.kind (behind_call it trees) position)
+begun_by position it trees = first_of_call it.attributes it.delimiter.kind (behind_call it trees) position
+
+-- what an arm made of a call: without a `;` at the end, if that is an expression
+abbrev pub body : (is_statement : Bool) → Root → Forest
+body true tree = tree.children
+body false tree = without_semicolon tree.children
+
+abbrev pub body_in : Position → Call → (trees : Forest) → Root → Forest
+body_in position it trees tree = body (is_statement it.attributes it.delimiter.kind (behind_call it trees) position) tree
 
 -- all trees of the call then, and the attributes before it
 abbrev pub whole_in : Position → Call → (trees : Forest) → Forest
@@ -79,14 +88,14 @@ whole_in position it trees = front_trees (len_in position it trees) trees
 abbrev pub attributes_in : Position → Call → (trees : Forest) → Forest
 attributes_in position it trees = front_trees it.attributes (whole_in position it trees)
 
--- the place of the call
-abbrev pub site_in : Position → Call → (trees : Forest) → CallSite
-site_in position it trees =
+-- the place of the call, of which an arm made that tree
+abbrev pub site_in : Position → Call → (trees : Forest) → Root → CallSite
+site_in position it trees tree =
     record {
       attributes = attributes_in position it trees;
       len = it.attributes;
-      is_statement = is_statement it.delimiter.kind (behind_call it trees) position;
-      siblings = siblings_of_call it.delimiter.kind (behind_call it trees) position;
+      enclosure = enclosure it.attributes it.delimiter.kind (behind_call it trees) (body_in position it trees tree) position;
+      siblings = siblings_of_call it.attributes it.delimiter.kind (behind_call it trees) position;
       delimiter = it.delimiter;
     }
 
@@ -115,7 +124,7 @@ pub data ExpandsTo (config : Config) : (in_text : Bool) → (limit : ℕ) → Po
   on_node : {in_text : Bool} {limit plain : ℕ} {position : Position} {context inside after : Context} {delimiter : Delimiter} {children rest : Forest} {held others : Outcome}
       → IsPlain config context position plain (node delimiter children rest)
       → ExpandsTo config in_text limit (first_in delimiter.kind position) 0 context children inside held
-      → ExpandsTo config in_text limit (behind_subtree delimiter.kind position) (plain - 1) (context_after (keeps_macros delimiter.kind position) context inside) rest after others
+      → ExpandsTo config in_text limit (behind_subtree delimiter.kind position) (plain - 1) (context_after (keeps_macros delimiter.kind children position) context inside) rest after others
       → ExpandsTo config in_text limit position plain context (node delimiter children rest) after (enters delimiter held others)
   on_definition : {in_text : Bool} {limit : ℕ} {position : Position} {context after : Context} {it : Definition} {trees : Forest} {others : Outcome} (inside : Context)
       → context.is_over ≡ false
@@ -159,8 +168,8 @@ pub data ExpandsTo (config : Config) : (in_text : Bool) → (limit : ℕ) → Po
       → item_at config.root position trees ≡ calls it
       → arms_of (called_by config context.macros it) ≡ Some arms
       → IsExpansion arms 0 0 it.input (expansion.Tree tree)
-      → ExpandsTo config false limit (begun_by position it trees) 0 context tree.children inside held
-      → PutAs (site_in position it trees) (trees_left held) (Some put)
+      → ExpandsTo config false limit (begun_by position it trees) 0 context (body_in position it trees tree) inside held
+      → PutAs (site_in position it trees tree) (trees_left held) (Some put)
       → MayBePut in_text it.delimiter put
       → ExpandsTo config in_text (suc limit) (behind_in position it trees) 0 inside (rest_in position it trees) after others
       → ExpandsTo config in_text (suc limit) position 0 context trees after (becomes_in position it trees put others)
@@ -170,7 +179,7 @@ pub data ExpandsTo (config : Config) : (in_text : Bool) → (limit : ℕ) → Po
       → called_by config context.macros it ≡ Some macro
       → macro.arms ≡ Some arms
       → IsExpansion arms 0 0 it.input (expansion.Tree tree)
-      → ExpandsTo config false limit (begun_by position it trees) 0 context tree.children inside held
-      → IsKept in_text (site_in position it trees) (trees_left held) (start_of (begin_in it trees).range) at fault
+      → ExpandsTo config false limit (begun_by position it trees) 0 context (body_in position it trees tree) inside held
+      → IsKept in_text (site_in position it trees tree) (trees_left held) (start_of (begin_in it trees).range) at fault
       → ExpandsTo config in_text (suc limit) (behind_in position it trees) 0 (with_finding (found_of it macro at fault) inside) (rest_in position it trees) after others
       → ExpandsTo config in_text (suc limit) position 0 context trees after (stays_in position it trees others)

@@ -1,11 +1,14 @@
 -- What becomes of trees that call macros.
-use Rattle.std.specs.Prelude.{Bool, true, false}
+use Rattle.std.specs.Prelude.{Option, None, Some}
 use Rattle.tt.specs.Forest.{Forest, end, leaf, node, join}
 use Rattle.tt.specs.Token.{delimiter}
 use Rattle.tt.specs.Types.Delimiter.{Delimiter}
-use Rattle.tt.specs.Types.DelimiterKind.TheVariants.{InvisibleOpaque}
+use Rattle.tt.specs.Types.DelimiterKind.{DelimiterKind}
+use Rattle.tt.specs.Types.DelimiterKind.TheVariants.{InvisibleOpaque, Parenthesis}
 use Rattle.tt.specs.Types.Leaf.{Leaf}
 use Rattle.tt.specs.Types.Span.{Span}
+use Rattle.expand_items.specs.declared.expression.Enclosure.{Enclosure}
+use Rattle.expand_items.specs.declared.expression.Enclosure.TheVariants as enclosed
 
 -- what becomes of trees: leaves that stay, subtrees that are entered, trees that stay with all that they contain, and a part from a span to
 -- another that is replaced by trees
@@ -24,7 +27,16 @@ trees_left (enters delimiter inside behind) = node delimiter (trees_left inside)
 trees_left (stays trees behind) = join trees (trees_left behind)
 trees_left (becomes first last trees behind) = join trees (trees_left behind)
 
--- an expansion is as it is if the call is a statement or an item, and else one opaque subtree
-abbrev pub placed : (is_statement : Bool) → Delimiter → Forest → Forest
-placed true call trees = trees
-placed false call trees = node (delimiter InvisibleOpaque call.open_span call.close) trees end
+-- the brackets that enclose an expansion
+abbrev pub brackets_of : Enclosure → Option DelimiterKind
+brackets_of enclosed.Bare = None
+brackets_of enclosed.Opaque = Some InvisibleOpaque
+brackets_of enclosed.Parentheses = Some Parenthesis
+
+-- an expansion in them, in the place of its call
+abbrev pub placed_in : Option DelimiterKind → Delimiter → Forest → Forest
+placed_in None call trees = trees
+placed_in (Some kind) call trees = node (delimiter kind call.open_span call.close) trees end
+
+abbrev pub placed : Enclosure → Delimiter → Forest → Forest
+placed enclosure call trees = placed_in (brackets_of enclosure) call trees

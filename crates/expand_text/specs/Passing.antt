@@ -8,9 +8,9 @@ use Rattle.expand_text.specs.declared.walk.Event.{Event}
 use Rattle.expand_text.specs.declared.walk.Event.TheVariants as event
 use Rattle.expand_text.specs.declared.walk.Invocation.{Invocation}
 use Rattle.expand_text.specs.declared.walk.Walk.{Walk}
-use Rattle.expand_text.specs.Meaning.{begin_in, end_in, site_in, whole_in}
+use Rattle.expand_text.specs.Meaning.{begin_in, begun_by, body_in, end_in, site_in, whole_in}
 use Rattle.expand_items.specs.Items.{Call}
-use Rattle.expand_text.specs.Walks.{level_of, past, past_call, site_of}
+use Rattle.expand_text.specs.Walks.{body_of, level_of, past, past_call, site_of}
 use Rattle.mbe_pattern.specs.Units.{front_trees, is_brace}
 
 -- a call that comes first stays as it is, and is passed
@@ -27,8 +27,9 @@ pub record IsInvocation (it : Call) (trees : Forest) (position : Position) (tree
   pub first : invocation.first_span ≡ begin_in it trees
   pub last : invocation.last_span ≡ end_in position it trees
   pub whole : trees_of invocation.whole ≡ whole_in position it trees
-  pub site : site_of invocation ≡ site_in position it trees
-  pub makes : invocation.tree ≡ tree
+  pub site : site_of invocation ≡ site_in position it trees tree
+  pub begins : invocation.position ≡ begun_by position it trees
+  pub makes : body_of invocation ≡ body_in position it trees tree
 
 -- a call that comes first expands to that tree, and is passed
 abbrev pub IsInvoked : Call → (tree : Root) → (defined_at : ℕ) → (old : Walk) → Event → (new : Walk) → Type 0

@@ -14,21 +14,20 @@ use Rattle.expand_text.specs.declared.fault.Finding.{Finding}
 use Rattle.expand_text.specs.declared.fault.MacroFault.{MacroFault}
 use Rattle.expand_text.specs.declared.context.Context as context_in_code
 use Rattle.expand_items.specs.declared.position.Position.{Position}
-use Rattle.expand_items.specs.declared.position.Siblings.{Siblings}
 use Rattle.mbe_pattern.specs.Units.{front_trees, is_brace}
 use Rattle.expand_text.specs.declared.walk.Event.{Event}
 use Rattle.expand_text.specs.declared.walk.Event.TheVariants as event
 use Rattle.expand_text.specs.declared.walk.Invocation.{Invocation}
 use Rattle.expand_text.specs.declared.walk.Level as rust
 use Rattle.expand_text.specs.declared.walk.Walk.{Walk}
-use Rattle.expand_text.specs.Meaning.{ExpandsTo, plain_behind, takes_in}
+use Rattle.expand_text.specs.Meaning.{ExpandsTo, body, plain_behind, takes_in}
 use Rattle.expand_items.specs.Attributes.{item_at}
 use Rattle.expand_items.specs.Items.{Item, Call}
 use Rattle.expand_text.specs.Contexts.{Config, Context, IsContext, with_finding, left_in_scope}
 use Rattle.expand_text.specs.Macros.{MayBePut}
 use Rattle.expand_text.specs.Outcomes.{Outcome, nothing, passes, enters, stays, becomes, trees_left}
 use Rattle.expand_text.specs.CallSites.{CallSite, PutAs, IsKept}
-use Rattle.expand_items.specs.Positions.{begun as begun_among, first_in, behind, behind_leaf, behind_subtree, keeps_macros}
+use Rattle.expand_items.specs.Positions.{first_in, behind, behind_leaf, behind_subtree, keeps_macros}
 
 -- the trees of a subtree that are left, the position before them, how many are taken as they are, where the subtree closes, and how many
 -- macros stay in scope after it, if not all
@@ -116,8 +115,8 @@ work_in [] = 0
 work_in (level ∷ outer) = suc (2 * size level.rest + work_in outer)
 
 -- the level before sibling trees
-abbrev pub begun : Siblings → Forest → (close : Span) → Level
-begun siblings trees close = record { rest = trees; position = begun_among siblings; plain = 0; close = close; kept = None }
+abbrev pub begun : Position → Forest → (close : Span) → Level
+begun position trees close = record { rest = trees; position = position; plain = 0; close = close; kept = None }
 
 -- the first tree of the innermost level, a subtree, is entered; so many macros, or all, stay in scope after it
 abbrev pub kept_behind : (are_kept : Bool) → ℕ → Option ℕ
@@ -131,7 +130,7 @@ inside delimiter children position kept =
 abbrev pub entered : Delimiter → (children : Forest) → (macros : ℕ) → List Level → List Level
 entered delimiter children macros [] = []
 entered delimiter children macros (level ∷ outer) =
-    inside delimiter children level.position (kept_behind (keeps_macros delimiter.kind level.position) macros) ∷ past_subtree delimiter.kind level ∷ outer
+    inside delimiter children level.position (kept_behind (keeps_macros delimiter.kind children level.position) macros) ∷ past_subtree delimiter.kind level ∷ outer
 
 -- the level that is left, and the outer levels
 abbrev pub IsLeft : Walk → Option Span → Walk → Type 0
@@ -144,10 +143,14 @@ site_of it =
     record {
       attributes = front_trees it.attributes (trees_of it.whole);
       len = it.attributes;
-      is_statement = it.is_statement;
-      siblings = it.siblings;
+      enclosure = it.enclosure;
+      siblings = it.position.siblings;
       delimiter = it.delimiter;
     }
+
+-- what its arm made of it
+abbrev pub body_of : Invocation → Forest
+body_of it = body it.is_statement it.tree
 
 -- a finding in a call
 abbrev pub found_by : Invocation → (at : ℕ) → MacroFault → Finding
@@ -171,7 +174,7 @@ IsNext config in_text limit levels context (event.Closes close) nexts others = L
 IsNext config in_text limit levels context (event.Stays trees) nexts others = Leads config in_text limit levels context (first_stay (trees_of trees)) nexts others
 IsNext config in_text limit levels context (event.Invocation it) nexts others =
     (left : ℕ) × (limit ≡ suc left)
-    × ((inside : Context) (held : Outcome) → ExpandsTo config false left (begun_among it.siblings) 0 others it.tree.children inside held
+    × ((inside : Context) (held : Outcome) → ExpandsTo config false left it.position 0 others (body_of it) inside held
     → GoesPast config in_text limit levels context it (trees_left held) nexts inside)
 
 -- how levels become others: which are entered and left, and that less is left to do

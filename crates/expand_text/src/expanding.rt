@@ -3,6 +3,7 @@ ghost use Rattle.std.specs.Prelude.{◌≡◌, ◌<◌, IfOk, OnOk};
 ghost use Rattle.tt.specs.Building.{depth};
 ghost use Rattle.tt.specs.Iters.{rest_of};
 ghost use Rattle.expand_text.specs.Expanding.{IsPassed, IsPlaced, AreExpanded};
+ghost use Rattle.expand_text.specs.Outcomes.{brackets_of};
 ghost use Rattle.expand_text.specs.Contexts.{Learns, config_of};
 
 use crate::config::Config;
@@ -10,7 +11,7 @@ use crate::context::Context;
 use crate::fault::MacroFault;
 use crate::memory::OutOfMemory;
 use crate::walk::{Event, Invocation, Walk, next};
-use expand_items::{Siblings, put_under};
+use expand_items::{Enclosure, Position, put_under};
 use syntax_edit::start_of;
 use tt::{Delimiter, DelimiterKind, Refused, Span, TopSubtreeBuilder, TtFault, TtIter};
 
@@ -29,18 +30,18 @@ fn expand_under(
     ensures placed { IfOk result (λ misplaced. Learns context.old context.new (IsPlaced (config_of config.now) limit invocation.now misplaced builder.old.stack builder.new.stack)) }
 {
     let delimiter = invocation.delimiter;
-    let siblings = invocation.siblings;
+    let position = invocation.position;
     let top = Delimiter {
         kind: DelimiterKind::Invisible,
         ..delimiter
     };
     let mut inner = TopSubtreeBuilder::new(config.alloc, top)?;
-    let trees = invocation.tree.iter();
+    let trees = invocation.body().iter();
     expand_trees(
         config,
         context,
         limit,
-        siblings,
+        position,
         trees,
         delimiter.close,
         &mut inner,
@@ -59,7 +60,7 @@ fn expand_under(
     let trees = held.token_trees();
     if put_under(
         config.alloc,
-        siblings,
+        position.siblings(),
         delimiter,
         attributes,
         trees,
@@ -68,6 +69,17 @@ fn expand_under(
         Ok(None)
     } else {
         Ok(Some(MacroFault::Conditional))
+    }
+}
+
+// Returns the brackets that enclose an expansion, if there are any.
+fn brackets_of(enclosure: Enclosure) -> Option<DelimiterKind>
+    ensures { result ≡ brackets_of enclosure }
+{
+    match enclosure {
+        Enclosure::Bare => None,
+        Enclosure::Opaque => Some(DelimiterKind::InvisibleOpaque),
+        Enclosure::Parentheses => Some(DelimiterKind::Parenthesis),
     }
 }
 
@@ -89,31 +101,16 @@ pub(crate) fn expand_invocation(
         return expand_under(config, context, limit, invocation, builder);
     }
     let delimiter = invocation.delimiter;
-    let siblings = invocation.siblings;
-    let trees = invocation.tree.iter();
-    if invocation.is_statement {
-        expand_trees(
-            config,
-            context,
-            limit,
-            siblings,
-            trees,
-            delimiter.close,
-            builder,
-        )?;
+    let position = invocation.position;
+    let trees = invocation.body().iter();
+    let close = delimiter.close;
+    let Some(kind) = brackets_of(invocation.enclosure) else {
+        expand_trees(config, context, limit, position, trees, close, builder)?;
         return Ok(None);
-    }
-    builder.open(DelimiterKind::InvisibleOpaque, delimiter.open_span)?;
-    expand_trees(
-        config,
-        context,
-        limit,
-        siblings,
-        trees,
-        delimiter.close,
-        builder,
-    )?;
-    builder.close(delimiter.close)?;
+    };
+    builder.open(kind, delimiter.open_span)?;
+    expand_trees(config, context, limit, position, trees, close, builder)?;
+    builder.close(close)?;
     Ok(None)
 }
 
@@ -140,23 +137,23 @@ fn pass_call(
     Ok(())
 }
 
-/// Expands sibling trees into the builder, with at most `limit` nested expansions. It calls
+/// Expands sibling trees, the first of which is at that position, into the builder, with at most `limit` nested expansions. It calls
 /// itself for each expansion, so at most `limit` deep.
 #[cycle(expansion)]
 pub(crate) fn expand_trees(
     config: &Config,
     context: &mut Context,
     limit: usize,
-    siblings: Siblings,
+    position: Position,
     trees: TtIter<'_>,
     close: Span,
     builder: &mut TopSubtreeBuilder,
 ) -> Result<(), OutOfMemory>
     ensures top { OnOk result (builder.new.top ≡ builder.old.top) }
     ensures open { OnOk result (depth builder.new.stack ≡ depth builder.old.stack) }
-    ensures expanded { OnOk result (Learns context.old context.new (AreExpanded (config_of config.now) limit siblings (rest_of trees.entry) builder.old.stack builder.new.stack)) }
+    ensures expanded { OnOk result (Learns context.old context.new (AreExpanded (config_of config.now) limit position (rest_of trees.entry) builder.old.stack builder.new.stack)) }
 {
-    let mut walk = Walk::new(config.alloc, trees, siblings, close);
+    let mut walk = Walk::new(config.alloc, trees, position, close);
     'trees: loop {
         match next(&mut walk, config, context, limit)? {
             Event::End => return Ok(()),

@@ -14,7 +14,7 @@ use crate::fault::MacroFault;
 use crate::memory::OutOfMemory;
 use crate::places::start_at;
 use crate::walk::{Event, Invocation, Walk, next};
-use expand_items::Siblings;
+use expand_items::{Position, Siblings};
 use std::alloc::Global;
 use syntax_edit::{Output, end_of, start_of};
 use syntax_unparse::{WriteFault, rust_text};
@@ -139,7 +139,8 @@ pub(crate) fn expand_source(
 {
     let mut output = Output::new(config.alloc, source);
     let close = tree.top_subtree().delimiter.close;
-    let mut walk = Walk::new(config.alloc, tree.iter(), Siblings::Items, close);
+    let first = Position::begun(Siblings::Items);
+    let mut walk = Walk::new(config.alloc, tree.iter(), first, close);
     'trees: loop {
         let event = next(&mut walk, config, context, limit)?;
         let goes_on = write_event(config, context, limit, event, &mut output)?;

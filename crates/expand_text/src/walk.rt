@@ -2,13 +2,13 @@
 ghost use Rattle.std.specs.Prelude.{◌≡◌, ◌∷◌, [], ℕ, IfOk, OnOk, if◌then◌else◌};
 ghost use Rattle.tt.specs.Iters.{rest_of};
 ghost use Rattle.tt.specs.Views.{trees_of};
-ghost use Rattle.expand_text.specs.Meaning.{begin_in, named_behind, IsPlain};
+ghost use Rattle.expand_text.specs.Meaning.{begin_in, body, named_behind, IsPlain};
 ghost use Rattle.syntax_edit.specs.Places.{begin_at};
 ghost use Rattle.expand_items.specs.Items.{defines, calls, definition_of, call_of};
 ghost use Rattle.expand_text.specs.Contexts.{Config as ConfigOf, config_of};
 ghost use Rattle.expand_text.specs.Passing.{IsStay, IsInvoked};
 ghost use Rattle.tt.specs.Gluing.{after_trees};
-ghost use Rattle.expand_text.specs.Walks.{site_of, level_of, levels_of, past_leaf, past_subtree, past, past_semicolon, begun, entered, IsLeft, IsAtItem, IsFirst, IsWithin, Steps, Goes};
+ghost use Rattle.expand_text.specs.Walks.{body_of, site_of, level_of, levels_of, past_leaf, past_subtree, past, past_semicolon, begun, entered, IsLeft, IsAtItem, IsFirst, IsWithin, Steps, Goes};
 ghost use Rattle.mbe_pattern.specs.Units.{front_trees};
 
 use crate::calling::{Called, expand_call, is_expanded};
@@ -16,7 +16,7 @@ use crate::config::Config;
 use crate::context::Context;
 use crate::defining::read_definition;
 use crate::memory::OutOfMemory;
-use expand_items::{Call, Definition, Item, Position, Siblings, item_at};
+use expand_items::{Call, Definition, Enclosure, Item, Position, item_at, without_semicolon};
 use mbe_pattern::{is_at_punct, pass, take};
 use std::alloc::{AllocError, Global};
 use syntax_edit::begin_at;
@@ -37,7 +37,7 @@ pub(crate) struct Level<'a> {
     kept: Option<usize>,
 }
 
-/// A call that is expanded: its macro, its place, the siblings of its expansion, and the expansion.
+/// A call that is expanded: its macro, its place, and its expansion.
 #[derive(Drop)]
 pub(crate) struct Invocation<'a> {
     pub(crate) name: Symbol,
@@ -50,8 +50,13 @@ pub(crate) struct Invocation<'a> {
     pub(crate) first_span: Span,
     pub(crate) last_span: Span,
     pub(crate) delimiter: Delimiter,
+    /// Whether it is a statement or an item.
     pub(crate) is_statement: bool,
-    pub(crate) siblings: Siblings,
+    /// How its expansion is enclosed.
+    pub(crate) enclosure: Enclosure,
+    /// The position before the first tree of its expansion.
+    pub(crate) position: Position,
+    /// What an arm made of it.
     pub(crate) tree: TopSubtree,
 }
 
@@ -157,6 +162,13 @@ impl<'a> Invocation<'a> {
         take(&mut self.whole.iter(), self.attributes)
     }
 
+    /// Returns the trees that it expands to, before calls in them are expanded.
+    pub(crate) fn body(&self) -> TokenTreesView<'_>
+        ensures { trees_of result ≡ body_of self.now }
+    {
+        body(self.is_statement, &self.tree)
+    }
+
     /// Returns the trees of the call, after its attributes.
     pub(crate) fn call(&self) -> TokenTreesView<'a>
         ensures { trees_of result ≡ after_trees self.now.attributes (trees_of self.now.whole) }
@@ -168,14 +180,14 @@ impl<'a> Invocation<'a> {
 }
 
 impl<'a> Walk<'a> {
-    /// Returns a walk through sibling trees.
-    pub(crate) fn new(alloc: Global, trees: TtIter<'a>, siblings: Siblings, close: Span) -> Walk<'a>
-        ensures { levels_of result ≡ begun siblings (rest_of trees.entry) close ∷ [] }
+    /// Returns a walk through sibling trees, the first of which is at that position.
+    pub(crate) fn new(alloc: Global, trees: TtIter<'a>, position: Position, close: Span) -> Walk<'a>
+        ensures { levels_of result ≡ begun position (rest_of trees.entry) close ∷ [] }
     {
         Walk {
             level: Level {
                 rest: trees,
-                position: Position::begun(siblings),
+                position,
                 plain: 0,
                 close,
                 kept: None,
@@ -194,7 +206,8 @@ impl<'a> Walk<'a> {
         ensures { OnOk result (levels_of self.new ≡ entered delimiter (rest_of children.entry) macros (levels_of self.old)) }
     {
         let position = self.level.position;
-        let are_kept = position.keeps_macros(delimiter.kind);
+        let inside = children.remaining().iter();
+        let are_kept = position.keeps_macros(delimiter.kind, inside);
         self.level.pass_subtree(delimiter.kind);
         let inner = Level {
             rest: children,
@@ -270,6 +283,17 @@ fn stay<'a>(walk: &mut Walk<'a>, call: &Call<'a>) -> Event<'a>
     Event::Stays(walk.level.take_all(call.len, ends))
 }
 
+// Returns what an arm made of a call: without a `;` at the end, if that is an expression.
+fn body(is_statement: bool, tree: &TopSubtree) -> TokenTreesView<'_>
+    ensures { trees_of result ≡ body is_statement tree.now }
+{
+    if is_statement {
+        tree.token_trees()
+    } else {
+        without_semicolon(tree.iter())
+    }
+}
+
 // Passes the call that comes first, which expands to `tree`. Its macro's name begins at the byte `defined_at` in the definition.
 fn invoke<'a>(
     walk: &mut Walk<'a>,
@@ -287,18 +311,23 @@ fn invoke<'a>(
     let first_span = walk.level.begin_of(call);
     walk.level.pass_all(call.len, kind == DelimiterKind::Brace);
     let behind = walk.level.rest.remaining();
+    let attributes = call.attributes;
+    let is_statement = position.is_statement(attributes, kind, behind.iter());
+    let expansion = body(is_statement, &tree).iter();
+    let enclosure = position.enclosure(attributes, kind, behind.iter(), expansion);
     let takes = position.takes_semicolon(kind, behind.iter());
     let last_span = walk.level.pass_semicolon(takes, delimiter.close);
     Ok(Event::Invocation(Invocation {
         name,
         defined_at,
         whole: walk.level.rest.from_savepoint(start),
-        attributes: call.attributes,
+        attributes,
         first_span,
         last_span,
         delimiter,
-        is_statement: position.is_statement(kind, behind.iter()),
-        siblings: position.siblings_of_call(kind, behind.iter()),
+        is_statement,
+        enclosure,
+        position: position.first_of_call(attributes, kind, behind.iter()),
         tree,
     }))
 }

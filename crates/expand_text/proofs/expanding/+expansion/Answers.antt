@@ -21,8 +21,7 @@ use Rattle.mbe_pattern.specs.Units.{front_trees}
 use Rattle.tt_base.proofs.Appending.{append-join}
 use Rattle.expand_text.proofs.Placing.{added_under, built_alone, is_too_large, kept_under}
 use Rattle.expand_text.specs.Outcomes.{nothing, trees_left}
-use Rattle.expand_items.specs.Positions.{begun as begun_among}
-use Rattle.expand_text.specs.Walks.{Level, level_of, levels_of, site_of, found_by, closes_of, first_leaf, first_subtree, first_stay, Ends, Leads, IsNext, IsWithin, Steps}
+use Rattle.expand_text.specs.Walks.{body_of, Level, level_of, levels_of, site_of, found_by, closes_of, first_leaf, first_subtree, first_stay, Ends, Leads, IsNext, IsWithin, Steps}
 use Rattle.expand_text.proofs.Finishing.{IsGoing, begins, ends_so, goes_on, goes_into, goes_out, goes_past, finished_leaf, finished_stay}
 use Rattle.expand_text.proofs.Rooting.{depth_append, is_above, depth_close}
 use Rattle.expand_text.proofs.expanding.+expansion.Goals as goal
@@ -36,7 +35,7 @@ expand_trees-trees-init t c =
       going = λ before is. (
         before,
         is,
-        subst (λ ls. IsGoing config c.args.limit c.args.siblings trees before stack ls before stack) (sym c.new-walk.ensures) (begins config c.args.limit c.args.siblings trees before stack c.args.close),
+        subst (λ ls. IsGoing config c.args.limit c.args.position trees before stack ls before stack) (sym c.new-walk.ensures) (begins config c.args.limit c.args.position trees before stack c.args.close),
       );
       entered = omega (arith, ap (λ ls. length (closes_of ls)) c.new-walk.ensures);
       top = refl;
@@ -58,7 +57,7 @@ expand_trees-returns-in-End-clause-expanded t c before is =
     let (others, then, next) = c.in_ok-next.ensures.next now context tt in
     let ended : Ends config false c.args.limit (level ∷ outer) now others (nothing ∷ []) =
     subst (λ e. IsNext config false c.args.limit (level ∷ outer) now e (levels_of c.next.new.walk) others) c.in-End.is (next false) in
-    let (outcome, expands_to, built) = ends_so config c.args.limit c.args.siblings trees before now others c.args.builder.now.stack c.trees.builder.stack level outer going ended in
+    let (outcome, expands_to, built) = ends_so config c.args.limit c.args.position trees before now others c.args.builder.now.stack c.trees.builder.stack level outer going ended in
     (others, then, record { outcome = outcome; expands_to = expands_to; added = built })
 
 pub expand_trees-trees-smaller-in-Continue-branch-3 : goal.expand_trees-trees-smaller-in-Continue-branch-3
@@ -89,7 +88,7 @@ expand_trees-trees-preserved-in-Continue-branch-3 t c =
           subst (λ e. IsNext config false limit (level ∷ outer) now e (next ∷ nexts) others) c.in-Leaf.is (comes_next false) in (
             others,
             then,
-            subst (λ s. IsGoing config limit c.args.siblings trees before old (next ∷ nexts) others s.stack) (sym grown) (goes_on config limit c.args.siblings trees before now others old stack level next outer nexts going (first_leaf c.in-Leaf.leaf) (append (leaf c.in-Leaf.leaf end) stack) leads steps.0 (λ first more. finished_leaf level.close (closes_of outer) first more stack c.in-Leaf.leaf)),
+            subst (λ s. IsGoing config limit c.args.position trees before old (next ∷ nexts) others s.stack) (sym grown) (goes_on config limit c.args.position trees before now others old stack level next outer nexts going (first_leaf c.in-Leaf.leaf) (append (leaf c.in-Leaf.leaf end) stack) leads steps.0 (λ first more. finished_leaf level.close (closes_of outer) first more stack c.in-Leaf.leaf)),
           );
       entered = ap (λ s. suc (depth s.stack)) grown ∙ ap suc (depth_append (leaf c.in-Leaf.leaf end) stack) ∙ c.trees.invariant.entered ∙ ap (λ cs. length cs + depth old) (sym steps.0);
       top = ap (λ s. s.top) grown ∙ c.trees.invariant.top;
@@ -123,7 +122,7 @@ expand_trees-trees-preserved-in-Continue-branch-4 t c =
           subst (λ e. IsNext config false limit (level ∷ outer) now e (next ∷ nexts) others) c.in-Opens.is (comes_next false) in (
             others,
             then,
-            subst (λ s. IsGoing config limit c.args.siblings trees before old (next ∷ nexts) others s.stack) (sym grown) (goes_into config limit c.args.siblings trees before now others old stack level next outer nexts going c.in-Opens.header.delimiter leads steps.0),
+            subst (λ s. IsGoing config limit c.args.position trees before old (next ∷ nexts) others s.stack) (sym grown) (goes_into config limit c.args.position trees before now others old stack level next outer nexts going c.in-Opens.header.delimiter leads steps.0),
           );
       entered = omega (arith, ap (λ s. depth s.stack) grown, c.trees.invariant.entered, ap length steps.0);
       top = ap (λ s. s.top) grown ∙ c.trees.invariant.top;
@@ -163,7 +162,7 @@ expand_trees-trees-preserved-in-Continue-branch-5 t c =
           subst (λ e. IsNext config false limit (level ∷ outer) now e (next ∷ nexts) others) c.in-Closes.is (comes_next false) in (
             others,
             then,
-            subst (λ s. IsGoing config limit c.args.siblings trees before old (next ∷ nexts) others s.stack) (sym grown) (goes_out config limit c.args.siblings trees before now others old stack level next outer nexts going c.in-Closes.close leads steps.0),
+            subst (λ s. IsGoing config limit c.args.position trees before old (next ∷ nexts) others s.stack) (sym grown) (goes_out config limit c.args.position trees before now others old stack level next outer nexts going c.in-Closes.close leads steps.0),
           );
       entered = let deep : depth stack ≡ suc (depth stack - 1) = omega (arith, c.trees.invariant.entered, ap length steps.0) in omega (arith, ap (λ s. depth s.stack) grown, depth_close c.in-Closes.close stack (depth stack - 1) deep, deep, c.trees.invariant.entered, ap length steps.0);
       top = ap (λ s. s.top) grown ∙ c.trees.invariant.top;
@@ -197,7 +196,7 @@ expand_trees-trees-preserved-in-Continue-branch-6 t c =
           subst (λ e. IsNext config false limit (level ∷ outer) now e (next ∷ nexts) others) c.in-Stays.is (comes_next false) in (
             others,
             then,
-            subst (λ s. IsGoing config limit c.args.siblings trees before old (next ∷ nexts) others s.stack) (sym grown) (goes_on config limit c.args.siblings trees before now others old stack level next outer nexts going (first_stay (trees_of c.in-Stays.trees)) (append (trees_of c.in-Stays.trees) stack) leads steps.0 (λ first more. finished_stay level.close (closes_of outer) first more stack (trees_of c.in-Stays.trees))),
+            subst (λ s. IsGoing config limit c.args.position trees before old (next ∷ nexts) others s.stack) (sym grown) (goes_on config limit c.args.position trees before now others old stack level next outer nexts going (first_stay (trees_of c.in-Stays.trees)) (append (trees_of c.in-Stays.trees) stack) leads steps.0 (λ first more. finished_stay level.close (closes_of outer) first more stack (trees_of c.in-Stays.trees))),
           );
       entered = ap (λ s. suc (depth s.stack)) grown ∙ ap suc (depth_append (trees_of c.in-Stays.trees) stack) ∙ c.trees.invariant.entered ∙ ap (λ cs. length cs + depth old) (sym steps.0);
       top = ap (λ s. s.top) grown ∙ c.trees.invariant.top;
@@ -235,11 +234,11 @@ expand_trees-trees-preserved t c =
           let (left, fits, goes) = subst (λ e. IsNext config false limit (level ∷ outer) now e (next ∷ nexts) others) c.in-Invocation.is (comes_next false) in
           let (after, ready, passed) = c.in_ok-pass_call-in-Invocation.ensures.passed others then in
           let back : limit - 1 ≡ left = omega (arith, fits) in
-          let expands_to : ExpandsTo config false left (begun_among it.siblings) 0 others it.tree.children passed.inside passed.outcome =
-          subst (λ n. ExpandsTo config false n (begun_among it.siblings) 0 others it.tree.children passed.inside passed.outcome) back passed.expands_to in (
+          let expands_to : ExpandsTo config false left it.position 0 others (body_of it) passed.inside passed.outcome =
+          subst (λ n. ExpandsTo config false n it.position 0 others (body_of it) passed.inside passed.outcome) back passed.expands_to in (
             after,
             ready,
-            goes_past config limit c.args.siblings trees before now after old stack level next outer nexts going it (trees_left passed.outcome) passed.inside c.pass_call.new.builder.stack
+            goes_past config limit c.args.position trees before now after old stack level next outer nexts going it (trees_left passed.outcome) passed.inside c.pass_call.new.builder.stack
                 (goes passed.inside passed.outcome expands_to) passed.passed steps.0,
           );
       entered = omega (arith, c.in_ok-pass_call-in-Invocation.ensures.open, c.trees.invariant.entered, ap length steps.0);
@@ -297,8 +296,8 @@ expand_under-returns-in-Err t c = record {
       let why = c.in-Err.refused.fault in
       let (after, ready, all) = c.in_ok-expand_trees.ensures.expanded before is in
       let held : Forest = trees_left all.outcome in
-      let expands_to : ExpandsTo (config_of c.args.config.now) false c.args.limit (begun_among it.siblings) 0 before it.tree.children after all.outcome =
-      subst (λ f. ExpandsTo (config_of c.args.config.now) false c.args.limit (begun_among it.siblings) 0 before f after all.outcome) c.iter-trees.ensures all.expands_to in
+      let expands_to : ExpandsTo (config_of c.args.config.now) false c.args.limit it.position 0 before (body_of it) after all.outcome =
+      subst (λ f. ExpandsTo (config_of c.args.config.now) false c.args.limit it.position 0 before f after all.outcome) (c.iter-trees.ensures ∙ c.body.ensures) all.expands_to in
       let whole : built c.expand_trees.new.builder ≡ tree_of it.delimiter held =
       built_alone (record it.delimiter { kind = Invisible }) c.in_ok-inner.inner c.expand_trees.new.builder held c.in_ok-inner.ensures.ok c.in_ok-expand_trees.ensures.top all.added in
       let past : IsTreeFault (built c.expand_trees.new.builder) why = search rules in
@@ -318,17 +317,18 @@ expand_under-returns-then-branch-clause-placed t c before is =
     let it = c.args.invocation.now in
     let (after, ready, all) = c.in_ok-expand_trees.ensures.expanded before is in
     let held : Forest = trees_left all.outcome in
-    let expands_to : ExpandsTo (config_of c.args.config.now) false c.args.limit (begun_among it.siblings) 0 before it.tree.children after all.outcome =
-    subst (λ f. ExpandsTo (config_of c.args.config.now) false c.args.limit (begun_among it.siblings) 0 before f after all.outcome) c.iter-trees.ensures all.expands_to in
+    let expands_to : ExpandsTo (config_of c.args.config.now) false c.args.limit it.position 0 before (body_of it) after all.outcome =
+    subst (λ f. ExpandsTo (config_of c.args.config.now) false c.args.limit it.position 0 before f after all.outcome) (c.iter-trees.ensures ∙ c.body.ensures) all.expands_to in
     let whole : built c.expand_trees.new.builder ≡ tree_of it.delimiter held =
     built_alone (record it.delimiter { kind = Invisible }) c.in_ok-inner.inner c.expand_trees.new.builder held c.in_ok-inner.ensures.ok c.in_ok-expand_trees.ensures.top all.added in
     let tree : c.in-Ok.tree ≡ tree_of it.delimiter held = c.in-Ok.ensures.ok ∙ whole in
     let trees : trees_of c.token_trees-trees.result ≡ held = c.token_trees-trees.ensures ∙ ap (λ r. r.children) tree in
     let within : IsWithinLimits (tree_of it.delimiter held) = subst IsWithinLimits tree c.in-Ok.ensures.limits in
-    let under : IsPutUnder it.siblings it.delimiter (conditions_of (site_of it).attributes) held c.in_ok-put_under.field-0 c.args.builder.now.stack c.put_under.new.builder.stack =
-    subst (λ f. IsPutUnder it.siblings it.delimiter (conditions_of (site_of it).attributes) f c.in_ok-put_under.field-0 c.args.builder.now.stack c.put_under.new.builder.stack) trees
-    (subst (λ f. IsPutUnder it.siblings it.delimiter (conditions_of f) (trees_of c.token_trees-trees.result) c.in_ok-put_under.field-0 c.args.builder.now.stack c.put_under.new.builder.stack) c.attributes-attributes.ensures
-    c.in_ok-put_under.ensures.put) in
+    let under : IsPutUnder it.position.siblings it.delimiter (conditions_of (site_of it).attributes) held c.in_ok-put_under.field-0 c.args.builder.now.stack c.put_under.new.builder.stack =
+    subst (λ f. IsPutUnder it.position.siblings it.delimiter (conditions_of (site_of it).attributes) f c.in_ok-put_under.field-0 c.args.builder.now.stack c.put_under.new.builder.stack) trees
+    (subst (λ f. IsPutUnder it.position.siblings it.delimiter (conditions_of f) (trees_of c.token_trees-trees.result) c.in_ok-put_under.field-0 c.args.builder.now.stack c.put_under.new.builder.stack) c.attributes-attributes.ensures
+    (subst (λ among. IsPutUnder among it.delimiter (conditions_of (trees_of c.attributes-attributes.result)) (trees_of c.token_trees-trees.result) c.in_ok-put_under.field-0 c.args.builder.now.stack c.put_under.new.builder.stack) c.siblings.ensures
+    c.in_ok-put_under.ensures.put)) in
     (after, ready, record { outcome = all.outcome; expands_to = expands_to; added = added_under (site_of it) held c.requires within c.in_ok-put_under.field-0 c.args.builder.now.stack c.put_under.new.builder.stack under c.if-branch.true })
 
 pub expand_under-returns-clause-placed : goal.expand_under-returns-clause-placed
@@ -336,15 +336,16 @@ expand_under-returns-clause-placed t c before is =
     let it = c.args.invocation.now in
     let (after, ready, all) = c.in_ok-expand_trees.ensures.expanded before is in
     let held : Forest = trees_left all.outcome in
-    let expands_to : ExpandsTo (config_of c.args.config.now) false c.args.limit (begun_among it.siblings) 0 before it.tree.children after all.outcome =
-    subst (λ f. ExpandsTo (config_of c.args.config.now) false c.args.limit (begun_among it.siblings) 0 before f after all.outcome) c.iter-trees.ensures all.expands_to in
+    let expands_to : ExpandsTo (config_of c.args.config.now) false c.args.limit it.position 0 before (body_of it) after all.outcome =
+    subst (λ f. ExpandsTo (config_of c.args.config.now) false c.args.limit it.position 0 before f after all.outcome) (c.iter-trees.ensures ∙ c.body.ensures) all.expands_to in
     let whole : built c.expand_trees.new.builder ≡ tree_of it.delimiter held =
     built_alone (record it.delimiter { kind = Invisible }) c.in_ok-inner.inner c.expand_trees.new.builder held c.in_ok-inner.ensures.ok c.in_ok-expand_trees.ensures.top all.added in
     let tree : c.in-Ok.tree ≡ tree_of it.delimiter held = c.in-Ok.ensures.ok ∙ whole in
     let trees : trees_of c.token_trees-trees.result ≡ held = c.token_trees-trees.ensures ∙ ap (λ r. r.children) tree in
     let within : IsWithinLimits (tree_of it.delimiter held) = subst IsWithinLimits tree c.in-Ok.ensures.limits in
-    let under : IsPutUnder it.siblings it.delimiter (conditions_of (site_of it).attributes) held c.in_ok-put_under.field-0 c.args.builder.now.stack c.put_under.new.builder.stack =
-    subst (λ f. IsPutUnder it.siblings it.delimiter (conditions_of (site_of it).attributes) f c.in_ok-put_under.field-0 c.args.builder.now.stack c.put_under.new.builder.stack) trees
-    (subst (λ f. IsPutUnder it.siblings it.delimiter (conditions_of f) (trees_of c.token_trees-trees.result) c.in_ok-put_under.field-0 c.args.builder.now.stack c.put_under.new.builder.stack) c.attributes-attributes.ensures
-    c.in_ok-put_under.ensures.put) in
+    let under : IsPutUnder it.position.siblings it.delimiter (conditions_of (site_of it).attributes) held c.in_ok-put_under.field-0 c.args.builder.now.stack c.put_under.new.builder.stack =
+    subst (λ f. IsPutUnder it.position.siblings it.delimiter (conditions_of (site_of it).attributes) f c.in_ok-put_under.field-0 c.args.builder.now.stack c.put_under.new.builder.stack) trees
+    (subst (λ f. IsPutUnder it.position.siblings it.delimiter (conditions_of f) (trees_of c.token_trees-trees.result) c.in_ok-put_under.field-0 c.args.builder.now.stack c.put_under.new.builder.stack) c.attributes-attributes.ensures
+    (subst (λ among. IsPutUnder among it.delimiter (conditions_of (trees_of c.attributes-attributes.result)) (trees_of c.token_trees-trees.result) c.in_ok-put_under.field-0 c.args.builder.now.stack c.put_under.new.builder.stack) c.siblings.ensures
+    c.in_ok-put_under.ensures.put)) in
     (after, ready, record { outcome = all.outcome; expands_to = expands_to; added = kept_under (site_of it) held c.requires within c.in_ok-put_under.field-0 c.args.builder.now.stack c.put_under.new.builder.stack under c.if-branch.false })

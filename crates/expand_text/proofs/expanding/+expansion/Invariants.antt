@@ -25,7 +25,7 @@ invariant-expand_trees-trees l =
       going :
           (before : Context) → IsContext before l.fn.context
           → (now : Context) × IsContext now l.context
-          × IsGoing (config_of l.config) l.limit l.fn.siblings (rest_of l.fn.trees) before l.fn.builder.stack (levels_of l.walk) now l.builder.stack;
+          × IsGoing (config_of l.config) l.limit l.fn.position (rest_of l.fn.trees) before l.fn.builder.stack (levels_of l.walk) now l.builder.stack;
       entered : suc (depth l.builder.stack) ≡ length (closes_of (levels_of l.walk)) + depth l.fn.builder.stack;
       top : l.builder.top ≡ l.fn.builder.top;
     }

@@ -2,7 +2,7 @@ use Rattle.std.proofs.Common.{◌≡◌, ◌+◌, ◌*◌, ap, sym, ◌∙◌, a
 use Rattle.tt.specs.Gluing.{after_trees}
 use Rattle.tt.specs.Iters.{rest_of}
 use Rattle.expand_text.specs.Places.{arm_len}
-use Rattle.expand_text.proofs.ManyTrees.{after_both}
+use Rattle.expand_items.proofs.ManyTrees.{after_both}
 use Rattle.expand_text.proofs.places.pass_arms.Goals as goal
 
 pub loop-preserved : goal.loop-preserved

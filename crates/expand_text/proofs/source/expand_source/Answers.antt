@@ -3,7 +3,9 @@ use Rattle.expand_text.specs.Expansion.{GoesOn}
 use Rattle.expand_text.specs.Contexts.{Config, config_of}
 use Rattle.syntax_edit.specs.Texts.{Writing, begun, writing_of}
 use Rattle.expand_text.specs.Walks.{Level, level_of, levels_of, begun as begun_at}
+use Rattle.expand_items.specs.Positions.{begun as begun_among}
 use Rattle.expand_items.specs.declared.position.Siblings.TheVariants.{Items}
+use Rattle.tt.specs.Iters.{rest_of}
 use Rattle.expand_text.proofs.Replacing.{IsReading, begins, reads_event, reads_to_end, less_left}
 use Rattle.expand_text.proofs.source.expand_source.Goals as goal
 
@@ -15,8 +17,9 @@ trees-init c before is =
       is,
       [],
       subst (λ ls. IsReading config c.args.limit trees before ls before []) (sym c.new-walk.ensures)
-          (subst (λ f. IsReading config c.args.limit trees before (begun_at Items f c.top_subtree.result.delimiter.close ∷ []) before []) (sym c.iter.ensures)
-          (begins config c.args.limit trees before c.top_subtree.result.delimiter.close)),
+          (subst (λ p. IsReading config c.args.limit trees before (begun_at p (rest_of c.iter.result) c.top_subtree.result.delimiter.close ∷ []) before []) (sym c.begun-first.ensures)
+          (subst (λ f. IsReading config c.args.limit trees before (begun_at (begun_among Items) f c.top_subtree.result.delimiter.close ∷ []) before []) (sym c.iter.ensures)
+          (begins config c.args.limit trees before c.top_subtree.result.delimiter.close))),
       c.new-output.ensures,
     )
 

@@ -1,0 +1,75 @@
+-- Expansions in the place of an expression: how they begin, how they end, and what follows them.
+use Rattle.std.specs.Prelude.{ℕ, ◌==◌, ◌||◌, ◌&&◌, not, Bool, false, List, codes, bytes_eq, if◌then◌else◌}
+use Rattle.tt.specs.Forest.{Forest, end, leaf, node}
+use Rattle.tt.specs.Moves.{after_tree}
+use Rattle.tt.specs.Siblings.{is_end}
+use Rattle.tt.specs.Types.IdentIsRaw.{IdentIsRaw}
+use Rattle.tt.specs.Types.IdentIsRaw.TheVariants as raw
+use Rattle.tt.specs.Types.Leaf.TheVariants as leaf_of
+use Rattle.expand_items.specs.declared.expression.Enclosure.{Enclosure}
+use Rattle.expand_items.specs.declared.expression.Enclosure.TheVariants as enclosed
+use Rattle.mbe_pattern.specs.Units.{is_at_word, is_brace, is_at_punct, unit_size}
+
+-- braces come first
+abbrev pub is_at_braces : Forest → Bool
+is_at_braces end = false
+is_at_braces (leaf it rest) = false
+is_at_braces (node delimiter children rest) = is_brace delimiter.kind
+
+-- `!` and braces come first
+abbrev pub is_at_braced_call : Forest → Bool
+is_at_braced_call trees = is_at_punct (codes "!") trees && is_at_braces (after_tree trees)
+
+-- an expression that begins with this word begins with a block
+abbrev pub begins_with_block : (word : List ℕ) → Bool
+begins_with_block word =
+    bytes_eq word (codes "if") || (bytes_eq word (codes "match") || (bytes_eq word (codes "loop") || (bytes_eq word (codes "while")
+    || (bytes_eq word (codes "for") || (bytes_eq word (codes "unsafe") || (bytes_eq word (codes "const") || bytes_eq word (codes "async")))))))
+
+-- so does one that begins with this ident before these trees: such a word, or the name of a macro that is called in braces
+abbrev pub begins_block_as : IdentIsRaw → (word : List ℕ) → (rest : Forest) → Bool
+begins_block_as raw.Yes word rest = false
+begins_block_as raw.No word rest = begins_with_block word || is_at_braced_call rest
+
+-- an expression of these trees begins with a block: with braces, with such an ident, or with a label
+abbrev pub begins_block : Forest → Bool
+begins_block end = false
+begins_block (leaf (leaf_of.Literal it) rest) = false
+begins_block (leaf (leaf_of.Punct it) rest) = it.char == 39
+begins_block (leaf (leaf_of.Ident it) rest) = begins_block_as it.is_raw it.sym rest
+begins_block (node delimiter children rest) = is_brace delimiter.kind
+
+-- something follows the first braces, or braces that come after `else`
+abbrev pub block_goes_on : Forest → Bool
+block_goes_on end = false
+block_goes_on (leaf it rest) = block_goes_on rest
+block_goes_on (node delimiter children rest) =
+    if is_brace delimiter.kind && not (is_at_word (codes "else") rest) then not (is_end rest) else block_goes_on rest
+
+-- at the beginning of a statement or an arm, an expression of these trees ends before its end, with the block that it begins with
+abbrev pub is_split : Forest → Bool
+is_split trees = begins_block trees && block_goes_on trees
+
+-- an expression that a call in braces begins goes on with `.` or `?`
+abbrev pub goes_on : Forest → Bool
+goes_on trees = (unit_size trees == 1) && (is_at_punct (codes ".") trees || is_at_punct (codes "?") trees)
+
+-- an expression may end before these trees, whatever it is
+abbrev pub may_end : Forest → Bool
+may_end trees = is_end trees || (is_at_punct (codes ",") trees || is_at_punct (codes ";") trees)
+
+-- how an expansion is enclosed at the beginning of a statement or an arm, before these trees: the block that it begins with must not end it
+abbrev pub enclosure_at_start : (behind expansion : Forest) → Enclosure
+enclosure_at_start behind expansion =
+    if may_end behind then (if is_split expansion then enclosed.Opaque else enclosed.Bare)
+    else (if begins_block expansion then enclosed.Parentheses else enclosed.Opaque)
+
+-- a `;` is the only tree
+abbrev pub is_last_semicolon : Forest → Bool
+is_last_semicolon trees = is_at_punct (codes ";") trees && is_end (after_tree trees)
+
+-- the trees without a `;` at their end
+abbrev pub without_semicolon : Forest → Forest
+without_semicolon end = end
+without_semicolon (leaf it rest) = if is_last_semicolon (leaf it rest) then end else leaf it (without_semicolon rest)
+without_semicolon (node delimiter children rest) = node delimiter children (without_semicolon rest)
