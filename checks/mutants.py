@@ -37,6 +37,8 @@ TABLES = {
     "plain_pieces": mutants_of_pieces, "plain_text": mutants_of_texts, "plain_written": mutants_of_written, "plain_rules": mutants_of_rules,
     "plain_grammar": mutants_of_grammar, "plain_arms": mutants_of_arms, "plain_machine": mutants_of_machine,
 }
+# All files that it loads anew. Of plain_macros.py it turns nothing here.
+LOADED = [*list(TABLES)[:8], "plain_macros", *list(TABLES)[8:]]
 # The place of an answer that a turned machine does not give.
 NO_ANSWER = ["no answer"]
 # The scripts, in a process that judges mutants.
@@ -55,12 +57,12 @@ def scripts_of(count):
 
 def load(turned=None, old="", new=""):
     """The plain machine anew, with one definition turned, or none."""
-    for name, table in TABLES.items():
+    for name in LOADED:
         text = (HERE / f"{name}.py").read_text()
         if name == turned:
             if text.count(old) != 1:
-                raise ValueError(f"{old!r} stands {text.count(old)} times in {name}.py")
-            text = text.replace(old, new) + table.HELPERS
+                raise ValueError(f"{name}.py has {old!r} {text.count(old)} times")
+            text = text.replace(old, new) + TABLES[name].HELPERS
         module = sys.modules[name] = types.ModuleType(name)
         module.__file__ = str(HERE / f"{name}.py")
         exec(compile(text, name, "exec"), vars(module))  # pylint: disable=exec-used
@@ -98,7 +100,7 @@ def load_macros(old="", new=""):
     """Brute force anew, with one definition turned, or none."""
     text = (HERE / "plain_macros.py").read_text()
     if old and text.count(old) != 1:
-        raise ValueError(f"{old!r} stands {text.count(old)} times in plain_macros.py")
+        raise ValueError(f"plain_macros.py has {old!r} {text.count(old)} times")
     module = types.ModuleType("plain_macros")
     exec(compile(text.replace(old, new) if old else text, "plain_macros", "exec"), vars(module))  # pylint: disable=exec-used
     return module
