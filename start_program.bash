@@ -1,14 +1,13 @@
-# Starts a program of this repository. Where it is out of date, it is first proved and built. Scripts source this file, which
-# says nothing by itself.
+# Starts a program of this repository, and proves and builds it first if it is out of date. Scripts source this file, which
+# prints nothing by itself.
 # shellcheck shell=bash
 # `start CRATE CALLER ARGUMENT..` starts the program of that crate with these arguments, and says in the name of the caller
-# what is done before. `trial` is set by the caller: what `rt run` is given, so that the program ends well when it is built.
-# The exit status is the program's; 2 where it could not be built.
+# what it does before. The caller sets `trial`: the arguments for `rt run`, with which the built program ends well.
+# The exit status is the program's, or 2 if it could not be built.
 
 root=$(dirname -- "$(readlink -f -- "${BASH_SOURCE[0]}")")
 
-# The crate and all crates below it, the lowest first, by crates.txt. A word that has no line there names a library of the
-# kit.
+# The crate and all crates below it, the lowest first, by crates.txt. A word without a line there names a library of the kit.
 crates_below() {
     local -A uses=() seen=()
     local line
@@ -19,7 +18,7 @@ crates_below() {
     list_from "$crate"
 }
 
-# Of a crate and those below it the ones that are not listed yet.
+# Lists a crate and those below it, without the ones already listed.
 list_from() {
     local name
     [[ -n ${uses[$1]+listed} && -z ${seen[$1]+seen} ]] || return 0
@@ -44,12 +43,12 @@ sum_of_sources() {
     find "${parts[@]}" -type f -print0 | LC_ALL=C sort -z | xargs -0 sha256sum | sha256sum
 }
 
-# What the stamp holds: the sum of the sources, and that of the program which was built from them.
+# What the stamp holds: the sum of the sources, and that of the program built from them.
 stamp_for() {
     printf '%s\n' "$1" "$(sha256sum <"$program")"
 }
 
-# Says on standard error what is done: on a terminal by one line that is written over.
+# Says on standard error what happens: on a terminal in one line, which the next message replaces.
 say() {
     if [[ -t 2 ]]; then
         printf '\r\033[K%s: %s' "$caller" "$1" >&2
@@ -58,8 +57,8 @@ say() {
     fi
 }
 
-# Says which crate of how many is read or proved, on a terminal how many of its functions are, and when the program is
-# built. It reads what the prover says, and where that says nothing for half a minute, it says once more what is done.
+# Says which crate of how many the prover reads or proves, on a terminal how many of its functions are done, and when it builds
+# the program. It reads what the prover prints, and repeats its last message if the prover prints nothing for half a minute.
 show_progress() {
     local -a crates
     local -A place=()
@@ -105,8 +104,8 @@ can_write() {
     done
 }
 
-# Proves and builds the program, which `rt run` then runs too, here on no input and with the words of `trial`. What it says goes to the file. The build
-# has a process group of its own, which ends where this script is interrupted.
+# Proves and builds the program, which `rt run` then runs too, here on no input and with the words of `trial`. What it prints goes
+# to the file. The build has a process group of its own, which ends if this script is interrupted.
 build() {
     local said=$1 builder watcher status=0
     set -m
@@ -133,11 +132,11 @@ start() {
     sources=$(sum_of_sources)
     if [[ ! -x $program || ! -f $stamp || $(<"$stamp") != "$(stamp_for "$sources")" ]]; then
         if ! command -v rt >/dev/null; then
-            echo "$caller: the command rt is not on PATH. It comes with Rattle's kit: where that is installed, put the kit's folder bin on PATH" >&2
+            echo "$caller: the command rt is not on PATH. It comes with Rattle's kit: put the kit's folder bin on PATH" >&2
             exit 2
         fi
         can_write || exit 2
-        echo "$caller: $crate is proved and built first: a good half hour, or a few minutes where its crates are proved" >&2
+        echo "$caller: proving and building $crate first: a good half hour, or a few minutes if its crates are proved" >&2
         said=$(mktemp) || exit 2
         if ! build "$said"; then
             cat -- "$said" >&2

@@ -2,12 +2,12 @@
 """Times the packed form on one tree or on many in turn, alone or beside another program: compare.py [OPTION]..
 
 For each tree of items.py and each mode it runs `bench_store MODE ROUNDS`, and prints the least time of all turns, in
-nanoseconds for a token (for a child of the top where the mode is skip). With --together the lists of all the files stand
-one after another, so that each round works on the next tree, and what is printed is for a token of all of them. With
+nanoseconds for a token (for a child of the top if the mode is skip). With --together the lists of all the files follow one
+another, so each round works on the next tree, and the times are for a token of all of them. With
 --other the two programs take turns on the same trees, so that what disturbs one disturbs the other, and the ratio of
 their times is printed too.
 
-The other program is given as a command, in which the words MODE, ROUNDS, SIZE and PROFILE stand for what is asked for:
+The other program is a command, in which the mode, the rounds, the size and the profile replace MODE, ROUNDS, SIZE and PROFILE:
 --other 'one MODE ROUNDS SIZE PROFILE'. Its standard input has the lines of the tree, which it need not read. It prints
 what bench_store prints: nanoseconds, sum, bytes, parts and symbols.
 """

@@ -34,7 +34,7 @@ ENDLESS = WORD
 
 KEYWORDS = "self let fn pub if mut impl Self return Some None Ok match use crate for in T u32 usize x i it _".split()
 STEMS = ["name", "value", "item_of", "to"]
-# What stands more often is drawn more often.
+# A character that occurs more often here is drawn more often.
 PUNCTS = ",,,,,,,,......;;;;;;::==&&<>#!?+-*/|'@$%^"
 PAIRS = ":: :: :: -> => && == .. <= +=".split()
 NUMBER_SUFFIXES = ["u8", "u32", "usize"]
@@ -138,7 +138,7 @@ class Maker:
             self.leaf()
 
     def deep_token(self):
-        """About two leaves stand between one opening, or one end, and the next."""
+        """Puts about two leaves between one opening, or one end, and the next."""
         depth = len(self.open_subtrees)
         if depth >= TURNING_DEPTH:
             self.goes_down = False

@@ -138,7 +138,7 @@ def class_of(ours, told):
     if theirs is not None:
         return "agree" if ours == theirs else "DIFFER: " + ("ours none" if not ours else "ours less" if ours < theirs else "ours more")
     if error is None:
-        return "DIFFER: nothing told"
+        return "DIFFER: rustc answers nothing"
     if not ours:
         return "none, an error there"
     return f"{'up to' if ours <= error[1] else 'past'} an error there: {error[0]}"

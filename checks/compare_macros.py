@@ -24,7 +24,7 @@ SAME = [("no match", ["no rules expected", "unexpected end"]), ("lengths", ["rep
 AMBIGUITY = "rustc: local ambiguity, where the program goes on"
 MINUS = "rustc: `-` and a literal that is no number"
 LESS_FAR = "rustc: an arm that comes less far, where another takes a subtree by `tt`"
-NO_LITERAL = "rustc: an error of its own, where `-` and no literal stands"
+NO_LITERAL = "rustc: an error of its own at a `-` without a literal"
 
 
 # The lines of a crate whose main prints what each of these becomes, by the number of its macro.

@@ -146,7 +146,7 @@ def tokens(program, texts):
     """The lines of tokens of each text."""
     shown = output(program, "tokens", "show", text=BETWEEN_TEXTS.join(texts)).split("--\n")
     if len(shown) != len(texts) + 1:
-        sys.exit(f"{program} told {len(shown) - 1} texts of {len(texts)}")
+        sys.exit(f"{program} showed {len(shown) - 1} texts of {len(texts)}")
     return shown[:-1]
 
 
@@ -286,7 +286,7 @@ def time_both(ours, theirs, paths):
 
 
 def main():
-    """Does what the arguments ask for."""
+    """Runs the mode that the arguments name."""
     if len(sys.argv) < 3 or sys.argv[2] not in ("files", "chance", "characters", "time"):
         sys.exit(__doc__)
     ours, mode, rest = sys.argv[1], sys.argv[2], sys.argv[3:]

@@ -31,10 +31,10 @@ CLASSES = {
     "a suffix of more than 255 bytes": ("ours", "suffix of more than 255 bytes"),
     "a comment whose text wants more than 255 hashes": ("ours", "more than 255 hashes"),
     "a suffix that is `_`": ("rustc", "underscore literal suffix"),
-    "emoji in an identifier, which rustc tells later": ("ours", "invalid identifier"),
-    "emoji in an identifier, told of another text": ("rustc", "identifiers cannot contain emoji"),
-    "emoji in an identifier, told of another text too": ("rustc", "Ferris cannot be used as an identifier"),
-    "a lifetime that begins with a digit, which rustc tells later": ("ours", "lifetime that begins with a digit"),
+    "emoji in an identifier, which rustc reports later": ("ours", "invalid identifier"),
+    "emoji in an identifier, which rustc reports at another text": ("rustc", "identifiers cannot contain emoji"),
+    "emoji in an identifier, which rustc reports at another text too": ("rustc", "Ferris cannot be used as an identifier"),
+    "a lifetime that begins with a digit, which rustc reports later": ("ours", "lifetime that begins with a digit"),
     "a raw lifetime right before a quote": ("rustc", "character literal may only contain one codepoint"),
     "a carriage return at the end, in a comment that documents something": ("rustc", "bare CR not allowed in doc-comment"),
     "a character that came with a later version of Unicode": ("rustc", "unknown start of token"),
@@ -99,7 +99,7 @@ fn texts() -> Vec<String> {
     all.split('\u{1}').map(String::from).collect()
 }
 
-// One call for each text: the compiler tells an error once for each place of a call.
+// One call for each text: the compiler reports an error once for each place of a call.
 #[proc_macro]
 pub fn text(number: TokenStream) -> TokenStream {
     let number: usize = number.to_string().parse().unwrap();
@@ -167,7 +167,7 @@ class Rustc:
         calls = "".join(f"oracle::text!({number});\n" for number in range(len(texts)))
         shown, told = self.compile(calls.encode() + b"fn main() {}\n")
         if len(shown) != len(texts):
-            sys.exit(f"the compiler told {len(shown)} texts of {len(texts)}: {told[-2000:]}")
+            sys.exit(f"the compiler showed {len(shown)} texts of {len(texts)}: {told[-2000:]}")
         for part in re.split(r"^@text ", told, flags=re.MULTILINE)[1:]:
             number, _, rest = part.partition("\n")
             error = re.search(r"^error(?!: aborting).*", rest, re.MULTILINE)
@@ -180,7 +180,7 @@ class Rustc:
         source = b"".join(b"oracle::input!{m " + text.encode() + b"\n}\n" for text in texts) + b"fn main() {}\n"
         shown, told = self.compile(source)
         if len(shown) != len(texts):
-            sys.exit(f"the compiler told {len(shown)} texts of {len(texts)}: {told[-2000:]}")
+            sys.exit(f"the compiler showed {len(shown)} texts of {len(texts)}: {told[-2000:]}")
         return shown
 
 
@@ -278,7 +278,7 @@ class Judge:
         """Compares these texts: first what is read, then the bytes of what both read."""
         ours, theirs = ours_of(self.program, texts), self.rustc.trees(texts)
         if len(ours) != len(texts):
-            sys.exit(f"{self.program} told {len(ours)} texts of {len(texts)}")
+            sys.exit(f"{self.program} showed {len(ours)} texts of {len(texts)}")
         both = []
         for name, text, one, other in zip(names, texts, ours, theirs):
             if one.startswith("refused") and other.startswith("refused"):
@@ -342,7 +342,7 @@ def batches(pairs):
 
 
 def main():
-    """Does what the arguments ask for."""
+    """Runs the mode that the arguments name."""
     if len(sys.argv) < 4 or sys.argv[2] not in ("files", "chance", "lines"):
         sys.exit(__doc__)
     program, mode, rest = sys.argv[1], sys.argv[2], sys.argv[3:]

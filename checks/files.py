@@ -234,7 +234,7 @@ def try_version(files):
 
 
 def try_mistakes(files):
-    """Arguments that ask for nothing that there is."""
+    """Arguments that name no command, no option or no value."""
     files.mistake()
     files.mistake("frobnicate")
     files.mistake("tokens", "--no-such")

@@ -86,7 +86,7 @@ static const char SOURCE[] = "macro_rules! twice { ($x:tt) => { [$x $x] } }\nlet
 static const char EXPANDED[] = "macro_rules! twice { ($x:tt) => { [$x $x] } }\nlet  a = [b b]; // stays\n";
 static const char WRITTEN[] = "fn first (a : u8) -> u8 {a}";
 
-// Reads, writes and expands again and again, with outputs of its own, and tells whether all was right.
+// Reads, writes and expands again and again, with outputs of its own, and notes whether all was right.
 static void *work(void *right) {
     struct made tree = tree_of(TEXT);
     for (int round = 0; round < ROUNDS; round++) {

@@ -238,7 +238,7 @@ def try_deep(_room):
     except cuvolemin.Error as error:
         if (error.name, error.at) == ("Unclosed", DEPTH - 1):
             return
-    raise Wrong("brackets that are open at the end are not told")
+    raise Wrong("brackets that are open at the end give no fault")
 
 
 def try_threads(_room):

@@ -13,7 +13,7 @@ MUTANTS = [
     ("a subtree may contain more", "is not FAILS and found[0] == len(trees)", "is not FAILS"),
     ("only one level of subtrees is read", "found[0] == len(trees) and are_held(trees, found[1])", "found[0] == len(trees)"),
     ("a lifetime is one tree", '("lifetime", None, 2)', '("lifetime", None, 1)'),
-    ("puncts never stand as one", "count = glued_front(trees)", "count = 1"),
+    ("puncts never make one token", "count = glued_front(trees)", "count = 1"),
     ("an opaque subtree is none", '"OPAQUE": {"opaque", "invisible"}', '"OPAQUE": set()'),
 ]
 HELPERS = ""

@@ -126,10 +126,10 @@ QUESTIONS = [
     ),
     ("what is expanded has the input's top", f"self.slots[template].{TOPS}", f"self.slots[source].{TOPS}"),
     ("what is expanded has the pattern's top", f"self.slots[template].{TOPS}", f"self.slots[pattern].{TOPS}"),
-    ("arms asks for a tree to replace", '"arms": (0, 1)', '"arms": (0, 1, 2)'),
+    ("arms needs a tree to replace", '"arms": (0, 1)', '"arms": (0, 1, 2)'),
     ("arms takes an empty input for no match", ', "arms": (0, 1)', ', "arms": (0,)'),
     ("what arms make comes to the input", "self.slots[to] = made", "self.slots[source] = made"),
-    ("expand asks for a tree to replace", '"expand": (0, 1, 2)', '"expand": (0, 1, 2, 3)'),
+    ("expand needs a tree to replace", '"expand": (0, 1, 2)', '"expand": (0, 1, 2, 3)'),
     ("expand takes an empty input for no match", '"expand": (0, 1, 2)', '"expand": (0, 1)'),
     (
         "an opaque template's top is judged", ".children for slot in (pattern",

@@ -19,7 +19,7 @@ FAULTS = [
     ("any fragment is one", "or fragment.text not in FRAGMENTS", ""),
     *((f"{word} is no fragment", '("ident", "literal", "tt")', repr(tuple({"ident", "literal", "tt"} - {word})))
       for word in ("ident", "literal", "tt")),
-    ("any punct stands for the colon", IS_COLON, ""),
+    ("any punct is the colon", IS_COLON, ""),
     ("the colon is not hidden", IS_COLON, f'{IS_COLON} or trees[2].spacing == "hidden"'),
     ("a $ is not hidden", 'tree.char == "$"', 'tree.char == "$" and tree.spacing != "hidden"'),
     ("fault 3 is none at the end", "if variable[0] in names:", "if variable[0] in names and len(pattern) > 4:"),

@@ -18,8 +18,8 @@ TABLES = [
         "the top's parts count as used", "table(parts_used(top.children), SHORT_PARTS)",
         "table(parts_used([top]), SHORT_PARTS)",
     ),
-    ("the top's parts stand once where they are one", TOP_PARTS, f"list(dict.fromkeys({TOP_PARTS}))"),
-    ("the top's parts stand the other way", TOP_PARTS, f"{TOP_PARTS}[::-1]"),
+    ("the top's equal parts are stored once", TOP_PARTS, f"list(dict.fromkeys({TOP_PARTS}))"),
+    ("the top's parts are stored in the other order", TOP_PARTS, f"{TOP_PARTS}[::-1]"),
     (
         "an error uses no symbol", "if isinstance(tree, (Ident, Literal))",
         "if isinstance(tree, (Ident, Literal)) and getattr(tree, 'kind', '') != 'err'",

@@ -10,7 +10,7 @@ from plain_trees import Ident, Literal, Punct, Subtree, alone, glued_front
 # Brute force takes inputs of so many units at most, at any depth.
 MOST_UNITS = 16
 BRACKETS = {"paren": "(", "brace": "{", "bracket": "[", "invisible": "invisible", "opaque": "opaque"}
-# Stands before the text of a raw ident; no text of a tree has it, since a line has none.
+# Precedes the text of a raw ident; no text of a tree has it, since a line has none.
 RAW = "\n"
 NUMBERS = ("int", "float")
 FRAGMENTS = ("ident", "literal", "lifetime", "block", "vis", "tt", *plain_grammar.FRAGMENTS)

@@ -306,7 +306,7 @@ class Machine:
         return yes_or_no(self.slots[left] == self.slots[right])
 
 
-# The verbs that ask for a builder first.
+# The verbs that look for a builder first.
 BUILDER_VERBS = set("open push close append alone unwrap point restore expected counts build skip".split())
 # Which values of a command are slots that have to hold a tree.
 READ = {"copy": (1,), "equal": (0, 1), "expand": (0, 1, 2), "arms": (0, 1)}

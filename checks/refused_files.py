@@ -16,7 +16,7 @@ EXAMPLES = pathlib.Path(__file__).resolve().parent.parent / "examples" / "rust"
 # One that is written, one with warnings, one with errors, one with no tree.
 NAMES = ("nested", "squared", "faults", "mismatched")
 SECONDS = 60
-# The diagnostics of a run that ran out of memory: by the program, or by the system when it asks for the arguments.
+# The diagnostics of a run that ran out of memory: the program's, or the system's if it finds no room for the arguments.
 WANTING = (b"out of memory", b"Cannot allocate memory", b"memory allocation failed")
 
 

@@ -1,5 +1,5 @@
 // A library that is loaded in front of a program. Each of its reads gives one byte, and each of its writes takes at most
-// three. The read whose number, counted from 1, stands in FAIL_READ gives an error, and so does the write of FAIL_WRITE.
+// three. The read whose number, counted from 1, is in FAIL_READ gives an error, and so does the write of FAIL_WRITE.
 #include <errno.h>
 #include <stdlib.h>
 #include <sys/syscall.h>

@@ -1,14 +1,14 @@
-/* Rust texts, token trees in bytes, and macros. docs/EMBEDDING.md says how to link and what a caller has to keep.
+/* Rust texts, token trees in bytes, and macros. docs/EMBEDDING.md says how to link, and what a caller ensures.
  *
  * All functions
- *   - read from slices: a pointer and a number of bytes. The pointer is never null, not even where the number is 0;
- *   - answer CUVOLEMIN_OK, or the number of a fault from the table below, with its place in *at;
- *   - keep nothing, and hand no pointer out. All memory that they take from malloc is given back before they return;
+ *   - read from slices: a pointer and a number of bytes. The pointer is never null, not even if the number is 0;
+ *   - return CUVOLEMIN_OK, or the number of a fault from the table below, with its place in *at;
+ *   - keep nothing, and return no pointer. They free all memory that they take from malloc before they return;
  *   - may be called by several threads at once, if no two calls share what one of them writes.
  *
- * Those with an output write into out, which has room for out_len bytes, and set *written to the number of bytes that are made.
- * Where these are more than out_len, nothing is written and the answer is CUVOLEMIN_NO_ROOM: ask again with that much room. With any
- * other fault nothing is written, and *written is 0. out, written and at overlap with nothing else that is passed.
+ * Those with an output write into out, which has room for out_len bytes, and set *written to the number of bytes that they make.
+ * If these are more than out_len, they write nothing and return CUVOLEMIN_NO_ROOM: call again with that much room. With any other
+ * fault they write nothing and set *written to 0. out, written and at overlap with nothing else that the caller passes.
  */
 #ifndef CUVOLEMIN_H
 #define CUVOLEMIN_H
@@ -25,32 +25,32 @@ extern "C" {
 uint32_t tt_text_to_bytes(const uint8_t *text, size_t text_len, uint8_t *out, size_t out_len, size_t *written, size_t *at);
 
 /* The Rust text of the tree that has these bytes. Read again, it gives the same tokens.
- * Faults: 1, 2, 60 to 64, where *at is a byte of the input; 105, where it is how many tokens stand before the leaf; 106. */
+ * Faults: 1, 2, 60 to 64, with a byte of the input in *at; 105, with the number of tokens before the leaf in *at; 106. */
 uint32_t tt_bytes_to_text(const uint8_t *bytes, size_t bytes_len, uint8_t *out, size_t out_len, size_t *written, size_t *at);
 
-/* A Rust text in which each call of a macro that is defined in it becomes what the macro makes of it. All else stays byte for byte. Up to
- * 128 expansions may be inside one another, for which 512 KiB of stack were enough when measured, and $crate becomes crate. A call under
- * #[cfg(..)] stays only if the condition cannot apply to each part of its expansion. A call of a macro whose last definition is under
- * #[cfg(..)] stays if another definition of the name is in scope.
+/* A Rust text with the calls of its own macros expanded. All else stays byte for byte. Up to 128 expansions may be nested, for which
+ * 512 KiB of stack were enough when measured, and $crate becomes crate. A call under #[cfg(..)] stays only if the condition cannot apply
+ * to each part of its expansion. A call of a macro whose last definition is under #[cfg(..)] stays if another definition of the name is in
+ * scope.
  * Faults: 1 to 44; 81 to 92 but for 84, of definitions; 100 to 106, of calls; and 5 to 9 of either. *at is a byte of the text; 0 for faults
- * 1, 2 and 4, and for 5 to 9 where the text itself is past the limit. */
+ * 1, 2 and 4, and for 5 to 9 if the text itself exceeds the limit. */
 uint32_t tt_expand_text(const uint8_t *text, size_t text_len, uint8_t *out, size_t out_len, size_t *written, size_t *at);
 
 /* The bytes of what a macro makes of an input. Its arms, `(pattern) => {template}` with `;` between them, and the input are trees in bytes.
- * Faults: 1, 2, 5 to 9; 60 to 64, where *at is a byte of the arms; 70 to 74, where it is a byte of the input; 81 to 92 and 101 to 103, where
- * it is the number of the arm, from 0; 100, where it is how many tokens of the input stand before the place that no arm comes past. */
+ * Faults: 1, 2, 5 to 9; 60 to 64, with a byte of the arms in *at; 70 to 74, with a byte of the input; 81 to 92 and 101 to 103, with the
+ * number of the arm, from 0; 100, with the number of tokens of the input before the place that no arm passes. */
 uint32_t tt_expand_bytes(const uint8_t *arms, size_t arms_len, const uint8_t *input, size_t input_len, uint8_t *out, size_t out_len,
                          size_t *written, size_t *at);
 
-/* Whether bytes are those of a tree. Faults: 1, and 60 to 64, where *at is a byte of the input. */
+/* Whether bytes are a tree's. Faults: 1, and 60 to 64 with a byte of the input in *at. */
 uint32_t tt_check_bytes(const uint8_t *bytes, size_t bytes_len, size_t *at);
 
 /* The answers. A number keeps its meaning. */
 enum cuvolemin_answer {
     CUVOLEMIN_OK = 0,
-    /* Memory was refused. */
+    /* Memory ran out. */
     CUVOLEMIN_MEMORY = 1,
-    /* What is made is longer than the output. Nothing is written there. */
+    /* The result is longer than the output. Nothing is written there. */
     CUVOLEMIN_NO_ROOM = 2,
     /* The text is not UTF-8. */
     CUVOLEMIN_NOT_UTF8 = 3,
@@ -64,19 +64,19 @@ enum cuvolemin_answer {
     CUVOLEMIN_TOO_MANY_SYMBOLS = 7,
     /* The trees have too many bytes. */
     CUVOLEMIN_TOO_MANY_BYTES = 8,
-    /* Another limit of trees is passed. */
+    /* Another limit of trees is exceeded. */
     CUVOLEMIN_OTHER_LIMIT = 9,
-    /* A closing bracket where none is open. */
+    /* A closing bracket without an open one. */
     CUVOLEMIN_UNOPENED = 10,
-    /* A closing bracket that is no pair with the innermost that is open. */
+    /* A closing bracket that does not match the innermost open one. */
     CUVOLEMIN_MISMATCHED = 11,
-    /* The innermost bracket that is open at the end. */
+    /* The innermost bracket still open at the end. */
     CUVOLEMIN_UNCLOSED = 12,
-    /* `/ *` with no `* /` that closes it. */
+    /* `/ *` without a closing `* /`. */
     CUVOLEMIN_UNTERMINATED_COMMENT = 20,
-    /* A literal that nothing closes. */
+    /* A literal that is never closed. */
     CUVOLEMIN_UNTERMINATED_LITERAL = 21,
-    /* The hashes of a raw literal with no quote behind them. */
+    /* The hashes of a raw literal without a quote behind them. */
     CUVOLEMIN_RAW_WITHOUT_QUOTE = 22,
     /* More than 255 hashes. */
     CUVOLEMIN_TOO_MANY_HASHES = 23,
@@ -86,97 +86,97 @@ enum cuvolemin_answer {
     CUVOLEMIN_NEVER_RAW = 25,
     /* A character that begins no token. */
     CUVOLEMIN_UNKNOWN_CHARACTER = 26,
-    /* A name right before a quote or a `#`, which is no prefix of a literal. */
+    /* A name right before a quote or a `#` that is no prefix of a literal. */
     CUVOLEMIN_UNKNOWN_PREFIX = 27,
-    /* A name with emoji in it. */
+    /* A name that contains emoji. */
     CUVOLEMIN_INVALID_IDENT = 28,
     /* `##` or `#"`. */
     CUVOLEMIN_GUARDED_PREFIX = 29,
-    /* The letter of a base with no digit behind it. */
+    /* The letter of a base without a digit behind it. */
     CUVOLEMIN_NO_DIGITS = 30,
-    /* The `e` of a float with no digit behind it. */
+    /* The `e` of a float without a digit behind it. */
     CUVOLEMIN_EMPTY_EXPONENT = 31,
     /* A float that is not written in base ten. */
     CUVOLEMIN_FLOAT_OF_ANOTHER_BASE = 32,
-    /* A digit that the number's base has not. */
+    /* A digit that the number's base does not have. */
     CUVOLEMIN_FOREIGN_DIGIT = 33,
     /* A byte or a byte string with a character beyond ASCII. */
     CUVOLEMIN_BEYOND_ASCII = 34,
-    /* A carriage return that no line feed follows. */
+    /* A carriage return without a line feed behind it. */
     CUVOLEMIN_BARE_RETURN = 35,
-    /* An escape that such a literal has not. */
+    /* An escape that such a literal does not have. */
     CUVOLEMIN_UNKNOWN_ESCAPE = 36,
     /* `\x` without two digits of base 16. */
     CUVOLEMIN_BAD_HEX_ESCAPE = 37,
-    /* `\x80` or more where it would be no character. */
+    /* `\x80` or more, if that would be no character. */
     CUVOLEMIN_HEX_ESCAPE_TOO_LARGE = 38,
-    /* `\u` that gives no character. */
+    /* `\u` that spells no character. */
     CUVOLEMIN_BAD_UNICODE_ESCAPE = 39,
-    /* A character that stands in a character literal behind a backslash alone. */
+    /* A character that a character literal allows only behind a backslash. */
     CUVOLEMIN_WANTS_ESCAPE = 40,
-    /* A character literal with nothing in it. */
+    /* A character literal without a character. */
     CUVOLEMIN_EMPTY_CHAR = 41,
-    /* A character literal with several characters in it. */
+    /* A character literal with several characters. */
     CUVOLEMIN_SEVERAL_CHARS = 42,
     /* A null in a C string. */
     CUVOLEMIN_NULL_IN_C_STR = 43,
     /* `'` and a digit. */
     CUVOLEMIN_LIFETIME_BEGINS_WITH_DIGIT = 44,
-    /* The bytes end where more have to come. */
+    /* The bytes end too early. */
     CUVOLEMIN_BYTES_TOO_SHORT = 60,
-    /* The bytes are of another format, or another version of this one. */
+    /* The bytes have another format, or another version of this one. */
     CUVOLEMIN_BYTES_OF_OTHER_FORMAT = 61,
-    /* A symbol's text is no UTF-8. */
+    /* A symbol's text is not UTF-8. */
     CUVOLEMIN_BYTES_WITHOUT_TEXT = 62,
-    /* The bytes hold no tree. */
+    /* The bytes contain no tree. */
     CUVOLEMIN_BYTES_WITHOUT_TREE = 63,
-    /* The bytes hold a tree that has others. */
+    /* The bytes contain a tree that is stored as other bytes. */
     CUVOLEMIN_BYTES_STORED_OTHERWISE = 64,
-    /* The bytes of the input end where more have to come. */
+    /* The bytes of the input end too early. */
     CUVOLEMIN_INPUT_TOO_SHORT = 70,
-    /* The bytes of the input are of another format. */
+    /* The bytes of the input have another format. */
     CUVOLEMIN_INPUT_OF_OTHER_FORMAT = 71,
-    /* A symbol's text in the bytes of the input is no UTF-8. */
+    /* A symbol's text in the bytes of the input is not UTF-8. */
     CUVOLEMIN_INPUT_WITHOUT_TEXT = 72,
-    /* The bytes of the input hold no tree. */
+    /* The bytes of the input contain no tree. */
     CUVOLEMIN_INPUT_WITHOUT_TREE = 73,
-    /* The bytes of the input hold a tree that has others. */
+    /* The bytes of the input contain a tree that is stored as other bytes. */
     CUVOLEMIN_INPUT_STORED_OTHERWISE = 74,
-    /* No pattern stands where an arm should begin. */
+    /* No pattern comes where an arm should begin. */
     CUVOLEMIN_NO_PATTERN = 81,
     /* A `$` of a pattern begins nothing. */
     CUVOLEMIN_BEGINS_NOTHING = 82,
-    /* No fragment has the name that a variable gives. */
+    /* A variable names a fragment that does not exist. */
     CUVOLEMIN_UNKNOWN_FRAGMENT = 83,
-    /* A call is left as it is. That is no fault, so no function answers it. */
+    /* A call is left as it is. That is no fault, so no function returns it. */
     CUVOLEMIN_LEFT = 84,
-    /* A name is given to two variables. */
+    /* Two variables have the same name. */
     CUVOLEMIN_NAME_TWICE = 85,
-    /* A repetition has a separator and never two rounds. */
+    /* A repetition has a separator but never two rounds. */
     CUVOLEMIN_NEEDLESS_SEPARATOR = 86,
-    /* What a repetition repeats may take no tree. */
+    /* The body of a repetition may match zero trees. */
     CUVOLEMIN_EMPTY_REPETITION = 87,
-    /* `=>` does not stand behind a pattern. */
+    /* No `=>` follows a pattern. */
     CUVOLEMIN_NO_ARROW = 88,
-    /* No template stands behind `=>`. */
+    /* No template follows `=>`. */
     CUVOLEMIN_NO_TEMPLATE = 89,
-    /* A variable is used in fewer repetitions than it stands in. */
+    /* A variable is used in fewer repetitions than it is declared in. */
     CUVOLEMIN_STILL_REPEATS = 90,
     /* Nothing repeats in a repetition of a template. */
     CUVOLEMIN_NOTHING_REPEATS = 91,
-    /* Behind a template stands neither the end nor `;`. */
+    /* Neither the end nor `;` follows a template. */
     CUVOLEMIN_NO_SEMICOLON = 92,
-    /* No arm takes the input. */
+    /* No arm matches the input. */
     CUVOLEMIN_NO_MATCH = 100,
-    /* An arm takes the input in two ways. */
+    /* An arm matches the input in two ways. */
     CUVOLEMIN_AMBIGUOUS = 101,
     /* Variables of a repetition have different numbers of rounds. */
     CUVOLEMIN_LENGTHS_DIFFER = 102,
-    /* A repetition that wants a round has none. */
+    /* A repetition that needs a round has none. */
     CUVOLEMIN_NO_ROUND = 103,
-    /* Too many expansions stand one inside the other. */
+    /* Too many expansions are nested. */
     CUVOLEMIN_TOO_DEEP = 104,
-    /* A leaf of the tree is written as no text that reads back. */
+    /* A leaf of the tree cannot be written as a text that reads back. */
     CUVOLEMIN_NOT_WRITABLE = 105,
     /* The text would have 4,294,967,295 bytes or more. */
     CUVOLEMIN_MADE_TOO_LONG = 106,

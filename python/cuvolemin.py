@@ -9,71 +9,71 @@ import pathlib
 
 # The table of include/cuvolemin.h.
 FAULTS = {
-    1: ('Memory', 'Memory was refused.'),
-    2: ('NoRoom', 'What is made is longer than the output. Nothing is written there.'),
+    1: ('Memory', 'Memory ran out.'),
+    2: ('NoRoom', 'The result is longer than the output. Nothing is written there.'),
     3: ('NotUtf8', 'The text is not UTF-8.'),
     4: ('TextTooLong', 'The text has 4,294,967,296 bytes or more.'),
     5: ('TooManyTokens', 'The trees have too many tokens.'),
     6: ('TooManySpanParts', 'The trees have too many span parts.'),
     7: ('TooManySymbols', 'The trees have too many symbols.'),
     8: ('TooManyBytes', 'The trees have too many bytes.'),
-    9: ('OtherLimit', 'Another limit of trees is passed.'),
-    10: ('Unopened', 'A closing bracket where none is open.'),
-    11: ('Mismatched', 'A closing bracket that is no pair with the innermost that is open.'),
-    12: ('Unclosed', 'The innermost bracket that is open at the end.'),
-    20: ('UnterminatedComment', '`/*` with no `*/` that closes it.'),
-    21: ('UnterminatedLiteral', 'A literal that nothing closes.'),
-    22: ('RawWithoutQuote', 'The hashes of a raw literal with no quote behind them.'),
+    9: ('OtherLimit', 'Another limit of trees is exceeded.'),
+    10: ('Unopened', 'A closing bracket without an open one.'),
+    11: ('Mismatched', 'A closing bracket that does not match the innermost open one.'),
+    12: ('Unclosed', 'The innermost bracket still open at the end.'),
+    20: ('UnterminatedComment', '`/*` without a closing `*/`.'),
+    21: ('UnterminatedLiteral', 'A literal that is never closed.'),
+    22: ('RawWithoutQuote', 'The hashes of a raw literal without a quote behind them.'),
     23: ('TooManyHashes', 'More than 255 hashes.'),
     24: ('SuffixTooLong', 'A suffix of more than 255 bytes.'),
     25: ('NeverRaw', '`r#` before a name that is never raw.'),
     26: ('UnknownCharacter', 'A character that begins no token.'),
-    27: ('UnknownPrefix', 'A name right before a quote or a `#`, which is no prefix of a literal.'),
-    28: ('InvalidIdent', 'A name with emoji in it.'),
+    27: ('UnknownPrefix', 'A name right before a quote or a `#` that is no prefix of a literal.'),
+    28: ('InvalidIdent', 'A name that contains emoji.'),
     29: ('GuardedPrefix', '`##` or `#"`.'),
-    30: ('NoDigits', 'The letter of a base with no digit behind it.'),
-    31: ('EmptyExponent', 'The `e` of a float with no digit behind it.'),
+    30: ('NoDigits', 'The letter of a base without a digit behind it.'),
+    31: ('EmptyExponent', 'The `e` of a float without a digit behind it.'),
     32: ('FloatOfAnotherBase', 'A float that is not written in base ten.'),
-    33: ('ForeignDigit', "A digit that the number's base has not."),
+    33: ('ForeignDigit', "A digit that the number's base does not have."),
     34: ('BeyondAscii', 'A byte or a byte string with a character beyond ASCII.'),
-    35: ('BareReturn', 'A carriage return that no line feed follows.'),
-    36: ('UnknownEscape', 'An escape that such a literal has not.'),
+    35: ('BareReturn', 'A carriage return without a line feed behind it.'),
+    36: ('UnknownEscape', 'An escape that such a literal does not have.'),
     37: ('BadHexEscape', '`\\x` without two digits of base 16.'),
-    38: ('HexEscapeTooLarge', '`\\x80` or more where it would be no character.'),
-    39: ('BadUnicodeEscape', '`\\u` that gives no character.'),
-    40: ('WantsEscape', 'A character that stands in a character literal behind a backslash alone.'),
-    41: ('EmptyChar', 'A character literal with nothing in it.'),
-    42: ('SeveralChars', 'A character literal with several characters in it.'),
+    38: ('HexEscapeTooLarge', '`\\x80` or more, if that would be no character.'),
+    39: ('BadUnicodeEscape', '`\\u` that spells no character.'),
+    40: ('WantsEscape', 'A character that a character literal allows only behind a backslash.'),
+    41: ('EmptyChar', 'A character literal without a character.'),
+    42: ('SeveralChars', 'A character literal with several characters.'),
     43: ('NullInCStr', 'A null in a C string.'),
     44: ('LifetimeBeginsWithDigit', "`'` and a digit."),
-    60: ('BytesTooShort', 'The bytes end where more have to come.'),
-    61: ('BytesOfOtherFormat', 'The bytes are of another format, or another version of this one.'),
-    62: ('BytesWithoutText', "A symbol's text is no UTF-8."),
-    63: ('BytesWithoutTree', 'The bytes hold no tree.'),
-    64: ('BytesStoredOtherwise', 'The bytes hold a tree that has others.'),
-    70: ('InputTooShort', 'The bytes of the input end where more have to come.'),
-    71: ('InputOfOtherFormat', 'The bytes of the input are of another format.'),
-    72: ('InputWithoutText', "A symbol's text in the bytes of the input is no UTF-8."),
-    73: ('InputWithoutTree', 'The bytes of the input hold no tree.'),
-    74: ('InputStoredOtherwise', 'The bytes of the input hold a tree that has others.'),
-    81: ('NoPattern', 'No pattern stands where an arm should begin.'),
+    60: ('BytesTooShort', 'The bytes end too early.'),
+    61: ('BytesOfOtherFormat', 'The bytes have another format, or another version of this one.'),
+    62: ('BytesWithoutText', "A symbol's text is not UTF-8."),
+    63: ('BytesWithoutTree', 'The bytes contain no tree.'),
+    64: ('BytesStoredOtherwise', 'The bytes contain a tree that is stored as other bytes.'),
+    70: ('InputTooShort', 'The bytes of the input end too early.'),
+    71: ('InputOfOtherFormat', 'The bytes of the input have another format.'),
+    72: ('InputWithoutText', "A symbol's text in the bytes of the input is not UTF-8."),
+    73: ('InputWithoutTree', 'The bytes of the input contain no tree.'),
+    74: ('InputStoredOtherwise', 'The bytes of the input contain a tree that is stored as other bytes.'),
+    81: ('NoPattern', 'No pattern comes where an arm should begin.'),
     82: ('BeginsNothing', 'A `$` of a pattern begins nothing.'),
-    83: ('UnknownFragment', 'No fragment has the name that a variable gives.'),
-    84: ('Left', "A call is left as it is. That is no fault, so no function answers it."),
-    85: ('NameTwice', 'A name is given to two variables.'),
-    86: ('NeedlessSeparator', 'A repetition has a separator and never two rounds.'),
-    87: ('EmptyRepetition', 'What a repetition repeats may take no tree.'),
-    88: ('NoArrow', '`=>` does not stand behind a pattern.'),
-    89: ('NoTemplate', 'No template stands behind `=>`.'),
-    90: ('StillRepeats', 'A variable is used in fewer repetitions than it stands in.'),
+    83: ('UnknownFragment', 'A variable names a fragment that does not exist.'),
+    84: ('Left', 'A call is left as it is. That is no fault, so no function returns it.'),
+    85: ('NameTwice', 'Two variables have the same name.'),
+    86: ('NeedlessSeparator', 'A repetition has a separator but never two rounds.'),
+    87: ('EmptyRepetition', 'The body of a repetition may match zero trees.'),
+    88: ('NoArrow', 'No `=>` follows a pattern.'),
+    89: ('NoTemplate', 'No template follows `=>`.'),
+    90: ('StillRepeats', 'A variable is used in fewer repetitions than it is declared in.'),
     91: ('NothingRepeats', 'Nothing repeats in a repetition of a template.'),
-    92: ('NoSemicolon', 'Behind a template stands neither the end nor `;`.'),
-    100: ('NoMatch', 'No arm takes the input.'),
-    101: ('Ambiguous', 'An arm takes the input in two ways.'),
+    92: ('NoSemicolon', 'Neither the end nor `;` follows a template.'),
+    100: ('NoMatch', 'No arm matches the input.'),
+    101: ('Ambiguous', 'An arm matches the input in two ways.'),
     102: ('LengthsDiffer', 'Variables of a repetition have different numbers of rounds.'),
-    103: ('NoRound', 'A repetition that wants a round has none.'),
-    104: ('TooDeep', 'Too many expansions stand one inside the other.'),
-    105: ('NotWritable', 'A leaf of the tree is written as no text that reads back.'),
+    103: ('NoRound', 'A repetition that needs a round has none.'),
+    104: ('TooDeep', 'Too many expansions are nested.'),
+    105: ('NotWritable', 'A leaf of the tree cannot be written as a text that reads back.'),
     106: ('MadeTooLong', 'The text would have 4,294,967,295 bytes or more.'),
 }
 
@@ -81,7 +81,7 @@ NO_ROOM = 2
 
 
 class Error(ValueError):
-    """Why a call gave nothing: the number of the fault, its name, and the place, of which the header says what it counts."""
+    """Why a call gave nothing: the number of the fault, its name, and the place; the header says what the place counts."""
 
     def __init__(self, number, at):
         self.number = number
@@ -113,7 +113,7 @@ _LIBRARY = _library()
 
 
 def _made(function, room, *inputs):
-    """What a function makes of inputs: first with so much room, and with what it needs where that is more."""
+    """What a function makes of inputs: first with so much room, then with what it needs if that is more."""
     slices = [word for data in inputs for word in (data, len(data))]
     while True:
         out = ctypes.create_string_buffer(max(room, 1))
@@ -128,12 +128,12 @@ def _made(function, room, *inputs):
 
 @functools.total_ordering
 class Tree:
-    """A token tree, held as its bytes: two trees are equal exactly where their bytes are, and are ordered by them."""
+    """A token tree, held as its bytes: two trees are equal exactly if their bytes are, and are ordered by them."""
 
     __slots__ = ("_bytes",)
 
     def __init__(self, data):
-        """The tree that has these bytes. Error where no tree has them."""
+        """The tree that has these bytes. Error if no tree has them."""
         data = bytes(data)
         at = ctypes.c_size_t()
         number = _LIBRARY.tt_check_bytes(data, len(data), ctypes.byref(at))
@@ -160,11 +160,11 @@ class Tree:
         return hash(self._bytes)
 
     def to_text(self):
-        """Its Rust text. Error where a leaf can't be written so that it reads back."""
+        """Its Rust text. Error if a leaf cannot be written so that it reads back."""
         return _made(_LIBRARY.tt_bytes_to_text, 2 * len(self._bytes), self._bytes).decode()
 
     def expand(self, source):
-        """What the macro makes of an input, where this tree's trees are its arms."""
+        """What the macro whose arms are this tree's trees makes of an input."""
         room = 2 * (len(self._bytes) + len(source._bytes))
         return Tree._of(_made(_LIBRARY.tt_expand_bytes, room, self._bytes, source._bytes))
 
@@ -185,6 +185,6 @@ def parse(text):
 
 
 def expand(text):
-    """The Rust text in which each call of a macro that is defined in it becomes what the macro makes of it."""
+    """The Rust text with the calls of its own macros expanded."""
     data = _bytes_of(text)
     return _made(_LIBRARY.tt_expand_text, 64 + 2 * len(data), data).decode()

@@ -9,9 +9,9 @@ pub use error::Error;
 pub use fault::Fault;
 pub use tree::{Tree, parse};
 
-/// The Rust text in which each call of a macro that is defined in it becomes what the macro makes of it. All else stays byte for byte.
+/// The Rust text with the calls of its own macros expanded. All else stays byte for byte.
 ///
-/// An error tells the byte of the text where it shows.
+/// An error has the byte of the text at which it shows.
 pub fn expand(text: &str) -> Result<String, Error> {
     let made = made(64 + 2 * text.len(), |out, written, at| {
         // Safety: each pointer is that of a slice or of a number which lives as long as the call, and none overlap.
@@ -29,7 +29,7 @@ pub fn expand(text: &str) -> Result<String, Error> {
     Ok(text_of(made))
 }
 
-/// What a call makes: first with so much room, and with what it needs where that is more.
+/// What a call makes: first with so much room, then with what it needs if that is more.
 fn made(
     room: usize,
     mut call: impl FnMut(&mut [u8], &mut usize, &mut usize) -> u32,

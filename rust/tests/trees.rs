@@ -36,7 +36,7 @@ fn equal_trees_are_equal_bytes() {
     let same = Tree::from_bytes(one.as_bytes().to_vec()).unwrap();
     let other = parse("a  b").unwrap();
     assert_eq!(one, same);
-    assert_ne!(one, other, "the second name stands at another byte");
+    assert_ne!(one, other, "the second name is at another byte");
     assert_eq!(
         [&one, &same, &other]
             .into_iter()
@@ -90,7 +90,7 @@ fn faults_of_texts_have_places() {
     );
     assert_eq!(
         fault_of("( ]").to_string(),
-        "A closing bracket that is no pair with the innermost that is open. At 2."
+        "A closing bracket that does not match the innermost open one. At 2."
     );
 }
 

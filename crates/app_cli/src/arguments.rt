@@ -75,7 +75,7 @@ fn expands<'a>(
         .value_name("N")
         .value_parser(ValueParser::unsigned(1, MOST_LIMIT))
         .default_value("128")
-        .help("How many expansions may stand one inside the other, from 1 to 1000");
+        .help("How many expansions may be nested, from 1 to 1000");
     reads(alloc, name, about, file)?
         .arg(everywhere)?
         .arg(root)?

@@ -60,7 +60,7 @@ fn push_calls(
     Ok(())
 }
 
-// Opens the subtree of a header that stands at a place.
+// Opens the subtree of the header at a place.
 fn push_open(
     calls: &mut Vec<Call>,
     open: &mut Vec<Opened>,

@@ -8,7 +8,7 @@ use tt_bytes::BytesFault;
 /// Why nothing was timed.
 #[derive(Debug, Clone, Copy, Error)]
 pub enum BenchError {
-    /// The arguments ask for nothing that there is.
+    /// The arguments describe no job.
     #[error("usage: bench_store MODE ROUNDS [apart] < ITEMS\n\
         MODE: pack build rewrite ids expand load flat flat_whole skip siblings siblings_whole walk show display pretty debug equal fold sip clone save drop")]
     Usage,

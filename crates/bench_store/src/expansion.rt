@@ -54,7 +54,7 @@ pub struct Instance<'a> {
 }
 
 impl<'a> Instance<'a> {
-    /// The rules, each with its input. A rule has a fault where its tree holds a `$`.
+    /// The rules, each with its input. A rule has a fault if its tree holds a `$`.
     pub fn all(alloc: Global, expansions: &'a [Expansion]) -> Result<Vec<Instance<'a>>, RuleFault> {
         let mut all = Vec::new(alloc);
         for expansion in expansions {
@@ -63,7 +63,7 @@ impl<'a> Instance<'a> {
         Ok(all)
     }
 
-    /// What comes of the input.
+    /// The expansion of the input.
     pub fn expand(&self, alloc: Global) -> Result<TopSubtree, BenchError> {
         match self.rule.expand(alloc, self.input.token_trees())? {
             Some(tree) => Ok(tree),

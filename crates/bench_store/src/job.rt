@@ -1,11 +1,11 @@
-//! What the arguments ask for.
+//! The job that the arguments describe.
 use crate::error::BenchError;
 use crate::items::Texts;
 use crate::mode::Mode;
 use std::env;
 use std::rt::Env;
 
-/// What the arguments ask for.
+/// The job that the arguments describe.
 #[derive(Clone, Copy)]
 pub struct Job {
     pub mode: Mode,
@@ -14,7 +14,7 @@ pub struct Job {
 }
 
 impl Job {
-    /// The job of the arguments `MODE ROUNDS [apart]`. `Usage` where they are something else.
+    /// The job of the arguments `MODE ROUNDS [apart]`. `Usage` if they are something else.
     pub fn from_args<R: Env + AllocGlobal>(rt: &R) -> Result<Job, BenchError> {
         let mut args = env::args(rt)?;
         let _program = args.next();

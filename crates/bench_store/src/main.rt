@@ -43,7 +43,7 @@ fn main(rt: HostRuntime) -> ExitCode {
     }
 }
 
-// Does what the arguments ask for.
+// Does the job that the arguments describe.
 fn run<R: Env + Input + Print + CpuClock + AllocGlobal>(rt: &R) -> Result<(), BenchError> {
     let job = Job::from_args(rt)?;
     let text = all_input(rt.alloc(), rt)?;

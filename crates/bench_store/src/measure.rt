@@ -257,7 +257,7 @@ fn expand<R: CpuClock>(
     )
 }
 
-// Each round expands the input of a tree by the tree's rule. A tree that comes of it is let go after the watch stopped.
+// Each round expands the input of a tree by the tree's rule. The expansion is dropped after the watch stopped.
 fn expand_each<R: CpuClock>(
     watch: &mut Stopwatch<R>,
     alloc: Global,

@@ -9,7 +9,7 @@ pub struct Stopwatch<'a, R> {
     clock: &'a R,
     begun: Duration,
     total: Duration,
-    // why the clock was not read, where it failed
+    // why the clock was not read, if it failed
     failed: Option<io::Error>,
 }
 
@@ -46,7 +46,7 @@ impl<'a, R: CpuClock> Stopwatch<'a, R> {
         self.total = self.total.saturating_add(now.saturating_sub(self.begun));
     }
 
-    /// All time so far. Fails where the clock has failed.
+    /// All time so far. Fails if the clock has failed.
     pub fn total(&self) -> io::Result<Duration> {
         match self.failed {
             Some(error) => Err(error),

@@ -15,7 +15,7 @@ impl<'a, T> Turns<'a, T> {
         Turns { values, place: 0 }
     }
 
-    /// The value whose turn it is. `NotOneSubtree` where there is none at all.
+    /// The value whose turn it is. `NotOneSubtree` if there is none at all.
     pub fn next(&mut self) -> Result<&mut T, TtFault> {
         let place = self.place;
         let behind = place.saturating_add(1);

@@ -21,8 +21,8 @@ pub struct Pair<'a> {
 }
 
 impl Twins {
-    /// The trees of the lists, twice. Twins share no block but those of their texts, and these only where texts are shared;
-    /// else the lines of the lists are read once more. `NotOneSubtree` where there are no lists.
+    /// The trees of the lists, twice. Twins share no block but those of their texts, and these only if texts are shared;
+    /// else the lines of the lists are read once more. `NotOneSubtree` if there are no lists.
     pub fn new(
         alloc: Global,
         lists: &[Vec<TokenTree>],

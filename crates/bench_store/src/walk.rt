@@ -25,7 +25,7 @@ pub enum Walk {
 }
 
 impl Walk {
-    /// The sum of the start offsets of the tokens that are read. `TooDeep` where a walk by siblings cannot enter all.
+    /// The sum of the start offsets of the tokens that are read. `TooDeep` if a walk by siblings cannot enter all.
     pub fn sum(self, alloc: Global, tree: &TopSubtree) -> Result<u64, BenchError> {
         match self {
             Walk::Flat => Ok(flat::<AtStart>(tree)),
@@ -65,7 +65,7 @@ fn siblings<L: Look>(tree: &TopSubtree) -> Result<u64, BenchError> {
     sum_of::<L>(all, MOST_DEPTH).ok_or(BenchError::TooDeep)
 }
 
-// The sum of siblings and of all that they hold. `None` tells that they hold more levels than so many.
+// The sum of siblings and of all that they hold. `None` if they hold more levels than so many.
 fn sum_of<L: Look>(siblings: TtIter<'_>, levels: u32) -> Option<u64> {
     if levels == 0 {
         return None;

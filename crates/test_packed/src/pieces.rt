@@ -128,7 +128,7 @@ fn is_stored_otherwise(
     Ok(read(alloc, &bytes)?.err() == Some(BytesFault::StoredOtherwise(at)))
 }
 
-// Whether a byte behind the end, and a top that counts bytes that there are not, are told.
+// Whether a byte behind the end, and a top that counts missing bytes, are faults.
 fn are_stored_otherwise(alloc: Global) -> Result<bool, TtFault> {
     Ok(
         is_stored_otherwise(alloc, 0, b't', b"\x00", 73)?

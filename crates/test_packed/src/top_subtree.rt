@@ -89,7 +89,7 @@ fn hash_so(tree: &TopSubtree, again: &TopSubtree, other: &TopSubtree, seed: u64)
     is_alike && under_sip != sip(other, seed) && under_fold != fold(other, seed)
 }
 
-// Whether the first two trees are equal and hash alike from each seed, and the other one is told apart from them.
+// Whether the first two trees are equal and hash alike from each seed, and the other one differs from them.
 fn hash_by_value(tree: &TopSubtree, again: &TopSubtree, other: &TopSubtree) -> bool {
     for seed in &SEEDS {
         if !hash_so(tree, again, other, *seed) {

@@ -1,4 +1,4 @@
-//! Calls that are made where memory may be refused, and what is said of them.
+//! Calls that are made when memory may be refused, and what the program says of them.
 use crate::groups::say;
 use tt::TtFault;
 
@@ -13,7 +13,7 @@ pub enum When {
 
 /// A call, with what it is given.
 pub trait Call {
-    /// Makes the call. Whether what it gives is right; `Ok(false)` also where it hands back something else than it was given.
+    /// Makes the call. Whether its result is right; `Ok(false)` also if it hands back something else than its argument.
     fn make(&mut self) -> Result<bool, TtFault>;
 
     /// Whether all is as the call has to leave it.

@@ -6,7 +6,7 @@ use tt::TtFault;
 
 /// The groups of calls that a program makes.
 pub trait Groups {
-    /// How the call of that group ended. `NoSuchPlace` where there is none.
+    /// How the call of that group ended. `NoSuchPlace` if there is none.
     fn judged<R: Print + AllocGlobal>(
         rt: &R,
         group: &str,

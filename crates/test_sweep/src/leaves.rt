@@ -24,7 +24,7 @@ pub fn plus(id: u32) -> Leaf {
     punct('+', Spacing::Joint, id)
 }
 
-/// A leaf with that id: a joint plus, another sign, which stands alone, or else an ident.
+/// A leaf with that id: a joint plus, another sign, which is alone, or else an ident.
 pub fn leaf(alloc: Global, text: &str, id: u32) -> Result<Leaf, TtFault> {
     match text {
         "+" => Ok(plus(id)),

@@ -1,4 +1,4 @@
-//! What a program that sweeps calls is made of: calls that may be refused, what is said of them, and what they are given.
+//! The parts of a program that sweeps calls: calls that may be refused, what the program says of them, and their arguments.
 #![tactic(auto)]
 
 mod call;

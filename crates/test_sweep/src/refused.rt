@@ -1,4 +1,4 @@
-//! What a call hands back where it is refused.
+//! What a call hands back if it is refused.
 use tt::{Leaf, Refused, TtFault};
 
 /// The fault of a call that handed back a leaf, if that is the leaf that it was given.

@@ -5,7 +5,7 @@ use tt::{Refused, Span, SubtreeBuilderRestorePoint, TopSubtree, TopSubtreeBuilde
 // More than any builder here has open.
 const MOST_OPEN: u8 = 8;
 
-/// The id of the span by which what is still open is closed. No other span has it, so the tree tells what was open.
+/// The id of the span that closes what is still open. No other span has it, so the tree shows what was open.
 pub const MARK: u32 = 99;
 
 /// Closes the innermost open subtree by that span, if there is one.
@@ -24,7 +24,7 @@ fn close_all(builder: &mut TopSubtreeBuilder) -> Result<(), TtFault> {
     Ok(())
 }
 
-/// What `build` makes of a builder in which nothing is open, or `build_skip_top_subtree` where the name is that.
+/// What `build` makes of a builder in which nothing is open, or `build_skip_top_subtree` if the name is that.
 pub fn built(
     name: &str,
     builder: TopSubtreeBuilder,
@@ -41,8 +41,8 @@ pub fn built(
     }
 }
 
-/// Whether the point of that number stands, and the tree that a copy of the builder makes once it is restored and what is
-/// still open is closed by the mark. A point that does not stand changes nothing.
+/// Whether the point of that number is valid, and the tree that a copy of the builder makes once it is restored and the mark
+/// has closed what is still open. A point that is not valid changes nothing.
 pub fn restored(builder: &TopSubtreeBuilder, number: u64) -> Result<(bool, TopSubtree), TtFault> {
     let mut copy = builder.clone()?;
     let stood = copy.restore(SubtreeBuilderRestorePoint::from_number(number));

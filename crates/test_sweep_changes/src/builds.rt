@@ -1,4 +1,4 @@
-//! Calls that take a builder, and hand it back where they are refused.
+//! Calls that take a builder, and hand it back if they are refused.
 use crate::alike::{are_alike, built};
 use std::alloc::Global;
 use test_sweep::{Call, When, invisible, judge, long_tree};

@@ -43,7 +43,7 @@ const SHIFT: u32 = 100;
 // The place of the last token of the tree, a plus.
 const LAST: usize = 24;
 
-// The place of the first bracket, and the id that its two spans get where they become one.
+// The place of the first bracket, and the id that its two spans get if they become one.
 const FIRST: usize = 1;
 
 const JOINED: u32 = 2 + SHIFT;
@@ -124,7 +124,7 @@ impl Editing<'_> {
         }
     }
 
-    // The ids that are asked for are a front of those of the table, and all of them where the call succeeds.
+    // The callback gets the first ids of the table, and all of them if the call succeeds.
     fn change_ids(&mut self, joins: bool) -> Result<bool, TtFault> {
         let mut rest = self.before.span_part_table();
         let mut in_order = true;
@@ -138,7 +138,7 @@ impl Editing<'_> {
         asked(changed, in_order, rest.is_empty())
     }
 
-    // The tokens that are shown are a front of the tree's, and all of them where the call succeeds.
+    // The call shows the first tokens of the tree, and all of them if it succeeds.
     fn transform(&mut self) -> Result<bool, TtFault> {
         let mut rest = self.before.as_token_trees().iter_flat_tokens();
         let mut in_order = true;
@@ -156,7 +156,7 @@ impl Editing<'_> {
     }
 }
 
-// The id that stands for an id. Those of the top and of the pluses stay.
+// The id that replaces an id. Those of the top and of the pluses stay.
 fn new_id(joins: bool, id: ErasedFileAstId) -> ErasedFileAstId {
     match (joins, id.0) {
         (_, 0) => id,
@@ -165,7 +165,7 @@ fn new_id(joins: bool, id: ErasedFileAstId) -> ErasedFileAstId {
     }
 }
 
-// A callback has to be asked in order, and in full where the call succeeds.
+// A call must ask its callback in order, and in full if it succeeds.
 fn asked(changed: Result<(), TtFault>, in_order: bool, in_full: bool) -> Result<bool, TtFault> {
     if !in_order {
         return Ok(false);

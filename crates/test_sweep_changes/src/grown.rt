@@ -77,7 +77,7 @@ const TEN: [(&str, u32); 10] = [
 pub const TAKEN: u64 = 5;
 
 /// A builder of braces over an empty invisible subtree and four open brackets, and in the innermost the puncts and the idents.
-/// Of its five restore points the second does not stand. So it has 25 tokens, four open subtrees and four points, and no room
+/// Of its five restore points the second is not valid. So it has 25 tokens, four open subtrees and four points, and no room
 /// for one more of any.
 pub fn builder(alloc: Global) -> Result<TopSubtreeBuilder, TtFault> {
     let mut builder = TopSubtreeBuilder::new(alloc, braces())?;
@@ -112,7 +112,7 @@ fn push_leaves(builder: &mut TopSubtreeBuilder, leaves: Vec<Leaf>) -> Result<(),
     Ok(())
 }
 
-/// The tree of what the builder makes behind the call, when what is open is closed by the mark.
+/// The tree that the builder makes behind the call, when the mark has closed all that is open.
 pub fn after(alloc: Global, call: &str) -> Result<TopSubtree, TtFault> {
     if call == "TopSubtreeBuilder::new" {
         return flat_tree(alloc, &[]);
@@ -139,7 +139,7 @@ fn appended(alloc: Global, call: &str) -> Result<Vec<Leaf>, TtFault> {
     }
 }
 
-// Ten leaves, of which the last stands alone.
+// Ten leaves, of which the last is alone.
 fn last_alone(leaves: Vec<Leaf>) -> Vec<Leaf> {
     let mut leaves = leaves;
     if let Some(last) = leaves.last_mut() {

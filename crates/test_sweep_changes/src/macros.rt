@@ -53,7 +53,7 @@ fn rules_of(alloc: Global, arms: &TopSubtree) -> Result<MacroRules, TtFault> {
     }
 }
 
-// What comes of the input, if something does.
+// The expansion of the input, if there is one.
 fn expanded(
     alloc: Global,
     rules: &MacroRules,
@@ -71,7 +71,7 @@ fn expanded(
     }
 }
 
-// The arms of a macro, that macro, an input for it, and what comes of that.
+// The arms of a macro, that macro, an input for it, and its expansion.
 #[derive(Clone, Copy)]
 struct Macro<'a> {
     call: &'a str,

@@ -13,7 +13,7 @@ const TEMPLATE: [(&str, u32); 4] = [("$", 0), ("x", 3), ("$", 0), ("x", 4)];
 // `a;`
 const INPUT: [(&str, u32); 2] = [("a", 5), (";", 0)];
 
-// What comes of it: `a a`.
+// Its expansion: `a a`.
 const EXPANDED: [(&str, u32); 2] = [("a", 5), ("a", 5)];
 
 /// How that call of the group ended.
@@ -35,7 +35,7 @@ pub fn judged<R: Print>(rt: &R, alloc: Global, call: &str) -> Result<&'static st
     Ok(judge(rt, &mut call))
 }
 
-// The trees of a rule, an input for it, and what comes of that.
+// The trees of a rule, an input for it, and its expansion.
 fn trees(alloc: Global) -> Result<Vec<TopSubtree>, TtFault> {
     let mut trees = Vec::new(alloc);
     trees.push(flat_tree(alloc, &leaves_of(alloc, &PATTERN)?)?)?;
@@ -58,7 +58,7 @@ fn rule_of<'a>(
     }
 }
 
-// What a rule is made of, that rule, an input for it, and what comes of that.
+// The trees of a rule, that rule, an input for it, and its expansion.
 #[derive(Clone, Copy)]
 struct Ruling<'a> {
     call: &'a str,

@@ -4,10 +4,10 @@ use test_sweep::{Call, When, braces, header, judge, tree_of};
 use tt::buffer::Cursor;
 use tt::{TokenTree, TtFault};
 
-// How deep the subtrees stand in one another.
+// How deep the subtrees are nested.
 const DEPTH: u32 = 20;
 
-/// How that call of the group ended, made at each place on the way into subtrees that stand in one another.
+/// How that call of the group ended, made at each place on the way into nested subtrees.
 pub fn judged<R: Print>(rt: &R, alloc: Global, call: &str) -> Result<&'static str, TtFault> {
     let both = match call {
         "bump" => false,
@@ -73,7 +73,7 @@ impl Call for Walking<'_> {
 }
 
 impl Walking<'_> {
-    // Whether the cursor stands at the first token that was not passed.
+    // Whether the cursor is at the first token that it has not passed.
     fn is_here(&self) -> bool {
         self.cursor.token_tree().as_ref() == self.list.get(self.passed)
     }

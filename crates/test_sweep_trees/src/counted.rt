@@ -1,4 +1,4 @@
-//! Calls that are told how often each value is used in their list.
+//! Calls that take the counts of the values in their list.
 ghost use Rattle.std.specs.Prelude.{◌≡◌, [], bytes_eq, drop};
 ghost use Rattle.tt_tables.specs.Counts.{CountsUses};
 ghost use Rattle.tt_tables.specs.Uses.{same_part, part_uses, symbol_uses};
@@ -106,7 +106,7 @@ impl<'a> Counted<'a> {
     }
 }
 
-// A call that is told how often each value is used, the list that it takes or is lent, and a copy of that.
+// A call that takes the counts of values, the list that it takes or borrows, and a copy of that.
 #[derive(Drop)]
 struct OfCounted<'a> {
     call: &'a str,

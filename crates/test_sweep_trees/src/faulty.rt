@@ -1,4 +1,4 @@
-//! Calls that are wrong, each in one way, so that it is seen that they are judged to be.
+//! Calls that are wrong, each in one way: the judge must find each wrong.
 use std::alloc::Global;
 use std::mem;
 use test_sweep::{Call, When, judge, plus_list, span};
@@ -17,8 +17,7 @@ pub fn judged<R: Print>(rt: &R, alloc: Global, call: &str) -> Result<&'static st
     Ok(judge(rt, &mut call))
 }
 
-// A call that is to ask for memory and then take the last token off a list, and how long the list was. Its name is the flaw
-// that it has.
+// A call that must request memory and then take the last token off a list, and how long the list was. Its name is its flaw.
 #[derive(Drop)]
 struct Faulty<'a> {
     call: &'a str,
@@ -31,7 +30,7 @@ impl Call for Faulty<'_> {
     fn make(&mut self) -> Result<bool, TtFault> {
         let alloc = self.alloc;
         match self.call {
-            // it changes its list before it asks, and leaves it so where it is refused
+            // it changes its list before it asks, and leaves it so if memory is refused
             "forgets_to_undo" => {
                 self.list.pop();
                 ask(alloc)?;
@@ -66,19 +65,19 @@ impl Call for Faulty<'_> {
     }
 }
 
-// Asks for memory, which it gives back.
+// Requests memory, and gives it back.
 fn ask(alloc: Global) -> Result<(), TtFault> {
     TopSubtree::empty(alloc, DelimSpan::from_single(span(0)))?;
     Ok(())
 }
 
-// Asks for memory, and never gives it back.
+// Requests memory, and never gives it back.
 fn leak(alloc: Global) -> Result<(), TtFault> {
     mem::forget(Symbol::new(alloc, "leaked")?);
     Ok(())
 }
 
-// Asks for memory and for more, and gives it back only where it gets that.
+// Requests memory and then more, and gives the first back only if it gets that.
 fn leak_where_refused(alloc: Global) -> Result<(), TtFault> {
     let symbol = Symbol::new(alloc, "leaked")?;
     match ask(alloc) {

@@ -1,4 +1,4 @@
-//! Calls that take a list, and hand it back where they are refused; and calls that are lent one.
+//! Calls that take a list, and hand it back if they are refused; and calls that borrow one.
 use std::alloc::Global;
 use std::mem;
 use test_sweep::{Call, When, is_of, judge, plus_list, taken};

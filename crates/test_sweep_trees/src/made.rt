@@ -66,7 +66,7 @@ impl Making<'_> {
         Ok(made.kind() == kind && made.text() == text && made.suffix() == suffix)
     }
 
-    // The bytes of a symbol, of a span, or of a plus whose part stands first.
+    // The bytes of a symbol, of a span, or of a plus whose part is the first.
     fn bytes(&self) -> Result<bool, TtFault> {
         let alloc = self.given.alloc;
         let parts = self.given.ten.span_part_table();

@@ -1,4 +1,4 @@
-//! Calls of what is stored that take no memory.
+//! Calls on the stored form of a tree that take no memory.
 use std::hash::{FoldHasher, Hash, Hasher};
 use test_sweep::{braces, span};
 use tt::{DelimSpan, DelimiterKind, TopSubtree};
@@ -47,7 +47,7 @@ fn is_read(packed: &Packed) -> bool {
         && (reader.steps(), below.steps()) == (1, 2)
 }
 
-/// Whether a tree that is made of what is stored is that tree.
+/// Whether the tree made of the stored form is that tree.
 pub fn is_made(stored: Option<Packed>, tree: &TopSubtree) -> bool {
     match stored {
         Some(packed) => TopSubtree::from_packed(packed) == *tree,

@@ -62,7 +62,7 @@ fn is_leaf_a(leaf: &Leaf) -> bool {
     }
 }
 
-// An ident `a`, and what is told of its text.
+// Whether the ident is `a`, and its text is split right.
 fn is_named_a(ident: &Ident) -> bool {
     let Ok(symbol) = ident.sym.clone() else {
         return false;
@@ -70,7 +70,7 @@ fn is_named_a(ident: &Ident) -> bool {
     symbol == ident.sym && is_split(symbol.as_str()) && ident.is_raw.no() && !ident.is_raw.yes()
 }
 
-// What stands in front of a raw ident of that text.
+// Whether `r#` precedes a raw ident of that text.
 fn is_split(text: &str) -> bool {
     IdentIsRaw::split_from_symbol("r#a") == (IdentIsRaw::Yes, text)
         && IdentIsRaw::Yes.as_str() == "r#"

@@ -107,7 +107,7 @@ fn is_element_copied(element: &TtElement<'_>) -> bool {
     }
 }
 
-// Whether no tree stands between a place and itself.
+// Whether no tree is between a place and itself.
 fn passes_none(siblings: &TtIter<'_>) -> bool {
     let start = siblings.savepoint();
     siblings.from_savepoint(start).is_empty()
@@ -175,7 +175,7 @@ fn walks<'a>(cursor: &mut Cursor<'a>, trees: TokenTreesView<'a>) -> Result<bool,
     Ok(is_here && left == 1 && cursor.eof() && is_back(cursor))
 }
 
-// How many trees are left to an iterator that goes to where the cursor stands.
+// How many trees are left to an iterator that goes to the place of the cursor.
 fn left_at<'a>(cursor: &Cursor<'a>, trees: TokenTreesView<'a>) -> usize {
     let mut siblings = trees.iter();
     siblings.flat_advance_to(cursor);

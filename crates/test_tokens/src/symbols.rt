@@ -39,12 +39,12 @@ fn is_its_text(alloc: Global) -> Result<bool, TtFault> {
     Ok(is_text(alloc, &name, "r#fn")? && !is_text(alloc, &name, "")?)
 }
 
-// Whether a symbol of that text is told so.
+// Whether Display and Debug of a symbol of that text write so.
 fn tells(alloc: Global, text: &str, told: &str) -> Result<bool, TtFault> {
     is_told_as(alloc, &Symbol::new(alloc, text)?, told)
 }
 
-// Whether a symbol tells its text, be it empty or not.
+// Whether Display and Debug of a symbol write its text, empty or not.
 fn tell_their_texts(alloc: Global) -> Result<bool, TtFault> {
     Ok(tells(alloc, "r#fn", "r#fn \"r#fn\"")? && tells(alloc, "", " \"\"")?)
 }

@@ -74,7 +74,7 @@ fn is_range(length: u32, end: Option<u32>) -> bool {
     }
 }
 
-// Whether a range from 1 to 4 tells its ends and its length, and an empty one that it is empty.
+// Whether a range from 1 to 4 has these ends and this length, and an empty one is empty.
 fn are_ranges() -> bool {
     let found = range(1, 4);
     let is_told = found.start().raw() == 1 && found.end().raw() == 4 && found.len().raw() == 3;
@@ -163,7 +163,7 @@ fn is_told_as(alloc: Global, fault: TtFault, text: &str) -> Result<bool, TtFault
     Ok(format!(in alloc; "{} {fault}", fault.number())?.as_str() == text)
 }
 
-// Whether each fault is told so.
+// Whether each fault has that number and text.
 fn are_told(alloc: Global) -> Result<bool, TtFault> {
     for (fault, text) in &FAULTS {
         if !is_told_as(alloc, *fault, text)? {

@@ -36,7 +36,7 @@ pub(crate) fn is_read(entry: Entry, bytes: &[u8]) -> bool {
     }
 }
 
-// How many bytes stand where 1 was put and then 2, and the bytes.
+// How many bytes a buffer holds after a put of 1 and then of 2, and the bytes.
 fn put_two(alloc: Global) -> Result<(usize, Vec<u8>), AllocError> {
     let mut buf = BackBuf::with_room(alloc, 3)?;
     buf.put_byte(1);

@@ -19,7 +19,7 @@ fn is_token(token: Option<TokenTree>, text: &str, start: u32) -> bool {
     }
 }
 
-// Whether the cursor stands at that ident, and not at two leaves.
+// Whether the cursor is at that ident, and not at two leaves.
 fn is_at_one_leaf(cursor: &Cursor<'_>, text: &str, start: u32) -> bool {
     is_token(cursor.token_tree(), text, start) && cursor.peek_two_leaves().is_none()
 }
@@ -82,7 +82,7 @@ fn are_the_last_two(siblings: &mut TtIter<'_>) -> bool {
         && siblings.next().is_none()
 }
 
-// Whether these are the siblings where a cursor stands at the second token inside the first of them.
+// Whether an iterator goes to a cursor at the second token inside its first sibling.
 fn go_to_a_cursor(alloc: Global, tree: &TopSubtree) -> Result<bool, TtFault> {
     let mut siblings = tree.iter();
     let mut cursor = tree.token_trees().cursor(alloc);

@@ -138,7 +138,7 @@ fn answers_of<'a>(
 // Why a tree is not rewritten here.
 const REFUSED: Result<(), TtFault> = Err(TtFault::NotOneSubtree);
 
-// Answers, and what comes of them. Behind the last answer all is kept.
+// Answers, and what they make. Behind the last answer all is kept.
 const REWRITINGS: [(&str, Rewriting<'_>); 10] = [
     ("kkkk", ("(2a;", "(2a;", "(2a;", Ok(()))),
     ("kp", ("(2a;", "(2a;", "(3[1b;", Ok(()))),

@@ -92,7 +92,7 @@ fn idents_taken(rt: HostRuntime) -> Result<(), Fail> {
     holds(are_idents(rt.alloc()))
 }
 
-// Whether the token is taken for a leaf, and for a subtree, as it is told.
+// Whether the token is taken for a leaf, and for a subtree, as these two say.
 fn is_tree(alloc: Global, token: TokenTree, as_tree: [bool; 2]) -> Result<bool, TtFault> {
     let tree = under(alloc, &[token])?;
     Ok(taken_as_tree(tree.token_trees()) == as_tree)
@@ -182,7 +182,7 @@ fn roots_stripped(rt: HostRuntime) -> Result<(), Fail> {
     holds(are_stripped(rt.alloc()))
 }
 
-// Whether an ident and a comma are told apart, and what is expected in vain is passed.
+// Whether an ident is no comma, and what is expected in vain is passed.
 fn are_told_apart(siblings: &mut TtIter<'_>) -> bool {
     siblings.expect_char(',').is_err()
         && siblings.remaining().len() == 1

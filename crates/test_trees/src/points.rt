@@ -5,7 +5,7 @@ use std::alloc::Global;
 use std::test::Fail;
 use tt::{DelimiterKind, SubtreeBuilderRestorePoint, TopSubtreeBuilder, TtFault};
 
-// Points to restore one after the other, by their numbers, and for each whether it stands, and then whether a subtree is open
+// Points to restore one after the other, by their numbers, and for each whether it is valid, and then whether a subtree is open
 // and how many names are used.
 const ROWS: [(u64, (bool, bool, usize)); 3] = [
     (1, (true, true, 2)),

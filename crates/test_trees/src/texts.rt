@@ -228,7 +228,7 @@ fn of_one_ident(alloc: Global) -> Result<TopSubtree, TtFault> {
     under(alloc, &[ident(alloc, "r#a", 1, 4)?])
 }
 
-// Whether what is made of the tree is told so.
+// Whether Debug of what the tree gives writes the right texts.
 fn are_told(alloc: Global, tree: &TopSubtree) -> Result<bool, TtFault> {
     let mut siblings = tree.iter();
     Ok(
