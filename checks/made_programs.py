@@ -118,12 +118,13 @@ class Maker:
         self.lines.append(
             f"macro_rules! {name} {{ ($a:literal) => {{ {{ $a }} {operator} 1 }}; (if $a:literal) => {{ if $a > 4 {{ 1 }} else {{ 2 }} }}; "
             f"(cast $a:literal) => {{ unsafe {{ $a as u8 }} as i64 }}; (sum $a:literal) => {{ $a {operator} 2 }}; (block $a:literal) => {{ {{ $a }} }}; "
-            f"(call $a:literal) => {{ {name}!(block $a) {operator} {name}!($a) }}; }}"
+            f"(call $a:literal) => {{ {name}!(block $a) {operator} {name}!($a) }}; "
+            f"(deep $a:literal) => {{ {name}!(block $a) }}; (deeper $a:literal) => {{ {name}!(deep $a) {operator} {name}!(if $a) }}; }}"
         )
 
         def call(maker):
             bracket = maker.chance.choice(("()", "[]"))
-            word = maker.chance.choice(("", "if ", "cast ", "sum ", "block ", "call "))
+            word = maker.chance.choice(("", "if ", "cast ", "sum ", "block ", "call ", "deep ", "deeper "))
             return f"{name}!{bracket[0]}{word}{maker.number()}{bracket[1]}"
 
         for _ in range(self.chance.randint(2, 5)):

@@ -74,9 +74,13 @@ tail_block = refl
 tail_split : enclosure 0 Parenthesis end split body ≡ Opaque
 tail_split = refl
 
--- At the beginning of a statement that goes on, a block is in parentheses, and `a + b` is one piece.
+-- At the beginning of a statement that goes on, a block is in parentheses, `n!()` is too, since it may become a block, and `a + b` is one
+-- piece.
 block_goes : enclosure 0 Parenthesis (alone 43 end) block body ≡ Parentheses
 block_goes = refl
+
+call_goes : enclosure 0 Parenthesis (alone 43 end) (word (codes "n") (bang (brackets Parenthesis end))) body ≡ Parentheses
+call_goes = refl
 
 sum_goes : enclosure 0 Parenthesis (alone 43 end) sum body ≡ Opaque
 sum_goes = refl

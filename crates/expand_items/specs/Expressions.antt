@@ -1,5 +1,5 @@
 -- Expansions in the place of an expression: how they begin, how they end, and what follows them.
-use Rattle.std.specs.Prelude.{ℕ, ◌==◌, ◌||◌, ◌&&◌, not, Bool, false, List, codes, bytes_eq, if◌then◌else◌}
+use Rattle.std.specs.Prelude.{ℕ, ◌==◌, ◌||◌, ◌&&◌, not, Bool, true, false, List, codes, bytes_eq, if◌then◌else◌}
 use Rattle.tt.specs.Forest.{Forest, end, leaf, node}
 use Rattle.tt.specs.Moves.{after_tree}
 use Rattle.tt.specs.Siblings.{is_end}
@@ -39,6 +39,20 @@ begins_block (leaf (leaf_of.Punct it) rest) = it.char == 39
 begins_block (leaf (leaf_of.Ident it) rest) = begins_block_as it.is_raw it.sym rest
 begins_block (node delimiter children rest) = is_brace delimiter.kind
 
+-- a subtree comes first
+abbrev pub is_at_subtree : Forest → Bool
+is_at_subtree end = false
+is_at_subtree (leaf it rest) = false
+is_at_subtree (node delimiter children rest) = true
+
+-- a call of a macro by its name comes first
+abbrev pub is_at_call : Forest → Bool
+is_at_call end = false
+is_at_call (leaf (leaf_of.Literal it) rest) = false
+is_at_call (leaf (leaf_of.Punct it) rest) = false
+is_at_call (leaf (leaf_of.Ident it) rest) = is_at_punct (codes "!") rest && is_at_subtree (after_tree rest)
+is_at_call (node delimiter children rest) = false
+
 -- something follows the first braces, or braces that come after `else`
 abbrev pub block_goes_on : Forest → Bool
 block_goes_on end = false
@@ -62,7 +76,7 @@ may_end trees = is_end trees || (is_at_punct (codes ",") trees || is_at_punct (c
 abbrev pub enclosure_at_start : (behind expansion : Forest) → Enclosure
 enclosure_at_start behind expansion =
     if may_end behind then (if is_split expansion then enclosed.Opaque else enclosed.Bare)
-    else (if begins_block expansion then enclosed.Parentheses else enclosed.Opaque)
+    else (if begins_block expansion || is_at_call expansion then enclosed.Parentheses else enclosed.Opaque)
 
 -- a `;` is the only tree
 abbrev pub is_last_semicolon : Forest → Bool

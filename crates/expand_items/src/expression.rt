@@ -2,7 +2,7 @@
 ghost use Rattle.std.specs.Prelude.{◌≡◌};
 ghost use Rattle.tt.specs.Iters.{rest_of};
 ghost use Rattle.tt.specs.Views.{trees_of};
-ghost use Rattle.expand_items.specs.Expressions.{begins_block, begins_with_block, block_goes_on, enclosure_at_start, goes_on, is_at_braces, is_last_semicolon, is_split, may_end, without_semicolon};
+ghost use Rattle.expand_items.specs.Expressions.{begins_block, begins_with_block, block_goes_on, enclosure_at_start, goes_on, is_at_braces, is_at_call, is_at_subtree, is_last_semicolon, is_split, may_end, without_semicolon};
 
 use mbe_pattern::{is_at_punct, is_at_word, take, unit_size};
 use tt::{DelimiterKind, IdentIsRaw, Leaf, TokenTreesView, TtElement, TtIter};
@@ -57,6 +57,28 @@ fn begins_block(mut trees: TtIter<'_>) -> bool
     }
 }
 
+// Returns whether a subtree comes first.
+fn is_at_subtree(mut trees: TtIter<'_>) -> bool
+    ensures { result ≡ is_at_subtree (rest_of trees.entry) }
+{
+    match trees.next() {
+        Some(TtElement::Subtree(_, _)) => true,
+        _ => false,
+    }
+}
+
+// Returns whether a call of a macro by its name comes first: it may become a block.
+fn is_at_call(mut trees: TtIter<'_>) -> bool
+    ensures { result ≡ is_at_call (rest_of trees.entry) }
+{
+    match trees.next() {
+        Some(TtElement::Leaf(Leaf::Ident(_))) => {
+            trees.expect_char('!').is_ok() && is_at_subtree(trees)
+        }
+        _ => false,
+    }
+}
+
 // Returns whether something follows the first braces, and each that come after `else`.
 fn block_goes_on(mut trees: TtIter<'_>) -> bool
     ensures { result ≡ block_goes_on (rest_of trees.entry) }
@@ -104,7 +126,7 @@ pub(crate) fn enclosure_at_start(behind: TtIter<'_>, expansion: TtIter<'_>) -> E
         } else {
             Enclosure::Bare
         }
-    } else if begins_block(expansion) {
+    } else if begins_block(expansion.remaining().iter()) || is_at_call(expansion) {
         Enclosure::Parentheses
     } else {
         Enclosure::Opaque
