@@ -106,7 +106,8 @@ def is_minus(arms, given):
 def kind(arms, given, wanted, got):
     if got[0] == "tree":
         printed = re.sub(r"[\s)\]}]", "", got[1])
-        shown = "".join(word[0] if re.fullmatch(r"[(\[{]\d+", word) else word for word in wanted.split(" "))
+        words = [word for word in wanted.split(" ") if not re.fullmatch(r"<\d+", word)]
+        shown = "".join(word[0] if re.fullmatch(r"[(\[{]\d+", word) else word for word in words)
         if printed == shown:
             return "agree: tree"
         return MINUS if is_minus(arms, given) else "DIFFERS"

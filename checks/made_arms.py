@@ -133,6 +133,13 @@ class Arms(Values):
         variable = [*self.puncts("$"), names[0], *self.puncts(":"), Ident("plain", self.span(), "tt")]
         return self.arm_of(variable, [*self.puncts("$"), names[1]])
 
+    def literal_arm(self):
+        """An arm of a literal, and a subtree that it takes if that is opaque and holds one."""
+        pattern = tree_of_text("$x:literal").children
+        held = tree_of_text(self.pick(("-1", "1.5", "true", "-1 a", "-a", ""))).children
+        kind = self.pick(("opaque", "opaque", self.delimiter_kind()))
+        return self.arm_of(pattern, pattern[:2]), Subtree(kind, self.span(), self.span(), held)
+
     def changed_kind(self, literal):
         """The literal of another kind."""
         return literal._replace(kind=self.pick(LITERAL_KINDS))

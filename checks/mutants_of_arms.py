@@ -76,7 +76,11 @@ WRITING = [
 ]
 GROUPS = [
     ("an expression comes as its tokens", '("expr", "expr_2021", "ty"', '("ty"'),
-    ("a pattern comes as its tokens", '"ty", "pat", "pat_param")', '"ty")'),
+    ("a pattern comes as its tokens", '"ty", "pat", "pat_param", ', '"ty", '),
+    ("a literal comes as its tokens", '"pat_param", "literal")', '"pat_param")'),
+    ("an opaque subtree is no literal", 'unit[:2] != ("sub", "opaque") or not unit[2]', "True"),
+    ("any subtree may be a literal", 'unit[:2] != ("sub", "opaque")', 'unit[0] != "sub"'),
+    ("a literal may have more behind it", "held, 0) == len(held) else None", "held, 0) else None"),
     ("one token comes as a group", "or len(units) < 2:", "or not units:"),
     ("a group is invisible", 'Subtree("opaque", first_span', 'Subtree("invisible", first_span'),
     ("a group begins where its last tree does", "first_span(trees[0])", "first_span(trees[-1])"),

@@ -12,6 +12,8 @@ MUTANTS = [
     ("truth is no literal", 'or first[0] == "ident" and first[1].strip() in ("true", "false")', ""),
     ("a minus before any literal", ' and number[1][0].isdigit()', ""),
     ("no minus before a number", "        return behind(units, end)\n    return None", "        return None\n    return None"),
+    ("a number after a minus stays as it is", ' if fragment == "literal" and end - at > 1 else units[at:end]', " if False else units[at:end]"),
+    ("any literal is one piece", "and end - at > 1 else", "else"),
     ("brackets of a subtree do not count", ' and units[at][1] == part[1]', ""),
     ("a subtree may hold more", "if end == len(held):", "if True:"),
     ("a + may have no round", 'if operator in "*?":', "if True:"),

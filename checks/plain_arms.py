@@ -15,7 +15,7 @@ RAW = "\n"
 NUMBERS = ("int", "float")
 FRAGMENTS = ("ident", "literal", "lifetime", "block", "vis", "tt", *plain_grammar.FRAGMENTS)
 # What these took comes as one opaque subtree, if it is more than one token or subtree.
-GROUPED = ("expr", "expr_2021", "ty", "pat", "pat_param")
+GROUPED = ("expr", "expr_2021", "ty", "pat", "pat_param", "literal")
 # The numbers of what may be wrong with an arm.
 NO_PATTERN, BEGINS_NOTHING, UNKNOWN_FRAGMENT, NAME_TWICE, NEEDLESS_SEPARATOR = 1, 2, 3, 5, 6
 EMPTY_REPETITION, NO_ARROW, NO_TEMPLATE, STILL_REPEATS, NOTHING_REPEATS, NO_SEMICOLON = range(7, 13)
@@ -61,6 +61,14 @@ class Input:
         """The end of what a fragment of Rust's grammar takes; None if it takes nothing."""
         count = plain_grammar.reach(fragment, self.trees[at:])
         return at + count if count else None
+
+    def behind_piece(self, at):
+        """The end of an opaque subtree that holds a literal and nothing else; None if no such one is there."""
+        unit = self[at]
+        if unit[:2] != ("sub", "opaque") or not unit[2]:
+            return None
+        held = unit[2]
+        return at + 1 if plain_macros.literal_end(held[0], held, 0) == len(held) else None
 
     def bound(self, fragment, at, end):
         """The units that a variable took, or one opaque subtree of them."""

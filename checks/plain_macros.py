@@ -2,9 +2,9 @@
 part after the other, and what they bind is a list of lists. Nothing here knows of places or threads.
 
 A unit is one token as Rust sees it, or a subtree: ("ident", NAME), ("lit", TEXT), ("op", CHARS), ("life", NAME) or
-("sub", BRACKET, UNITS). A part of a pattern is ("var", NAME, FRAGMENT), ("unit", UNIT), ("sub", BRACKET, PARTS) or
-("rep", PARTS, SEPARATOR or None, OPERATOR); a part of a template is ("use", NAME, PLACE), or one of the others, in which a repetition has
-its flat place behind its operator.
+("sub", BRACKET, UNITS), where `<` is the bracket of what has none. A part of a pattern is ("var", NAME, FRAGMENT), ("unit", UNIT),
+("sub", BRACKET, PARTS) or ("rep", PARTS, SEPARATOR or None, OPERATOR); a part of a template is ("use", NAME, PLACE), or one of the others,
+in which a repetition has its flat place behind its operator.
 """
 
 
@@ -40,7 +40,8 @@ def taken(fragment, units, at):
     if fragment == "block":
         return behind(units, at) if first[0] == "sub" and first[1] == "{" and plain_grammar.is_whole("statements", trees_in(first)) else None
     if fragment == "literal":
-        return literal_end(first, units, at)
+        end = literal_end(first, units, at)
+        return units.behind_piece(at) if end is None and not isinstance(units, list) else end
     return units.reached(fragment, at)
 
 
@@ -81,9 +82,11 @@ def literal_end(first, units, at):
     return None
 
 
-# What a variable took: the units, or one in their place.
+# What a variable took: the units, or one in their place, as for a number after `-`.
 def bound_by(fragment, units, at, end):
-    return units[at:end] if isinstance(units, list) else units.bound(fragment, at, end)
+    if not isinstance(units, list):
+        return units.bound(fragment, at, end)
+    return [("sub", "<", units[at:end])] if fragment == "literal" and end - at > 1 else units[at:end]
 
 
 # All ways in which the parts take units from a place on: where each ends, and what it binds.

@@ -176,11 +176,14 @@ class Script(Rules, Arms, Texts):
         self.add("flat", to)
 
     def add_near_read(self):
-        """An arm whose pattern is a leaf or an empty subtree, and an input that is like it, or nearly so; or an arm of `crate`."""
+        """An arm whose pattern is a leaf or an empty subtree, and an input that is like it, or nearly so; or an arm of `crate` or a literal."""
         tree = self.pick((self.literal, self.ident, lambda: self.subtree([])))()
         near = self.subtree([]) if isinstance(tree, Subtree) else self.alike(tree)
         slots = self.chance.sample(range(FEW_SLOTS), 2)
-        self.put(slots[0], self.crate_arm() if self.happens(0.2) else self.arm_of([tree], []))
+        arm = self.crate_arm() if self.happens(0.2) else self.arm_of([tree], [])
+        if self.happens(0.3):
+            arm, near = self.literal_arm()
+        self.put(slots[0], arm)
         self.put(slots[1], [near])
         to = self.slot()
         self.add("arms", *slots, to)

@@ -1,9 +1,10 @@
 -- Worked patterns with repetitions, and inputs: each holds by computation.
-use Rattle.std.proofs.Common.{◌≡◌, inl, inr, ◌≤◌, ℕ, true, false, [], ◌∷◌, None, Some, codes, refl, sym, ◌∙◌, arith}
-use Rattle.tt.specs.Forest.{Forest, end, join}
-use Rattle.tt.specs.Types.DelimiterKind.TheVariants.{Parenthesis, Brace}
+use Rattle.std.proofs.Common.{◌≡◌, inl, inr, ◌≤◌, ℕ, true, false, [], ◌∷◌, None, Some, codes, refl, sym, ◌∙◌, arith, lit<, lit≤, not-le_of_lt}
+use Rattle.tt.specs.Forest.{Forest, end, leaf, join}
+use Rattle.tt.specs.Types.DelimiterKind.TheVariants.{Parenthesis, Brace, InvisibleOpaque}
+use Rattle.tt.specs.Types.LitKind.TheVariants.{Integer}
 use Rattle.tt.specs.Types.Spacing.TheVariants.{Alone, Joint}
-use Rattle.tt_base.proofs.Samples.{punct, subtree}
+use Rattle.tt_base.proofs.Samples.{punct, literal, subtree}
 use Rattle.mbe_pattern.specs.declared.pattern.Fragment.{Fragment}
 use Rattle.mbe_pattern.specs.declared.pattern.Fragment.TheVariants as fragment
 use Rattle.mbe_pattern.specs.declared.pattern.Variable.{Variable}
@@ -41,6 +42,47 @@ truth_taken = refl
 
 minus_left : takes fragment.Literal (alone 45 (word (codes "a") end)) ≡ false
 minus_left = refl
+
+-- `3` and `-3` before others
+abbrev pub three : Forest → Forest
+three rest = leaf (literal (codes "3") Integer (lit≤ tt) (lit≤ tt, λ h. absurd (not-le_of_lt (lit< tt) h))) rest
+
+abbrev pub minus_three : Forest → Forest
+minus_three rest = alone 45 (three rest)
+
+negative_takes : takes fragment.Literal (minus_three (comma end)) ≡ true
+negative_takes = refl
+
+negative_taken : taken fragment.Literal (minus_three (comma end)) ≡ minus_three end
+negative_taken = refl
+
+-- It also takes an opaque subtree that holds such a literal and nothing else, as one tree.
+abbrev in_opaque : Forest → Forest
+in_opaque inside = subtree InvisibleOpaque inside
+
+held_takes : takes fragment.Literal (in_opaque (minus_three end)) ≡ true
+held_takes = refl
+
+held_taken : taken fragment.Literal (join (in_opaque (minus_three end)) (comma end)) ≡ in_opaque (minus_three end)
+held_taken = refl
+
+three_held : takes fragment.Literal (in_opaque (three end)) ≡ true
+three_held = refl
+
+more_left : takes fragment.Literal (in_opaque (minus_three (comma end))) ≡ false
+more_left = refl
+
+name_left : takes fragment.Literal (in_opaque (alone 45 (word (codes "a") end))) ≡ false
+name_left = refl
+
+nothing_held_left : takes fragment.Literal (in_opaque end) ≡ false
+nothing_held_left = refl
+
+twice_held_left : takes fragment.Literal (in_opaque (in_opaque (three end))) ≡ false
+twice_held_left = refl
+
+brackets_left : takes fragment.Literal (subtree Parenthesis (minus_three end)) ≡ false
+brackets_left = refl
 
 module _ (rest : Forest) where
   -- A lifetime is a `'` and an ident.

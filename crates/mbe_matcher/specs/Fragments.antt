@@ -6,6 +6,8 @@ use Rattle.tt.specs.Gluing.{after_trees}
 use Rattle.tt.specs.Literal.{kind_of}
 use Rattle.tt.specs.Moves.{after_tree}
 use Rattle.tt.specs.Siblings.{is_end}
+use Rattle.tt.specs.Types.DelimiterKind.{DelimiterKind}
+use Rattle.tt.specs.Types.DelimiterKind.TheVariants as delimited
 use Rattle.tt.specs.Types.LitKind.{LitKind}
 use Rattle.tt.specs.Types.LitKind.TheVariants as literal
 use Rattle.tt.specs.Types.Leaf.{Leaf}
@@ -50,9 +52,31 @@ is_at_number (node delimiter children rest) = false
 abbrev pub is_at_negative : Forest → Bool
 is_at_negative trees = is_at_punct (codes "-") trees && is_at_number (after_tree trees)
 
+-- a literal, a truth value, or a `-` and a number come first
+abbrev pub begins_literal : Forest → Bool
+begins_literal trees = is_at_literal trees || is_at_negative trees
+
 -- how many trees a literal has
 abbrev pub literal_size : Forest → ℕ
 literal_size trees = if is_at_negative trees then 2 else 1
+
+-- such a literal and nothing else
+abbrev pub is_literal : Forest → Bool
+is_literal trees = begins_literal trees && is_end (after_trees (literal_size trees) trees)
+
+-- one tree without printed delimiters
+abbrev pub is_opaque : DelimiterKind → Bool
+is_opaque delimited.Parenthesis = false
+is_opaque delimited.Brace = false
+is_opaque delimited.Bracket = false
+is_opaque delimited.Invisible = false
+is_opaque delimited.InvisibleOpaque = true
+
+-- the first tree is an opaque subtree that holds a literal and nothing else
+abbrev pub is_at_held_literal : Forest → Bool
+is_at_held_literal end = false
+is_at_held_literal (leaf it rest) = false
+is_at_held_literal (node delimiter children rest) = is_opaque delimiter.kind && is_literal children
 
 -- a `'` and an ident come first
 abbrev pub is_at_lifetime : Forest → Bool
@@ -80,11 +104,11 @@ is_at_scope (node delimiter children rest) = is_parenthesis delimiter.kind && is
 abbrev pub visibility_size : Forest → ℕ
 visibility_size trees = if is_at_word (codes "pub") trees then (if is_at_scope (after_tree trees) then 2 else 1) else 0
 
--- the fragment takes the trees at the front: an ident other than `_`; a literal, a truth value, or a number after `-`; a lifetime; a
--- block; a visibility, or nothing if there is none; any token or subtree; or what Rust's grammar takes
+-- the fragment takes the trees at the front: an ident other than `_`; a literal, a truth value, or a number after `-`, also as an opaque
+-- subtree; a lifetime; a block; a visibility, or nothing if there is none; any token or subtree; or what Rust's grammar takes
 abbrev pub takes : Fragment → Forest → Bool
 takes fragment.Ident trees = is_some (unless_underscore (first_leaf_as as_ident_or_underscore trees))
-takes fragment.Literal trees = is_at_literal trees || is_at_negative trees
+takes fragment.Literal trees = begins_literal trees || is_at_held_literal trees
 takes fragment.Lifetime trees = is_at_lifetime trees
 takes fragment.Block trees = is_at_block trees
 takes fragment.Vis trees = true

@@ -4,12 +4,12 @@ ghost use Rattle.tt.specs.Iters.{rest_of};
 ghost use Rattle.tt.specs.Moves.{after_tree};
 ghost use Rattle.tt.specs.Views.{trees_of};
 ghost use Rattle.mbe_grammar.specs.Fragments.{ReachesDeep};
-ghost use Rattle.mbe_matcher.specs.Fragments.{is_at_number, is_at_negative, is_at_lifetime, is_at_block, is_scope, is_at_scope, visibility_size, literal_size, takes, takes_nothing, reach};
+ghost use Rattle.mbe_matcher.specs.Fragments.{is_at_number, is_at_negative, begins_literal, literal_size, is_literal, is_at_held_literal, is_at_lifetime, is_at_block, is_scope, is_at_scope, visibility_size, takes, takes_nothing, reach};
 ghost use Rattle.mbe_pattern.specs.Units.{is_at_word, unit_size, AreLeavesLike};
 ghost use Rattle.mbe_matcher.specs.GrammarReach.{grammar_reach, is_block};
 
 use mbe_grammar::{is_block as is_block_by_grammar, reach_deep};
-use mbe_pattern::{Fragment, GrammarFragment, is_at_word, passes_leaf, unit_size};
+use mbe_pattern::{Fragment, GrammarFragment, is_at_word, pass, passes_leaf, unit_size};
 use std::alloc::{AllocError, Global};
 use tt::{DelimiterKind, Leaf, LitKind, TokenTreesView, TtElement, TtIter};
 
@@ -43,6 +43,43 @@ fn is_at_negative(mut trees: TtIter<'_>) -> bool
     ensures { result ≡ is_at_negative (rest_of trees.entry) }
 {
     trees.expect_char('-').is_ok() && is_at_number(trees)
+}
+
+// Returns whether a literal, a truth value, or a `-` and a number come first.
+fn begins_literal(mut trees: TtIter<'_>) -> bool
+    ensures { result ≡ begins_literal (rest_of trees.entry) }
+{
+    let ahead = trees.remaining().iter();
+    trees.expect_literal().is_ok() || is_at_negative(ahead)
+}
+
+// Returns how many trees a literal has.
+fn literal_size(trees: TtIter<'_>) -> usize
+    ensures { result ≡ literal_size (rest_of trees.entry) }
+{
+    if is_at_negative(trees) { 2 } else { 1 }
+}
+
+// Returns whether the trees are such a literal and nothing else.
+fn is_literal(mut trees: TtIter<'_>) -> bool
+    ensures { result ≡ is_literal (rest_of trees.entry) }
+{
+    let begins = begins_literal(trees.remaining().iter());
+    let count = literal_size(trees.remaining().iter());
+    pass(&mut trees, count);
+    begins && trees.is_empty()
+}
+
+// Returns whether the first tree is an opaque subtree that holds a literal and nothing else.
+fn is_at_held_literal(mut trees: TtIter<'_>) -> bool
+    ensures { result ≡ is_at_held_literal (rest_of trees.entry) }
+{
+    match trees.next() {
+        Some(TtElement::Subtree(header, inside)) => {
+            header.delimiter.kind == DelimiterKind::InvisibleOpaque && is_literal(inside)
+        }
+        _ => false,
+    }
 }
 
 // Returns whether a `'` and an ident come first.
@@ -133,8 +170,8 @@ pub(crate) fn takes(
     match fragment {
         Fragment::Ident => Ok(trees.expect_ident().is_ok()),
         Fragment::Literal => {
-            let ahead = trees.remaining().iter();
-            Ok(trees.expect_literal().is_ok() || is_at_negative(ahead))
+            let begins = begins_literal(trees.remaining().iter());
+            Ok(begins || is_at_held_literal(trees))
         }
         Fragment::Lifetime => Ok(is_at_lifetime(trees)),
         Fragment::Block => is_at_block(alloc, trees),
@@ -157,13 +194,6 @@ pub(crate) fn takes_nothing(fragment: Fragment, trees: TtIter<'_>) -> bool
         | Fragment::Tt
         | Fragment::Grammar(_) => false,
     }
-}
-
-// Returns how many trees a literal has.
-fn literal_size(trees: TtIter<'_>) -> usize
-    ensures { result ≡ literal_size (rest_of trees.entry) }
-{
-    if is_at_negative(trees) { 2 } else { 1 }
 }
 
 /// Returns how many trees the fragment takes. Fails only if memory runs out.

@@ -1,14 +1,15 @@
 -- Worked templates: each holds by computation.
-use Rattle.std.proofs.Common.{◌≡◌, ℕ, List, [], ◌∷◌, Option, None, Some, codes, refl}
+use Rattle.std.proofs.Common.{◌≡◌, ℕ, List, [], ◌∷◌, Option, None, Some, codes, refl, lit<, lit≤, not-le_of_lt}
 use Rattle.tt.specs.Forest.{Forest, end, leaf, node, join}
 use Rattle.tt.specs.Types.DelimiterKind.TheVariants.{Parenthesis, Brace, InvisibleOpaque}
 use Rattle.tt.specs.Types.IdentIsRaw.TheVariants.{Yes}
 use Rattle.tt.specs.Types.Leaf.TheVariants as leaf_of
+use Rattle.tt.specs.Types.LitKind.TheVariants.{Integer}
 use Rattle.tt.specs.Types.Spacing.TheVariants.{Alone, Joint}
 use Rattle.tt_base.specs.Token.{delimiter}
-use Rattle.tt_base.proofs.Samples.{span, punct, ident, subtree}
+use Rattle.tt_base.proofs.Samples.{span, punct, ident, literal, subtree}
+use Rattle.mbe_pattern.specs.declared.pattern.Fragment.{Fragment}
 use Rattle.mbe_pattern.specs.declared.pattern.Fragment.TheVariants as fragment
-use Rattle.mbe_pattern.specs.declared.pattern.GrammarFragment.{GrammarFragment}
 use Rattle.mbe_pattern.specs.declared.pattern.GrammarFragment.TheVariants as grammar
 use Rattle.mbe_pattern.specs.declared.pattern.RepeatKind.TheVariants as repeat
 use Rattle.mbe_pattern.specs.declared.pattern.Variable.{Variable}
@@ -212,26 +213,41 @@ joint_bound = refl
 
 -- What a fragment of Rust's grammar took: an expression of more than one token becomes one opaque subtree with the spans of its ends. A
 -- single token is written as it is, and so is a path.
-abbrev bound_as : GrammarFragment → Forest → Binding
-bound_as which trees = record { variable = record { name = Some x; fragment = fragment.Grammar which }; bound = one trees } ∷ []
+abbrev bound_as : Fragment → Forest → Binding
+bound_as which trees = record { variable = record { name = Some x; fragment = which }; bound = one trees } ∷ []
 
 -- `a + b`, with these spans of `a` and `b`
 abbrev sum : Forest
 sum = leaf (leaf_of.Ident (record { sym = codes "a"; span = span 0 1; is_raw = Yes })) (alone 43 (leaf (leaf_of.Ident (record { sym = codes "b"; span = span 4 5; is_raw = Yes })) end))
 
-sum_bound : transcribed (use_of 0 0 nothing) (bound_as grammar.Expr sum)
+sum_bound : transcribed (use_of 0 0 nothing) (bound_as (fragment.Grammar grammar.Expr) sum)
     ≡ all_transcribed (node (record { open_span = span 0 1; close = span 4 5; kind = InvisibleOpaque }) sum end)
 sum_bound = refl
 
-sum_again : transcribed (use_of 0 0 nothing) (bound_as grammar.Pat (node (delimiter InvisibleOpaque (span 0 1) (span 4 5)) sum end))
+sum_again : transcribed (use_of 0 0 nothing) (bound_as (fragment.Grammar grammar.Pat) (node (delimiter InvisibleOpaque (span 0 1) (span 4 5)) sum end))
     ≡ all_transcribed (node (delimiter InvisibleOpaque (span 0 1) (span 4 5)) sum end)
 sum_again = refl
 
-token_bound : transcribed (use_of 0 0 nothing) (bound_as grammar.Ty (word (codes "a") end)) ≡ all_transcribed (word (codes "a") end)
+token_bound : transcribed (use_of 0 0 nothing) (bound_as (fragment.Grammar grammar.Ty) (word (codes "a") end)) ≡ all_transcribed (word (codes "a") end)
 token_bound = refl
 
-dots_bound : transcribed (use_of 0 0 nothing) (bound_as grammar.PatParam (joint 46 (alone 46 end))) ≡ all_transcribed (joint 46 (alone 46 end))
+dots_bound : transcribed (use_of 0 0 nothing) (bound_as (fragment.Grammar grammar.PatParam) (joint 46 (alone 46 end))) ≡ all_transcribed (joint 46 (alone 46 end))
 dots_bound = refl
 
-path_bound : transcribed (use_of 0 0 nothing) (bound_as grammar.Path sum) ≡ all_transcribed sum
+path_bound : transcribed (use_of 0 0 nothing) (bound_as (fragment.Grammar grammar.Path) sum) ≡ all_transcribed sum
 path_bound = refl
+
+-- `3` and `-3` before others
+abbrev three : Forest → Forest
+three rest = leaf (literal (codes "3") Integer (lit≤ tt) (lit≤ tt, λ h. absurd (not-le_of_lt (lit< tt) h))) rest
+
+abbrev minus_three : Forest → Forest
+minus_three rest = alone 45 (three rest)
+
+-- A literal of more than one token, as `-3`, becomes one opaque subtree, too.
+negative_bound : transcribed (use_of 0 0 nothing) (bound_as fragment.Literal (minus_three end))
+    ≡ all_transcribed (node (delimiter InvisibleOpaque (span 0 1) (span 0 1)) (minus_three end) end)
+negative_bound = refl
+
+three_bound : transcribed (use_of 0 0 nothing) (bound_as fragment.Literal (three end)) ≡ all_transcribed (three end)
+three_bound = refl

@@ -1,4 +1,4 @@
--- What replaces a use. An expression, a type or a pattern of more than one token becomes one subtree.
+-- What replaces a use. An expression, a type, a pattern or a literal of more than one token becomes one subtree.
 use Rattle.std.specs.Prelude.{◌&&◌, not, Bool, true, false, Option, None, Some, option_map, if◌then◌else◌}
 use Rattle.tt.specs.Building.{alone}
 use Rattle.tt.specs.Forest.{Forest, end, node}
@@ -27,10 +27,10 @@ is_one_piece grammar.Stmt = false
 is_one_piece grammar.Item = false
 is_one_piece grammar.Meta = false
 
--- the fragment takes an expression, a type or a pattern
+-- the fragment takes an expression, a type, a pattern or a literal, which may be a number after `-`
 abbrev pub is_bound_as_one : Fragment → Bool
 is_bound_as_one fragment.Ident = false
-is_bound_as_one fragment.Literal = false
+is_bound_as_one fragment.Literal = true
 is_bound_as_one fragment.Lifetime = false
 is_bound_as_one fragment.Block = false
 is_bound_as_one fragment.Vis = false

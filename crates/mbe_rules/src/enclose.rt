@@ -23,18 +23,15 @@ fn is_one_piece(fragment: GrammarFragment) -> bool
     }
 }
 
-// Returns whether the fragment takes an expression, a type or a pattern.
+// Returns whether the fragment takes an expression, a type, a pattern or a literal, which may be a number after `-`.
 fn is_bound_as_one(fragment: Fragment) -> bool
     ensures { result ≡ is_bound_as_one fragment }
 {
     match fragment {
         Fragment::Grammar(which) => is_one_piece(which),
-        Fragment::Ident
-        | Fragment::Literal
-        | Fragment::Lifetime
-        | Fragment::Block
-        | Fragment::Vis
-        | Fragment::Tt => false,
+        Fragment::Literal => true,
+        Fragment::Ident | Fragment::Lifetime | Fragment::Block | Fragment::Vis | Fragment::Tt =>
+            false,
     }
 }
 

@@ -3,7 +3,7 @@
 //! A `Template` is a list of parts: tokens, uses of variables, and the ends of subtrees and repetitions. `Template::new` reads the parts
 //! (`parse`, `first`) and then goes through them from the last to find the first fault (`validate`). `Template::transcribe` goes through the
 //! parts and writes with a `TopSubtreeBuilder`. It keeps an index, the rounds under way and the close spans of the open subtrees. An
-//! expression, type or pattern of several tokens goes into an opaque subtree (`enclose`).
+//! expression, type, pattern or literal of several tokens goes into an opaque subtree (`enclose`).
 //!
 //! A `MacroRules` is a list of arms, each a `Matcher`, a `Template` and a delimiter. `expand` returns what the first arm
 //! that matches the input makes of it.

@@ -90,7 +90,7 @@ const EXPANSIONS: [(&str, &str, &str); 25] = [
     (
         "($v:vis enum $n:ident {$($x:ident $(= $d:literal)?),* $(,)?}) => {$v enum $n {$($x $(= $d)?),*}}",
         "pub enum E { A = -1, B, }",
-        "{apub enum E {6A = - 1 , B ",
+        "{bpub enum E {7A = <2- 1 , B ",
     ),
     (
         "($([$($x:literal),*]),*) => {[$([$($x),*]),*]}",
@@ -109,9 +109,11 @@ const EXPANSIONS: [(&str, &str, &str); 25] = [
     ),
 ];
 
-// What a fragment of Rust's grammar took: an expression, a type or a pattern of more than one token is one
-// subtree. Others are the trees as they are.
-const PIECES: [(&str, &str, &str); 10] = [
+// What a fragment took: an expression, a type, a pattern or a literal of more than one token is one subtree. Others are the trees as they
+// are.
+const PIECES: [(&str, &str, &str); 12] = [
+    ("($x:literal) => {$x.pow(2)}", "-3", "{7<2- 3 . pow (12 "),
+    ("($x:literal) => {$x.pow(2)}", "3", "{53 . pow (12 "),
     ("($e:expr) => {$e * 2}", "a + b", "{6<3a + b * 2 "),
     ("($e:expr) => {$e * 2}", "a", "{3a * 2 "),
     (
@@ -160,8 +162,9 @@ fn told_again(alloc: Global, arms: &str, input: &str, others: &str) -> Option<St
     }
 }
 
-// A subtree of a fragment is taken as one: by `tt`, and by its own fragment, which then writes it as it is, or as a part of more.
-const AGAIN: [(&str, &str, &str, &str); 5] = [
+// A subtree of a fragment is taken as one: by `tt`, and by its own fragment, which then writes it as it is, or as a part of more. A negative
+// literal is taken so by `literal`, `expr` and `pat`, whether a `literal` or an `expr` took it first.
+const AGAIN: [(&str, &str, &str, &str); 14] = [
     (
         "($e:expr) => {$e * 2}",
         "a + b",
@@ -191,6 +194,60 @@ const AGAIN: [(&str, &str, &str, &str); 5] = [
         "A | B",
         "($p:pat_param = x) => {$p}",
         "{4<3A | B ",
+    ),
+    (
+        "($x:literal) => {$x}",
+        "-3",
+        "($y:literal) => {$y;}",
+        "{4<2- 3 ; ",
+    ),
+    (
+        "($x:literal) => {$x}",
+        "-3",
+        "($y:expr) => {$y;}",
+        "{4<2- 3 ; ",
+    ),
+    (
+        "($x:literal) => {$x}",
+        "-3",
+        "($y:pat) => {$y;}",
+        "{4<2- 3 ; ",
+    ),
+    (
+        "($x:literal) => {$x}",
+        "-3",
+        "($y:tt) => {$y;}",
+        "{4<2- 3 ; ",
+    ),
+    (
+        "($x:literal) => {$x}",
+        "3",
+        "($y:literal) => {$y;}",
+        "{23 ; ",
+    ),
+    (
+        "($x:expr) => {$x}",
+        "-3",
+        "($y:literal) => {$y;}",
+        "{4<2- 3 ; ",
+    ),
+    (
+        "($x:expr) => {$x}",
+        "-3 + 1",
+        "($y:literal) => {a}; ($y:tt) => {b}",
+        "{1b ",
+    ),
+    (
+        "($x:literal) => {-$x}",
+        "3",
+        "($y:literal) => {$y;}",
+        "{4<2- 3 ; ",
+    ),
+    (
+        "($($x:literal),*) => {$($x)*}",
+        "-3, 4, -1.5",
+        "($($y:literal)*) => {[$($y),*]}",
+        "{a[9<2- 3 , 4 , <2- 1.5 ",
     ),
 ];
 
