@@ -9,6 +9,17 @@ import random
 OPERATORS = ("+", "-", "*", "|", "&", "^")
 SEPARATORS = (",", ";", "=>", "")
 HOLD = ("all()", "not(any())", "any(all(), unix)")
+HEAD = """#[derive(Clone, Copy, PartialEq)]
+struct P { a: i64 }
+impl P {
+    fn of(a: i64) -> P { P { a } }
+    fn b(self, b: i64) -> i64 { self.a - b }
+}
+struct T<const A: usize>;
+impl<const A: usize> T<A> {
+    const N: i64 = A as i64;
+}
+"""
 FAIL = ("any()", "not(all())", "all(any(), unix)")
 
 
@@ -137,6 +148,47 @@ class Maker:
             self.lines.append(f"fn {function}() -> i64 {{ {value} }}")
             self.values.append(f"{function}()")
 
+    def shapes(self, piece):
+        """What the body of a function may do with a piece, an expression of numbers: first the forms that begin with it."""
+        sign = self.operator()
+        return (
+            f"{piece} {sign} 3", f"{piece} as u8 as i64", f"{piece}.wrapping_mul(3)", f"{piece} << 1", f"{piece} as i64 {sign} 2", f"{piece}.pow(2)",
+        ), (
+            f"{piece}", f"3 {sign} {piece}", f"-{piece}", f"!{piece}", f"let x = {piece}; x", f"let x: i64 = {piece} {sign} 1; x",
+            f"let mut x = 0; x += {piece}; x", f"return {piece};", f"[{piece}, 5][0]", f"[4, 5, {piece}].iter().sum()", f"i64::max({piece}, 2)",
+            f"if {piece} == 7 {{ {piece} }} else {{ 4 }}", f"if 3 < {piece} {{ 1 }} else {{ {piece} }}", f"match {piece} {{ 0..5 => {piece}, _ => 4 {sign} {piece} }}",
+            f"match 5 {{ x if {piece} > x => x, _ => {piece} }}", f"(0..{piece}).count() as i64", f"{{ {piece} }}", f"(|x: i64| {piece} {sign} x)(3)",
+            f"P {{ a: {piece} }}.a", f"P {{ a: {piece} {sign} 1 }}.a", f"*&{piece}", f"i64::from({piece} < 4)", f"i64::from(5 == {piece} && {piece} > 1)",
+            f"format!(\"{{}}\", {piece}).len() as i64", f"assert!({piece} == {piece}); 3", f"let x = [1, 2]; x[{piece} as usize & 1]",
+            f"'a: loop {{ break 'a {piece}; }}", f"for x in 0..{piece} {{ return x {sign} 2; }} 9", f"while {piece} > 100 {{ return 3; }} 8",
+            f"let Some(x) = Some({piece}) else {{ return 3 }}; x", f"if let 1..4 = {piece} {{ 3 }} else {{ 5 }}", f"5.min({piece})", f"P::of({piece}).a {sign} 2",
+            f"1 {sign} {piece} as i64", f"({piece}, 5).0 {sign} 2",
+        )
+
+    def pieces(self, calls):
+        """Functions that a macro writes with what its variables took, in many places."""
+        name, forward = self.name("piece"), self.name("hand")
+        kind = self.chance.choice(("expr", "expr", "expr_2021", "literal"))
+        first, others = self.shapes("$x")
+        bodies = "; ".join(
+            f"({number} $f:ident $x:{kind}) => {{ fn $f() -> i64 {{ {self.chance.choice(first if number < 2 else others)} }} }}" for number in range(5)
+        )
+        self.lines.append(f"macro_rules! {name} {{ {bodies} }}")
+        self.lines.append(f"macro_rules! {forward} {{ ($n:tt $f:ident $x:{kind}) => {{ {name}! {{ $n $f $x }} }}; }}")
+        literals = ["-1i64", "-3i64", "4i64", "-0x2i64"]
+        given = literals if kind == "literal" else [
+            *literals, f"1i64 {self.operator()} 2", "P { a: 3 }.a", "P { a: 2 }.b(1)", "P::of(3).b(2)", "3 as i64", "i64::max(1, 2)", "[1i64, 2][0]", "(3i64)",
+            "T::<3>::N", "<T<3>>::N", "5i64 & 3 | 4", "!3i64", "(2i64, 3).1", "vec![3i64, 4][1]", "(|x: i64| x)(3)", "5i64 - 2 - 1", "*&4i64",
+        ]
+        blocks = ["{ 3i64 }", "{ 3i64 } + 1", "if true { 3i64 } else { 4 }", "if true { 3i64 } else { 4 } + 1", "match 3i64 { x => x }", "unsafe { 3i64 } + 1", "'b: { 3i64 }"]
+        if calls and kind != "literal":
+            given += [f"i64::max({self.operand(calls)}, 1) + 1", f"1i64 + {self.operand(calls)}"]
+        for _ in range(self.chance.randint(2, 4)):
+            function, number = self.name("f"), self.chance.randrange(5)
+            piece = self.chance.choice(given if number < 2 or kind == "literal" else given + blocks)
+            self.lines.append(f"{self.chance.choice((name, forward))}! {{ {number} {function} {piece} }}")
+            self.values.append(f"{function}()")
+
     def constants(self, calls):
         """Items that a macro writes, in braces or with a `;` behind the call."""
         name = self.name("constants")
@@ -199,7 +251,7 @@ def made(seed):
     maker = Maker(seed)
     calls = [make() for make in maker.chance.sample((maker.folding, maker.counting, maker.choosing), maker.chance.randint(1, 3))]
     for _ in range(maker.chance.randint(2, 6)):
-        what = maker.chance.choice(("statements", "blocks", "constants", "conditions", "defining", "modules"))
-        getattr(maker, what)(*([calls] if what in ("statements", "blocks", "constants", "conditions") else []))
+        what = maker.chance.choice(("statements", "blocks", "pieces", "constants", "conditions", "defining", "modules"))
+        getattr(maker, what)(*([calls] if what in ("statements", "blocks", "pieces", "constants", "conditions") else []))
     printed = "".join(f'    println!("{{}}", {it});\n' for it in maker.values)
-    return "\n".join(maker.lines) + f"\n\nfn main() {{\n{printed}}}\n"
+    return HEAD + "\n".join(maker.lines) + f"\n\nfn main() {{\n{printed}}}\n"

@@ -72,7 +72,7 @@ message name wrong.Left = about (codes "this call of ") name (codes " is left as
 message name wrong.SeveralDefinitions =
     about (codes "this call of ") name (codes " is left as it is: which of its definitions holds depends on `#[cfg(..)]`")
 message name wrong.Conditional =
-    about (codes "this call of ") name (codes " is left as it is: `#[cfg(..)]` cannot apply to each part of its expansion")
+    about (codes "this call of ") name (codes " is left as it is: its attributes cannot apply to its expansion")
 message name wrong.NoMatch = about (codes "no rule of ") name (codes " matches this")
 message name (wrong.Ambiguous arm) = about_rule arm name (codes " matches this in two ways")
 message name (wrong.Expansion error) = transcribe_message name error.arm error.fault

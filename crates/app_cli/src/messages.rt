@@ -130,7 +130,7 @@ pub fn message(alloc: Global, name: &str, fault: MacroFault) -> Result<String, A
             alloc,
             "this call of ",
             name,
-            " is left as it is: `#[cfg(..)]` cannot apply to each part of its expansion",
+            " is left as it is: its attributes cannot apply to its expansion",
         ),
         MacroFault::NoMatch => about(alloc, "no rule of ", name, " matches this"),
         MacroFault::Ambiguous(arm) => about_rule(alloc, arm, name, " matches this in two ways"),

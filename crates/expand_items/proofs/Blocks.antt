@@ -1,20 +1,60 @@
--- Trees passed up to the end of a block, and up to a `;` at the end.
+-- Blocks among trees, and trees passed up to the end of a block and up to a `;` at the end.
 use Rattle.std.proofs.Common.{◌≡◌, ◌+◌, ◌<◌, ◌≤◌, ℕ, suc, Bool, true, false, codes, refl, ap, sym, ◌∙◌, arith, cond}
 use Rattle.std.proofs.lemmas.Bool.{false≢true}
-use Rattle.std.specs.Prelude.{◌&&◌, not}
+use Rattle.std.specs.Prelude.{◌&&◌, ◌||◌, not}
 use Rattle.tt.specs.Forest.{Forest, end, leaf, node, join, size}
 use Rattle.tt.specs.Gluing.{after_trees}
 use Rattle.tt.specs.Moves.{after_tree}
 use Rattle.tt.specs.Siblings.{is_end}
+use Rattle.tt.specs.Types.Delimiter.{Delimiter}
+use Rattle.tt.specs.Types.DelimiterKind.{DelimiterKind}
+use Rattle.tt.specs.Types.DelimiterKind.TheVariants as delimited
 use Rattle.tt_base.proofs.Joins.{join-assoc}
 use Rattle.expand_items.proofs.ManyTrees.{after_more}
-use Rattle.expand_items.specs.Expressions.{block_goes_on, is_at_braces, is_last_semicolon, without_semicolon}
+use Rattle.expand_items.specs.Expressions.{begins_block, block_goes_on, has_no_block, is_at_block, is_at_braces, is_invisible, is_last_semicolon, without_semicolon}
 use Rattle.mbe_pattern.proofs.Passing.{front_is}
-use Rattle.mbe_pattern.specs.Units.{front_trees, is_at_word}
+use Rattle.mbe_pattern.specs.Units.{front_trees, is_at_word, is_brace}
 
 -- the first tree is braces that end a block
 abbrev pub ends_block : Forest → Bool
 ends_block trees = is_at_braces trees && not (is_at_word (codes "else") (after_tree trees))
+
+-- A subtree with brackets begins with a block if these are braces, and an invisible one if its children do.
+pub bracketed_begins : (it : Delimiter) (children rest : Forest) → is_invisible it.kind ≡ false → begins_block (node it children rest) ≡ is_brace it.kind
+bracketed_begins it children rest = by it.kind
+  where
+    by : (kind : DelimiterKind) → is_invisible kind ≡ false → (is_brace kind || (is_invisible kind && begins_block children)) ≡ is_brace kind
+    by delimited.Parenthesis e = refl
+    by delimited.Brace e = refl
+    by delimited.Bracket e = refl
+    by delimited.Invisible e = absurd (false≢true (sym e))
+    by delimited.InvisibleOpaque e = absurd (false≢true (sym e))
+
+pub invisible_begins : (it : Delimiter) (children rest : Forest) → is_invisible it.kind ≡ true → begins_block (node it children rest) ≡ begins_block children
+invisible_begins it children rest = by it.kind
+  where
+    by : (kind : DelimiterKind) → is_invisible kind ≡ true → (is_brace kind || (is_invisible kind && begins_block children)) ≡ begins_block children
+    by delimited.Parenthesis e = absurd (false≢true e)
+    by delimited.Brace e = absurd (false≢true e)
+    by delimited.Bracket e = absurd (false≢true e)
+    by delimited.Invisible e = refl
+    by delimited.InvisibleOpaque e = refl
+
+-- A block ends the search for blocks; another tree goes on with it.
+pub block_found : (trees : Forest) → is_at_block trees ≡ true → has_no_block trees ≡ false
+block_found end e = absurd (false≢true e)
+block_found (leaf it rest) e = ap (λ b. not b && has_no_block rest) e
+block_found (node delimiter children rest) e = ap (λ b. not b && has_no_block rest) e
+
+pub no_block_yet : (trees : Forest) → is_at_block trees ≡ false → is_end trees ≡ false → has_no_block trees ≡ has_no_block (after_tree trees)
+no_block_yet end e some = absurd (false≢true (sym some))
+no_block_yet (leaf it rest) e some = ap (λ b. not b && has_no_block rest) e
+no_block_yet (node delimiter children rest) e some = ap (λ b. not b && has_no_block rest) e
+
+pub none_found : (trees : Forest) → is_end trees ≡ true → has_no_block trees ≡ true
+none_found end e = refl
+none_found (leaf it rest) e = absurd (false≢true e)
+none_found (node delimiter children rest) e = absurd (false≢true e)
 
 -- What follows other trees decides.
 pub passed_on : (trees : Forest) → ends_block trees ≡ false → block_goes_on trees ≡ block_goes_on (after_tree trees)

@@ -6,7 +6,7 @@ use Rattle.tt.specs.Gluing.{after_trees}
 use Rattle.tt.specs.Moves.{after_tree}
 use Rattle.tt.specs.Types.Delimiter.{Delimiter}
 use Rattle.tt.specs.Types.Ident.{Ident}
-use Rattle.expand_items.specs.Attributes.{attributes_len, begins_condition, item_at, item_behind, with_attributes}
+use Rattle.expand_items.specs.Attributes.{attributes_len, begins_attributes, item_at, item_behind, with_attributes}
 use Rattle.expand_items.specs.Items.{Definition, Call, Item, defines, calls, other, call_behind, call_from, call_in, definition_in, is_at_colons, is_at_root, item_from, item_in, name_in}
 use Rattle.expand_items.specs.Positions.{is_statement}
 use Rattle.expand_items.specs.declared.position.Position.{Position}
@@ -119,10 +119,10 @@ module _ (root : List ℕ) (position : Position) (trees : Forest) where
       by false e = by_itself root trees it e
 
       at : (verbatim : Bool)
-          → cond verbatim other (cond (begins_condition position trees) (item_behind position (attributes_len trees) behind (item_in root behind)) (item_in root trees)) ≡ calls it
+          → cond verbatim other (cond (begins_attributes position trees) (item_behind position (attributes_len trees) behind (item_in root behind)) (item_in root trees)) ≡ calls it
           → IsCallThere root trees it
       at true e = absurd (cc e)
-      at false e = by (begins_condition position trees) e
+      at false e = by (begins_attributes position trees) e
 
   -- A call at a position is one after its attributes.
   pub call_at : (it : Call) → item_at root position trees ≡ calls it → IsCallBehind root trees it
@@ -147,10 +147,10 @@ module _ (root : List ℕ) (position : Position) (trees : Forest) where
       by false e = e
 
       at : (verbatim : Bool)
-          → cond verbatim other (cond (begins_condition position trees) (item_behind position (attributes_len trees) behind (item_in root behind)) (item_in root trees)) ≡ defines it
+          → cond verbatim other (cond (begins_attributes position trees) (item_behind position (attributes_len trees) behind (item_in root behind)) (item_in root trees)) ≡ defines it
           → item_in root trees ≡ defines it
       at true e = absurd (cc e)
-      at false e = by (begins_condition position trees) e
+      at false e = by (begins_attributes position trees) e
 
   -- Attributes before a call end with a subtree, if there are any.
   pub attributes_closed : (it : Call) → item_at root position trees ≡ calls it

@@ -1,9 +1,12 @@
 -- Worked ends of statements, and worked enclosures of expansions. Each holds by computation.
-use Rattle.std.proofs.Common.{◌≡◌, ℕ, true, false, codes, refl}
-use Rattle.tt.specs.Forest.{Forest, end}
-use Rattle.tt.specs.Types.DelimiterKind.TheVariants.{Parenthesis, Brace, Bracket}
+use Rattle.std.proofs.Common.{◌≡◌, ℕ, List, true, false, codes, refl}
+use Rattle.tt.specs.Forest.{Forest, end, join}
+use Rattle.tt.specs.Types.DelimiterKind.TheVariants.{Parenthesis, Brace, Bracket, InvisibleOpaque}
 use Rattle.tt.specs.Types.Spacing.TheVariants.{Alone, Joint, JointHidden}
-use Rattle.tt_base.proofs.Samples.{punct}
+use Rattle.tt.specs.Types.IdentIsRaw.TheVariants.{Yes}
+use Rattle.tt.specs.Types.Leaf.{Leaf}
+use Rattle.tt.specs.Types.Leaf.TheVariants as leaf_of
+use Rattle.tt_base.proofs.Samples.{ident, punct, span, subtree}
 use Rattle.expand_items.proofs.Rows.{bang, brackets, m_call}
 use Rattle.expand_items.specs.Attributes.{item_at}
 use Rattle.expand_items.specs.Items.{other}
@@ -11,7 +14,9 @@ use Rattle.expand_items.specs.declared.expression.Enclosure.TheVariants.{Bare, O
 use Rattle.expand_items.specs.declared.front.Front.TheVariants as front
 use Rattle.expand_items.specs.declared.position.Position.{Position}
 use Rattle.expand_items.specs.declared.position.Siblings.TheVariants.{Items, Statements}
-use Rattle.expand_items.specs.Expressions.{begins_block, block_goes_on, without_semicolon}
+use Rattle.expand_items.specs.Expressions.{begins_block, block_goes_on, is_split, without_semicolon}
+use Rattle.expand_items.specs.Fronts.{front_behind_kind}
+use Rattle.expand_items.specs.Loosening.{front_behind_leaf}
 use Rattle.expand_items.specs.Positions.{begun, behind_leaf, enclosure, first_in, first_of_call, is_statement}
 use Rattle.mbe_pattern.proofs.Rows.{word, raw_word, alone, joint}
 
@@ -27,6 +32,9 @@ behind_sign char it = behind_leaf (punct char Alone) end it
 
 abbrev behind_joint : (char : ℕ) → Position → Position
 behind_joint char it = behind_leaf (punct char Joint) end it
+
+abbrev raw_ident : List ℕ → Leaf
+raw_ident text = leaf_of.Ident (record { sym = text; span = span 0 1; is_raw = Yes })
 
 -- `a + b`, `{} + b`, `{}`
 abbrev sum : Forest
@@ -123,6 +131,57 @@ negated = refl
 split_arm : enclosure 0 Parenthesis (alone 44 end) split (behind_sign 62 (behind_joint 61 (behind_sign 43 body))) ≡ Opaque
 split_arm = refl
 
+-- `a: m!(),`, `return m!();` and `if m!() {}` are bare; `r#if m!() {}` and `if m!() {}` with a block in the expansion are not.
+field : enclosure 0 Parenthesis (alone 44 end) sum (behind_sign 58 (behind_leaf (ident (codes "a")) end argument)) ≡ Bare
+field = refl
+
+path : enclosure 0 Parenthesis (alone 44 end) sum (behind_sign 58 (behind_joint 58 argument)) ≡ Opaque
+path = refl
+
+returned : enclosure 0 Parenthesis (alone 59 end) sum (behind_leaf (ident (codes "return")) end body) ≡ Bare
+returned = refl
+
+tested : enclosure 0 Parenthesis block sum (behind_leaf (ident (codes "if")) end body) ≡ Bare
+tested = refl
+
+raw_tested : enclosure 0 Parenthesis block sum (behind_leaf (raw_ident (codes "if")) end body) ≡ Opaque
+raw_tested = refl
+
+tested_block : enclosure 0 Parenthesis block split (behind_leaf (ident (codes "if")) end body) ≡ Opaque
+tested_block = refl
+
+tested_call : enclosure 0 Parenthesis block (word (codes "n") (bang (brackets Parenthesis end))) (behind_leaf (ident (codes "if")) end body) ≡ Opaque
+tested_call = refl
+
+tested_return : enclosure 0 Parenthesis block (word (codes "return") end) (behind_leaf (ident (codes "if")) end body) ≡ Opaque
+tested_return = refl
+
+-- `m!() => a` and `-> m!(),` are bare; `- m!(),` and `> m!(),` are not.
+pattern : enclosure 0 Parenthesis (joint 61 (alone 62 end)) sum body ≡ Bare
+pattern = refl
+
+result : enclosure 0 Parenthesis (alone 44 end) sum (behind_sign 62 (behind_joint 45 argument)) ≡ Bare
+result = refl
+
+subtracted : enclosure 0 Parenthesis (alone 44 end) sum (behind_sign 45 argument) ≡ Opaque
+subtracted = refl
+
+greater : enclosure 0 Parenthesis (alone 44 end) sum (behind_sign 62 argument) ≡ Opaque
+greater = refl
+
+-- After `;` and after braces a statement may begin.
+after_semicolon : front_behind_leaf (punct 59 Alone) front.Bound ≡ front.Start
+after_semicolon = refl
+
+after_braces : front_behind_kind Brace ≡ front.Start
+after_braces = refl
+
+after_colon : front_behind_leaf (punct 58 Alone) front.Bound ≡ front.Colon
+after_colon = refl
+
+after_list : front_behind_kind Bracket ≡ front.Bound
+after_list = refl
+
 -- Nothing precedes what an argument expands to. What an arm or the beginning of a statement expands to begins there too, so a block at its
 -- beginning is in parentheses.
 argument_begins : (first_of_call 0 Parenthesis end argument).front ≡ front.Free
@@ -171,6 +230,16 @@ call_in_parentheses = refl
 
 list_begins : begins_block (brackets Bracket end) ≡ false
 list_begins = refl
+
+invisible_begins : begins_block (join (subtree InvisibleOpaque block) end) ≡ true
+invisible_begins = refl
+
+-- An invisible subtree of a block splits what follows it; it does not if it is alone.
+invisible_splits : is_split (join (subtree InvisibleOpaque block) (alone 43 (word (codes "b") end))) ≡ true
+invisible_splits = refl
+
+invisible_alone : is_split (join (subtree InvisibleOpaque block) end) ≡ false
+invisible_alone = refl
 
 -- `if a {} else {}` and `match a {}` end with a block; `if a {} else {} + b` goes on.
 chain_ends : block_goes_on (word (codes "if") (word (codes "a") (brackets Brace (word (codes "else") (brackets Brace end))))) ≡ false

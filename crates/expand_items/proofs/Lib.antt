@@ -12,3 +12,6 @@ pub mod Beginnings
 pub mod Attributes
 pub mod Conditions
 pub mod Wanting
+pub mod Rebuilding
+pub mod BuiltSoFar
+pub mod LooseningRows

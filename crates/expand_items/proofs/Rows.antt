@@ -190,15 +190,16 @@ operands_come = refl
 abbrev behind_attribute : List ℕ → Position → Position
 behind_attribute text it = behind_subtree Bracket (behind_leaf (punct 35 Alone) (subtree Bracket (word text end)) it)
 
--- A condition precedes what follows `#[cfg] #[inline]`; none precedes what follows `#[inline]`, or what follows the tree after `#[cfg]`.
-conditional : (behind_attribute (codes "inline") (behind_attribute (codes "cfg") (begun Items))).is_conditional ≡ true
-conditional = refl
+-- An attribute precedes what follows `#[inline]`; none precedes what follows `#![inline]`, or what follows the tree after `#[cfg]`.
+attributed : (behind_attribute (codes "inline") (begun Items)).is_attributed ≡ true
+attributed = refl
 
-unconditional : (behind_attribute (codes "inline") (begun Items)).is_conditional ≡ false
-unconditional = refl
+unattributed : (behind_subtree Bracket (behind_leaf (punct 33 Alone) (subtree Bracket (word (codes "inline") end))
+    (behind_leaf (punct 35 Alone) (bang (subtree Bracket (word (codes "inline") end))) (begun Items)))).is_attributed ≡ false
+unattributed = refl
 
-condition_ends : (behind_word (codes "a") (behind_attribute (codes "cfg") (begun Items))).is_conditional ≡ false
-condition_ends = refl
+attributes_end : (behind_word (codes "a") (behind_attribute (codes "cfg") (begun Items))).is_attributed ≡ false
+attributes_end = refl
 
 -- In `#[cfg] mod m {..}` the condition is in force before the braces, in them, and there also after a `;`; it is not after the braces. None is
 -- after `#[inline]`.
@@ -256,7 +257,7 @@ two_conditions = refl
 abbrev m_item : Forest
 m_item = word (codes "m") (bang (brackets Parenthesis (alone 59 end)))
 
--- `#[cfg] m!();` is one item; so are `#[cfg] #[inline] m!();`, and `#[cfg] m!()` with nothing after it.
+-- `#[cfg] m!();` is one item; so are `#[cfg] #[inline] m!();`, `#[inline] m!();`, and `#[cfg] m!()` with nothing after it.
 under_condition : item_at (codes "crate") (begun Items) (attribute (codes "cfg") m_item) ≡ m_call_behind 2 false 5
 under_condition = refl
 
@@ -266,12 +267,12 @@ behind_two = refl
 last_statement : item_at (codes "crate") (begun Statements) (attribute (codes "cfg") (word (codes "m") (bang (brackets Parenthesis end)))) ≡ m_call_behind 2 false 5
 last_statement = refl
 
--- `#[cfg] m!() + ..` is none, and a call after `#[inline]` or after the second of two conditions is none,
+other_attribute : item_at (codes "crate") (begun Items) (attribute (codes "inline") m_item) ≡ m_call_behind 2 false 5
+other_attribute = refl
+
+-- `#[cfg] m!() + ..` is none, and what follows the first of two attributes is none,
 operand_under_condition : item_at (codes "crate") (begun Statements) (attribute (codes "cfg") (word (codes "m") (bang (brackets Parenthesis (alone 43 end))))) ≡ other
 operand_under_condition = refl
-
-other_attribute : item_at (codes "crate") (begun Items) (attribute (codes "inline") m_item) ≡ other
-other_attribute = refl
 
 second_condition : item_at (codes "crate") (behind_attribute (codes "cfg") (begun Items)) (attribute (codes "cfg") m_item) ≡ other
 second_condition = refl
@@ -283,7 +284,7 @@ later_condition = refl
 definition_under_condition : item_at (codes "crate") (begun Items) (attribute (codes "cfg") (word (codes "macro_rules") (bang (word (codes "m") (brackets Brace end))))) ≡ other
 definition_under_condition = refl
 
--- Without a condition, what comes first is that, also after one.
+-- Without an attribute, what comes first is that, also after one.
 without_condition : item_at (codes "crate") (begun Items) m_item ≡ m_call false 3
 without_condition = refl
 

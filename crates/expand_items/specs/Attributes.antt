@@ -1,4 +1,4 @@
--- Attributes, and calls under conditions.
+-- Attributes, and calls behind them.
 use Rattle.std.specs.Prelude.{ℕ, ◌+◌, ◌==◌, ◌&&◌, not, Bool, true, false, List, codes, if◌then◌else◌}
 use Rattle.tt.specs.Forest.{Forest, end, leaf, node, join}
 use Rattle.tt.specs.Gluing.{after_trees}
@@ -56,9 +56,9 @@ conditions_of (leaf it (node delimiter children rest)) =
     then before_if (is_at_condition (leaf it (node delimiter children rest))) (leaf it (node delimiter children end)) (conditions_of rest)
     else end
 
--- the first condition comes first, at the beginning of a statement or an item
-abbrev pub begins_condition : Position → Forest → Bool
-begins_condition position trees = position.is_start && (not position.is_conditional && is_at_condition trees)
+-- the first attribute comes first, at the beginning of a statement or an item
+abbrev pub begins_attributes : Position → Forest → Bool
+begins_attributes position trees = position.is_start && (not position.is_attributed && is_at_attribute trees)
 
 -- so many trees of attributes are a part of a call
 abbrev pub with_attributes : (len : ℕ) → Call → Call
@@ -71,11 +71,11 @@ item_behind position attributes trees (calls it) =
     if is_statement attributes it.delimiter.kind (after_trees it.len trees) position then calls (with_attributes attributes it) else other
 item_behind position attributes trees other = other
 
--- what comes first at a position: nothing in the brackets that an attribute gets; a call under a condition contains the attributes from the
--- first condition on
+-- what comes first at a position: nothing in the brackets that an attribute gets; a call that is a statement or an item contains the
+-- attributes before it
 abbrev pub item_at : (root : List ℕ) → Position → Forest → Item
 item_at root position trees =
     if position.is_verbatim then other
-    else (if begins_condition position trees
+    else (if begins_attributes position trees
     then item_behind position (attributes_len trees) (after_trees (attributes_len trees) trees) (item_in root (after_trees (attributes_len trees) trees))
     else item_in root trees)

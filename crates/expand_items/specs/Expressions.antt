@@ -3,12 +3,29 @@ use Rattle.std.specs.Prelude.{ℕ, ◌==◌, ◌||◌, ◌&&◌, not, Bool, true
 use Rattle.tt.specs.Forest.{Forest, end, leaf, node}
 use Rattle.tt.specs.Moves.{after_tree}
 use Rattle.tt.specs.Siblings.{is_end}
+use Rattle.tt.specs.Types.DelimiterKind.{DelimiterKind}
+use Rattle.tt.specs.Types.DelimiterKind.TheVariants as delimited
 use Rattle.tt.specs.Types.IdentIsRaw.{IdentIsRaw}
 use Rattle.tt.specs.Types.IdentIsRaw.TheVariants as raw
+use Rattle.tt.specs.Types.Leaf.{Leaf}
 use Rattle.tt.specs.Types.Leaf.TheVariants as leaf_of
 use Rattle.expand_items.specs.declared.expression.Enclosure.{Enclosure}
 use Rattle.expand_items.specs.declared.expression.Enclosure.TheVariants as enclosed
-use Rattle.mbe_pattern.specs.Units.{is_at_word, is_brace, is_at_punct, unit_size}
+use Rattle.mbe_pattern.specs.Units.{is_at_word, is_brace, is_at_punct, is_word, unit_size}
+
+-- a subtree without brackets
+abbrev pub is_invisible : DelimiterKind → Bool
+is_invisible delimited.Parenthesis = false
+is_invisible delimited.Brace = false
+is_invisible delimited.Bracket = false
+is_invisible delimited.Invisible = true
+is_invisible delimited.InvisibleOpaque = true
+
+-- such a subtree comes first
+abbrev pub is_at_invisible : Forest → Bool
+is_at_invisible end = false
+is_at_invisible (leaf it rest) = false
+is_at_invisible (node delimiter children rest) = is_invisible delimiter.kind
 
 -- braces come first
 abbrev pub is_at_braces : Forest → Bool
@@ -31,13 +48,13 @@ abbrev pub begins_block_as : IdentIsRaw → (word : List ℕ) → (rest : Forest
 begins_block_as raw.Yes word rest = false
 begins_block_as raw.No word rest = begins_with_block word || is_at_braced_call rest
 
--- an expression of these trees begins with a block: with braces, with such an ident, or with a label
+-- an expression of these trees begins with a block: with braces, with such an ident, with a label, or with an invisible subtree that does
 abbrev pub begins_block : Forest → Bool
 begins_block end = false
 begins_block (leaf (leaf_of.Literal it) rest) = false
 begins_block (leaf (leaf_of.Punct it) rest) = it.char == 39
 begins_block (leaf (leaf_of.Ident it) rest) = begins_block_as it.is_raw it.sym rest
-begins_block (node delimiter children rest) = is_brace delimiter.kind
+begins_block (node delimiter children rest) = is_brace delimiter.kind || (is_invisible delimiter.kind && begins_block children)
 
 -- a subtree comes first
 abbrev pub is_at_subtree : Forest → Bool
@@ -62,20 +79,50 @@ block_goes_on (node delimiter children rest) =
 
 -- at the beginning of a statement or an arm, an expression of these trees ends before its end, with the block that it begins with
 abbrev pub is_split : Forest → Bool
-is_split trees = begins_block trees && block_goes_on trees
+is_split trees = begins_block trees && (block_goes_on trees || (is_at_invisible trees && not (is_end (after_tree trees))))
 
 -- an expression that a call in braces begins goes on with `.` or `?`
 abbrev pub goes_on : Forest → Bool
 goes_on trees = (unit_size trees == 1) && (is_at_punct (codes ".") trees || is_at_punct (codes "?") trees)
 
+-- `=>` comes first
+abbrev pub is_at_arrow : Forest → Bool
+is_at_arrow trees = is_at_punct (codes "=") trees && is_at_punct (codes ">") (after_tree trees)
+
 -- an expression may end before these trees, whatever it is
 abbrev pub may_end : Forest → Bool
-may_end trees = is_end trees || (is_at_punct (codes ",") trees || is_at_punct (codes ";") trees)
+may_end trees = is_end trees || (is_at_punct (codes ",") trees || (is_at_punct (codes ";") trees || is_at_arrow trees))
+
+-- a leaf before these trees makes a block of them, or takes the braces behind them: the `!` of a call, or `return`
+abbrev pub takes_block : Leaf → (rest : Forest) → Bool
+takes_block (leaf_of.Literal it) rest = false
+takes_block (leaf_of.Punct it) rest = (it.char == 33) && is_at_subtree rest
+takes_block (leaf_of.Ident it) rest = is_word (codes "return") it.is_raw it.sym
+
+-- the first tree is, may become or takes a block: braces, an invisible subtree, the `!` of a call, or `return`
+abbrev pub is_at_block : Forest → Bool
+is_at_block end = false
+is_at_block (leaf it rest) = takes_block it rest
+is_at_block (node delimiter children rest) = is_brace delimiter.kind || is_invisible delimiter.kind
+
+-- none of these trees does
+abbrev pub has_no_block : Forest → Bool
+has_no_block end = true
+has_no_block (leaf it rest) = not (is_at_block (leaf it rest)) && has_no_block rest
+has_no_block (node delimiter children rest) = not (is_at_block (node delimiter children rest)) && has_no_block rest
+
+-- an expression of these trees may end before others: before braces only if it has no block, as in `if a == b {}`
+abbrev pub fits_before : (trees behind : Forest) → Bool
+fits_before trees behind = may_end behind || (is_at_braces behind && has_no_block trees)
+
+-- an `=` that is a token comes first
+abbrev pub is_at_assignment : Forest → Bool
+is_at_assignment trees = (unit_size trees == 1) && is_at_punct (codes "=") trees
 
 -- how an expansion is enclosed at the beginning of a statement or an arm, before these trees: the block that it begins with must not end it
 abbrev pub enclosure_at_start : (behind expansion : Forest) → Enclosure
 enclosure_at_start behind expansion =
-    if may_end behind then (if is_split expansion then enclosed.Opaque else enclosed.Bare)
+    if fits_before expansion behind then (if is_split expansion then enclosed.Opaque else enclosed.Bare)
     else (if begins_block expansion || is_at_call expansion then enclosed.Parentheses else enclosed.Opaque)
 
 -- a `;` is the only tree

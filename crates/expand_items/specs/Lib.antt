@@ -1,4 +1,6 @@
 -- Items and statements under conditions.
+pub mod Loosening
+pub mod Operands
 pub mod Parts
 pub mod Spreads
 -- What comes among siblings, as far as macros need it.

@@ -19,8 +19,8 @@ use Rattle.expand_items.specs.declared.position.Head.TheVariants as head
 use Rattle.expand_items.specs.declared.position.Position.{Position}
 use Rattle.expand_items.specs.declared.position.Siblings.{Siblings}
 use Rattle.expand_items.specs.declared.position.Siblings.TheVariants as siblings
-use Rattle.expand_items.specs.Expressions.{enclosure_at_start, goes_on, may_end}
-use Rattle.expand_items.specs.Fronts.{front_behind, front_of_expansion, is_at_start, is_free}
+use Rattle.expand_items.specs.Expressions.{enclosure_at_start, fits_before, goes_on}
+use Rattle.expand_items.specs.Fronts.{front_behind, front_behind_ident, front_of_expansion, is_at_start, is_free}
 use Rattle.mbe_pattern.specs.Units.{is_at_word, is_brace, is_at_punct}
 use Rattle.mbe_pattern.specs.Spelling.{is_parenthesis}
 
@@ -88,7 +88,7 @@ begun its =
       is_start = is_block its;
       head = head.Unknown;
       is_used = false;
-      is_conditional = false;
+      is_attributed = false;
       is_attribute = false;
       is_under = false;
       is_open = false;
@@ -120,7 +120,7 @@ behind ends it =
       is_start = is_block it.siblings && ends;
       head = if ends then head.Unknown else it.head;
       is_used = false;
-      is_conditional = false;
+      is_attributed = false;
       is_attribute = false;
       is_under = it.is_under;
       is_open = if ends then it.is_under else it.is_open;
@@ -135,7 +135,7 @@ abbrev pub behind_attribute_sign : Forest → Position → Position
 behind_attribute_sign trees it =
     record it {
       is_used = it.is_used || is_at_attribute_of (codes "macro_use") trees;
-      is_conditional = it.is_conditional || is_at_attribute_of (codes "cfg") trees;
+      is_attributed = it.is_attributed || is_at_brackets trees;
       is_attribute = true;
       is_open = it.is_open || is_at_attribute_of (codes "cfg") trees;
     }
@@ -156,9 +156,9 @@ behind_ident ident it =
     record it {
       is_start = false;
       head = head_behind_ident ident.is_raw ident.sym it.head;
-      is_conditional = false;
+      is_attributed = false;
       is_attribute = false;
-      front = front.Bound;
+      front = front_behind_ident ident.is_raw ident.sym;
     }
 
 -- after a leaf, before these trees
@@ -223,4 +223,4 @@ abbrev pub enclosure : (attributes : ℕ) → DelimiterKind → (behind expansio
 enclosure attributes kind behind expansion it =
     if is_statement attributes kind behind it then enclosed.Bare
     else (if is_at_start it.is_start it.front then enclosure_at_start behind expansion
-    else (if may_end behind && is_free it.front then enclosed.Bare else enclosed.Opaque))
+    else (if fits_before expansion behind && is_free it.front then enclosed.Bare else enclosed.Opaque))

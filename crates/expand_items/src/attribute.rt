@@ -1,4 +1,4 @@
-//! Attributes, and calls under conditions.
+//! Attributes, and calls behind them.
 ghost use Rattle.std.specs.Prelude.{◌≡◌, ◌+◌, ◌<◌, ◌^◌};
 ghost use Rattle.tt.specs.Forest.{size};
 ghost use Rattle.tt.specs.Iters.{rest_of};
@@ -14,8 +14,8 @@ use tt::{DelimiterKind, Leaf, TtElement, TtIter};
 /// The number of trees of an attribute: `#` and brackets.
 const ATTRIBUTE_LEN: usize = 2;
 
-// Returns whether the first tree is brackets.
-fn is_at_brackets(mut trees: TtIter<'_>) -> bool
+/// Returns whether the first tree is brackets.
+pub(crate) fn is_at_brackets(mut trees: TtIter<'_>) -> bool
     ensures { result ≡ is_at_brackets (rest_of trees.entry) }
 {
     match trees.next() {
@@ -109,15 +109,15 @@ fn item_behind<'a>(
     }
 }
 
-/// Returns what comes first at a position: a call under a condition contains the attributes from the first condition on. What an attribute
-/// gets in brackets contains no call and no definition.
+/// Returns what comes first at a position: a call that is a statement or an item contains the attributes before it. What an attribute gets
+/// in brackets contains no call and no definition.
 pub fn item_at<'a>(position: Position, mut trees: TtIter<'a>, root: &str) -> Item<'a>
     ensures { item_meant result ≡ item_at root.now position (rest_of trees.entry) }
 {
     if position.is_verbatim() {
         return Item::Other;
     }
-    if !position.begins_condition(trees.remaining().iter()) {
+    if !position.begins_attributes(trees.remaining().iter()) {
         return item_in(trees, root);
     }
     let attributes = attributes_len(trees.remaining().iter());

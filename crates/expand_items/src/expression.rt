@@ -1,8 +1,12 @@
 //! Expansions in the place of an expression: how they begin, how they end, and what follows them.
-ghost use Rattle.std.specs.Prelude.{◌≡◌};
+ghost use Rattle.std.specs.Prelude.{◌≡◌, ◌&&◌, not};
+ghost use Rattle.tt.specs.Forest.{leaf as leaf_of};
 ghost use Rattle.tt.specs.Iters.{rest_of};
+ghost use Rattle.tt.specs.Moves.{after_tree};
+ghost use Rattle.tt.specs.Siblings.{is_end};
 ghost use Rattle.tt.specs.Views.{trees_of};
-ghost use Rattle.expand_items.specs.Expressions.{begins_block, begins_with_block, block_goes_on, enclosure_at_start, goes_on, is_at_braces, is_at_call, is_at_subtree, is_last_semicolon, is_split, may_end, without_semicolon};
+ghost use Rattle.mbe_pattern.specs.Units.{is_brace};
+ghost use Rattle.expand_items.specs.Expressions.{begins_block, begins_with_block, block_goes_on, enclosure_at_start, fits_before, goes_on, has_no_block, is_at_arrow, is_at_assignment, is_at_block, is_at_braces, is_at_call, is_at_invisible, is_at_subtree, is_invisible, is_last_semicolon, is_split, may_end, takes_block, without_semicolon};
 
 use mbe_pattern::{is_at_punct, is_at_word, take, unit_size};
 use tt::{DelimiterKind, IdentIsRaw, Leaf, TokenTreesView, TtElement, TtIter};
@@ -16,6 +20,13 @@ pub enum Enclosure {
     Opaque,
     /// In parentheses.
     Parentheses,
+}
+
+// Returns whether a subtree of a kind has braces.
+fn is_brace(kind: DelimiterKind) -> bool
+    ensures { result ≡ is_brace kind }
+{
+    kind == DelimiterKind::Brace
 }
 
 // Returns whether braces come first.
@@ -38,22 +49,49 @@ fn begins_with_block(word: &str) -> bool
     }
 }
 
-// Returns whether an expression of these trees begins with a block: with braces, a word such as `if` or `unsafe`, a label, or a call in
-// braces. At the beginning of a statement, it ends with that block.
-fn begins_block(mut trees: TtIter<'_>) -> bool
-    ensures { result ≡ begins_block (rest_of trees.entry) }
+// Returns whether a subtree of a kind has no brackets.
+pub(crate) fn is_invisible(kind: DelimiterKind) -> bool
+    ensures { result ≡ is_invisible kind }
 {
-    match trees.next() {
-        Some(TtElement::Subtree(header, _)) => header.delimiter.kind == DelimiterKind::Brace,
-        Some(TtElement::Leaf(Leaf::Punct(punct))) => punct.char == '\'',
-        Some(TtElement::Leaf(Leaf::Ident(ident))) => match ident.is_raw {
+    match kind {
+        DelimiterKind::Invisible | DelimiterKind::InvisibleOpaque => true,
+        DelimiterKind::Parenthesis | DelimiterKind::Brace | DelimiterKind::Bracket => false,
+    }
+}
+
+// Returns whether a leaf before these trees begins an expression that begins with a block.
+fn is_block_word(leaf: &Leaf, mut behind: TtIter<'_>) -> bool
+    ensures { result ≡ begins_block (leaf_of leaf.now (rest_of behind.entry)) }
+{
+    match leaf {
+        Leaf::Punct(punct) => punct.char == '\'',
+        Leaf::Ident(ident) => match ident.is_raw {
             IdentIsRaw::Yes => false,
             IdentIsRaw::No => {
                 begins_with_block(ident.sym.as_str())
-                    || trees.expect_char('!').is_ok() && is_at_braces(trees)
+                    || behind.expect_char('!').is_ok() && is_at_braces(behind)
             }
         },
-        Some(TtElement::Leaf(Leaf::Literal(_))) | None => false,
+        Leaf::Literal(_) => false,
+    }
+}
+
+// Returns whether an expression of these trees begins with a block: with braces, a word such as `if` or `unsafe`, a label, a call in
+// braces, or an invisible subtree that does. At the beginning of a statement, it ends with that block.
+fn begins_block(mut trees: TtIter<'_>) -> bool
+    ensures { result ≡ begins_block (rest_of trees.entry) }
+{
+    'trees: loop {
+        match trees.next() {
+            Some(TtElement::Subtree(header, inside)) => {
+                if !is_invisible(header.delimiter.kind) {
+                    return is_brace(header.delimiter.kind);
+                }
+                trees = inside;
+            }
+            Some(TtElement::Leaf(leaf)) => return is_block_word(&leaf, trees),
+            None => return false,
+        }
     }
 }
 
@@ -95,10 +133,23 @@ fn block_goes_on(mut trees: TtIter<'_>) -> bool
 
 // Returns whether an expression of these trees ends before its end at the beginning of a statement or an arm, with the block that it
 // begins with.
-fn is_split(trees: TtIter<'_>) -> bool
+pub(crate) fn is_split(trees: TtIter<'_>) -> bool
     ensures { result ≡ is_split (rest_of trees.entry) }
 {
-    begins_block(trees.remaining().iter()) && block_goes_on(trees)
+    begins_block(trees.remaining().iter())
+        && (block_goes_on(trees.remaining().iter()) || goes_on_behind_invisible(trees))
+}
+
+// Returns whether something follows the first tree, and that is an invisible subtree.
+fn goes_on_behind_invisible(mut trees: TtIter<'_>) -> bool
+    ensures { result ≡ (is_at_invisible (rest_of trees.entry) && not (is_end (after_tree (rest_of trees.entry)))) }
+{
+    match trees.next() {
+        Some(TtElement::Subtree(header, _)) => {
+            is_invisible(header.delimiter.kind) && !trees.is_empty()
+        }
+        _ => false,
+    }
 }
 
 /// Returns whether the expression that a call in braces begins goes on after the call: with `.` or `?`.
@@ -109,18 +160,82 @@ pub(crate) fn goes_on(trees: TtIter<'_>) -> bool
         && (is_at_punct(trees.remaining().iter(), '.') || is_at_punct(trees, '?'))
 }
 
-/// Returns whether an expression may end before these trees, whatever it is: at the end, or before `,` or `;`.
-pub(crate) fn may_end(trees: TtIter<'_>) -> bool
+// Returns whether `=>` comes first.
+fn is_at_arrow(mut trees: TtIter<'_>) -> bool
+    ensures { result ≡ is_at_arrow (rest_of trees.entry) }
+{
+    trees.expect_char('=').is_ok() && is_at_punct(trees, '>')
+}
+
+// Returns whether an expression may end before these trees, whatever it is: at the end, or before `,`, `;` or `=>`.
+fn may_end(trees: TtIter<'_>) -> bool
     ensures { result ≡ may_end (rest_of trees.entry) }
 {
-    trees.is_empty() || is_at_punct(trees.remaining().iter(), ',') || is_at_punct(trees, ';')
+    trees.is_empty()
+        || is_at_punct(trees.remaining().iter(), ',')
+        || is_at_punct(trees.remaining().iter(), ';')
+        || is_at_arrow(trees)
+}
+
+// Returns whether a leaf before these trees makes a block of them, or takes the braces behind them: the `!` of a call, or `return`.
+fn takes_block(leaf: &Leaf, behind: TtIter<'_>) -> bool
+    ensures { result ≡ takes_block leaf.now (rest_of behind.entry) }
+{
+    match leaf {
+        Leaf::Literal(_) => false,
+        Leaf::Punct(punct) => punct.char == '!' && is_at_subtree(behind),
+        Leaf::Ident(ident) => match ident.is_raw {
+            IdentIsRaw::No => ident.sym.as_str() == "return",
+            IdentIsRaw::Yes => false,
+        },
+    }
+}
+
+// Returns whether the first tree is, may become or takes a block: braces, an invisible subtree, the `!` of a call, or `return`.
+fn is_at_block(mut trees: TtIter<'_>) -> bool
+    ensures { result ≡ is_at_block (rest_of trees.entry) }
+{
+    match trees.next() {
+        Some(TtElement::Leaf(leaf)) => takes_block(&leaf, trees),
+        Some(TtElement::Subtree(header, _)) => {
+            is_brace(header.delimiter.kind) || is_invisible(header.delimiter.kind)
+        }
+        None => false,
+    }
+}
+
+// Returns whether none of these trees is, may become or takes a block.
+fn has_no_block(mut trees: TtIter<'_>) -> bool
+    ensures { result ≡ has_no_block (rest_of trees.entry) }
+{
+    while !trees.is_empty() {
+        if is_at_block(trees.remaining().iter()) {
+            return false;
+        }
+        trees.next();
+    }
+    true
+}
+
+/// Returns whether an expression of these trees may end before others: before braces only if it has no block, as in `if a == b {}`.
+pub(crate) fn fits_before(trees: TtIter<'_>, behind: TtIter<'_>) -> bool
+    ensures { result ≡ fits_before (rest_of trees.entry) (rest_of behind.entry) }
+{
+    may_end(behind.remaining().iter()) || is_at_braces(behind) && has_no_block(trees)
+}
+
+/// Returns whether an `=` that is a token comes first.
+pub(crate) fn is_at_assignment(trees: TtIter<'_>) -> bool
+    ensures { result ≡ is_at_assignment (rest_of trees.entry) }
+{
+    unit_size(trees.remaining().iter()) == 1 && is_at_punct(trees, '=')
 }
 
 /// Returns how an expansion is enclosed at the beginning of a statement or an arm, before these trees.
 pub(crate) fn enclosure_at_start(behind: TtIter<'_>, expansion: TtIter<'_>) -> Enclosure
     ensures { result ≡ enclosure_at_start (rest_of behind.entry) (rest_of expansion.entry) }
 {
-    if may_end(behind) {
+    if fits_before(expansion.remaining().iter(), behind) {
         if is_split(expansion) {
             Enclosure::Opaque
         } else {

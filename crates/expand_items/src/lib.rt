@@ -3,10 +3,11 @@
 //!
 //! A `Position` says what the siblings are (items, statements or neither), whether one may begin at the next tree, what the words since its
 //! beginning say of the braces that follow, which attributes are in force, and how the expansion of a call there is enclosed (`Enclosure`,
-//! by its neighbours: `Front` and `expression`). `item_in` returns what is first there: a definition, a
-//! call or something else, with its number of trees; `item_at` takes the attributes from the first condition on together with a
-//! call. `parts` splits trees into items or statements by `reach` of `mbe_grammar`, and `put_under` adds them to a builder with the
-//! conditions before each part but the first.
+//! by its neighbours: `Front` and `expression`). `item_in` returns what is first there: a definition, a call or something else, with its
+//! number of trees; `item_at` takes the attributes before a call together with the call. `parts` splits trees into items or
+//! statements by `reach` of `mbe_grammar`, and `put_under` adds them to a builder with the conditions before each part but the first.
+//! `loosened` goes through a whole expansion and makes each opaque subtree invisible that needs no parentheses, by what is beside it
+//! (`Front`, `fits_before`) or by its form (`Operand`).
 //!
 //! The definitions that contracts use are in `specs/` of this crate.
 #![tactic(auto)]
@@ -15,6 +16,8 @@ mod attribute;
 mod expression;
 mod front;
 mod item;
+mod loosening;
+mod operand;
 mod part;
 mod position;
 mod spread;
@@ -22,6 +25,7 @@ mod spread;
 pub use attribute::{attributes_len, is_attribute, is_condition, item_at};
 pub use expression::{Enclosure, without_semicolon};
 pub use item::{Call, Definition, Item, definition_in, item_in};
+pub use loosening::loosened;
 pub use part::{Part, parts};
 pub use position::{Position, Siblings};
 pub use spread::put_under;

@@ -2,10 +2,10 @@
 ghost use Rattle.std.specs.Prelude.{◌≡◌, true};
 ghost use Rattle.tt.specs.Iters.{rest_of};
 ghost use Rattle.expand_items.specs.Positions.{is_block, head_behind, held_by, is_attribute_of, is_at_attribute_of, begun, siblings_in, first_in, behind, behind_attribute_sign, behind_punct, behind_ident, behind_leaf, behind_subtree, keeps_macros, ends_statement, is_statement, takes_semicolon, siblings_of_call, first_of_call, enclosure};
-ghost use Rattle.expand_items.specs.Attributes.{begins_condition};
+ghost use Rattle.expand_items.specs.Attributes.{begins_attributes};
 
-use crate::attribute::{begins_with_attribute, is_condition};
-use crate::expression::{Enclosure, enclosure_at_start, goes_on, may_end};
+use crate::attribute::{begins_with_attribute, is_at_brackets, is_attribute};
+use crate::expression::{Enclosure, enclosure_at_start, fits_before, goes_on};
 use crate::front::Front;
 use mbe_pattern::{is_at_punct, is_at_word};
 use tt::{DelimiterKind, Ident, IdentIsRaw, Leaf, TtElement, TtIter};
@@ -44,8 +44,8 @@ pub struct Position {
     head: Head,
     /// Whether `#[macro_use]` precedes, with nothing but attributes, idents and parentheses between.
     is_used: bool,
-    /// Whether a condition, `#[cfg(..)]`, precedes, with nothing but attributes between.
-    is_conditional: bool,
+    /// Whether an attribute precedes, with nothing but attributes between.
+    is_attributed: bool,
     /// Whether `#` or `#!` is the last tree before.
     is_attribute: bool,
     /// Whether all siblings are under a condition.
@@ -130,7 +130,7 @@ impl Position {
             is_start: siblings.is_block(),
             head: Head::Unknown,
             is_used: false,
-            is_conditional: false,
+            is_attributed: false,
             is_attribute: false,
             is_under: false,
             is_open: false,
@@ -175,7 +175,7 @@ impl Position {
             is_start: self.siblings.is_block() && ends,
             head: if ends { Head::Unknown } else { self.head },
             is_used: false,
-            is_conditional: false,
+            is_attributed: false,
             is_attribute: false,
             is_under: self.is_under,
             is_open: if ends { self.is_under } else { self.is_open },
@@ -190,10 +190,11 @@ impl Position {
     fn behind_attribute_sign(self, trees: TtIter<'_>) -> Position
         ensures { result ≡ behind_attribute_sign (rest_of trees.entry) self }
     {
+        let is_attributed = self.is_attributed || is_at_brackets(trees.remaining().iter());
         let is_condition = is_at_attribute_of("cfg", trees.remaining().iter());
         Position {
             is_used: self.is_used || is_at_attribute_of("macro_use", trees),
-            is_conditional: self.is_conditional || is_condition,
+            is_attributed,
             is_attribute: true,
             is_open: self.is_open || is_condition,
             ..self
@@ -224,9 +225,9 @@ impl Position {
         Position {
             is_start: false,
             head,
-            is_conditional: false,
+            is_attributed: false,
             is_attribute: false,
-            front: Front::Bound,
+            front: Front::behind_ident(ident),
             ..self
         }
     }
@@ -274,6 +275,13 @@ impl Position {
         ensures { result ≡ self.is_verbatim }
     {
         self.is_verbatim
+    }
+
+    /// Returns what precedes the tree.
+    pub(crate) fn front(self) -> Front
+        ensures { result ≡ self.front }
+    {
+        self.front
     }
 
     /// Returns what the siblings are.
@@ -368,17 +376,17 @@ impl Position {
             Enclosure::Bare
         } else if self.front.is_at_start(self.is_start) {
             enclosure_at_start(behind, expansion)
-        } else if may_end(behind) && self.front == Front::Free {
+        } else if fits_before(expansion, behind) && self.front.is_free() {
             Enclosure::Bare
         } else {
             Enclosure::Opaque
         }
     }
 
-    /// Returns whether the first condition of a statement or an item comes first.
-    pub(crate) fn begins_condition(self, trees: TtIter<'_>) -> bool
-        ensures { result ≡ begins_condition self (rest_of trees.entry) }
+    /// Returns whether the first attribute of a statement or an item comes first.
+    pub(crate) fn begins_attributes(self, trees: TtIter<'_>) -> bool
+        ensures { result ≡ begins_attributes self (rest_of trees.entry) }
     {
-        self.is_start && !self.is_conditional && is_condition(trees)
+        self.is_start && !self.is_attributed && is_attribute(trees)
     }
 }

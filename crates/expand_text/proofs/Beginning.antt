@@ -4,11 +4,11 @@ use Rattle.tt.specs.Forest.{Forest, Root, end, leaf, node}
 use Rattle.tt.specs.Gluing.{after_trees}
 use Rattle.tt.specs.Span.{start_of}
 use Rattle.expand_items.specs.declared.position.Position.{Position}
-use Rattle.expand_items.specs.Attributes.{item_at, item_behind, begins_condition, attributes_len}
+use Rattle.expand_items.specs.Attributes.{item_at, item_behind, begins_attributes, attributes_len}
 use Rattle.expand_items.specs.Items.{Item, Definition, Call, defines, calls, other, item_in}
 use Rattle.expand_items.specs.Positions.{first_in, behind, behind_leaf, behind_subtree, keeps_macros}
 use Rattle.expand_text.specs.declared.fault.MacroFault.{MacroFault}
-use Rattle.expand_text.specs.CallSites.{PutAs, IsKept}
+use Rattle.expand_text.specs.CallSites.{PutIn, IsKept}
 use Rattle.expand_text.specs.Contexts.{Config, Context, with_finding}
 use Rattle.expand_text.specs.Macros.{IsRead, IsCallFault, MayBePut, called_by, arms_of, found_of, context_behind}
 use Rattle.expand_text.specs.Meaning.{ExpandsTo, ends, on_leaf, on_node, on_definition, on_other_call, into_other_call, into_attributes, on_faulty_call, on_call, on_kept_call, IsPlain, plain_behind, context_after, behind_call, rest_in, behind_in, begun_by, site_in, begin_in, becomes_in, stays_in, body_in}
@@ -39,7 +39,7 @@ plain_first config context position zero trees (inr (inr is)) = by context.is_ov
 -- At the end nothing comes first.
 pub end_first : (config : Config) (context : Context) (position : Position) (plain : ℕ) → first_item config context position plain end ≡ other
 end_first config context position (suc plain) = refl
-end_first config context position zero = plain_first config context position zero end (inr (inr (by position.is_verbatim (begins_condition position end))))
+end_first config context position zero = plain_first config context position zero end (inr (inr (by position.is_verbatim (begins_attributes position end))))
   where
     by : (verbatim b : Bool) → cond verbatim other (cond b (item_behind position (attributes_len end) (after_trees (attributes_len end) end) (item_in config.root (after_trees (attributes_len end) end))) (item_in config.root end)) ≡ other
     by true b = refl
@@ -89,7 +89,7 @@ module _ (config : Config) (in_text : Bool) (limit : ℕ) (position : Position) 
   -- a call with that expansion is replaced
   abbrev pub Changes : (left : ℕ) → Call → Forest → Root → (inside : Context) → (held : Outcome) → Type 0
   Changes left it trees tree inside held =
-      (put : Forest) × (others : Outcome) × PutAs (site_in position it trees tree) (trees_left held) (Some put) × MayBePut in_text it.delimiter put
+      (put : Forest) × (others : Outcome) × PutIn in_text (site_in position it trees tree) (trees_left held) put × MayBePut in_text it.delimiter put
       × ExpandsTo config in_text (suc left) (behind_in position it trees) 0 inside (rest_in position it trees) after others
       × (outcome ≡ becomes_in position it trees put others)
 

@@ -15,7 +15,6 @@ use Rattle.expand_items.specs.Items.{Call, calls}
 use Rattle.expand_items.specs.Positions.{takes_semicolon}
 use Rattle.expand_items.specs.declared.expression.Enclosure.{Enclosure}
 use Rattle.expand_items.specs.declared.position.Position.{Position}
-use Rattle.expand_items.specs.declared.position.Siblings.{Siblings}
 use Rattle.mbe_pattern.proofs.Passing.{front_joined, after_end}
 use Rattle.mbe_pattern.specs.Units.{front_trees}
 
@@ -71,19 +70,19 @@ module _ (position : Position) (it : Call) (trees : Forest) where
   pub split_in : trees ≡ join (whole_in position it trees) (rest_in position it trees)
   split_in = front_joined (len_in position it trees) trees ∙ ap (join (whole_in position it trees)) (sym rest_behind)
 
-  -- the place of a call that has these trees, this enclosure, and these siblings
-  abbrev site_made : Forest → Enclosure → Siblings → CallSite
-  site_made whole enclosure siblings =
-      record { attributes = front_trees it.attributes whole; len = it.attributes; enclosure = enclosure; siblings = siblings; delimiter = it.delimiter }
+  -- the place of a call that has these trees, this enclosure, and this position of its expansion
+  abbrev site_made : Forest → Enclosure → Position → CallSite
+  site_made whole enclosure first =
+      record { attributes = front_trees it.attributes whole; len = it.attributes; enclosure = enclosure; position = first; delimiter = it.delimiter }
 
   -- If these values are those of the call, this is the place of the call.
-  pub site_same : (tree : Root) (whole : Forest) (enclosure : Enclosure) (siblings : Siblings) → whole ≡ whole_in position it trees
-      → enclosure ≡ (site_in position it trees tree).enclosure → siblings ≡ (site_in position it trees tree).siblings
-      → site_made whole enclosure siblings ≡ site_in position it trees tree
-  site_same tree whole enclosure siblings all one among =
+  pub site_same : (tree : Root) (whole : Forest) (enclosure : Enclosure) (first : Position) → whole ≡ whole_in position it trees
+      → enclosure ≡ (site_in position it trees tree).enclosure → first ≡ (site_in position it trees tree).position
+      → site_made whole enclosure first ≡ site_in position it trees tree
+  site_same tree whole enclosure first all one begins =
       let site = site_in position it trees tree in
-      ap (λ f. site_made f enclosure siblings) all ∙ ap (λ e. site_made (whole_in position it trees) e siblings) one
-      ∙ ap (λ s. site_made (whole_in position it trees) site.enclosure s) among
+      ap (λ f. site_made f enclosure first) all ∙ ap (λ e. site_made (whole_in position it trees) e first) one
+      ∙ ap (site_made (whole_in position it trees) site.enclosure) begins
 
 -- A call with attributes is the call alone after them.
 module _ (position : Position) (attributes : ℕ) (bare : Call) (trees : Forest) where

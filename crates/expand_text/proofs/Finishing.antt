@@ -83,7 +83,7 @@ module _ (config : Config) (limit : ℕ) (position : Position) (trees : Forest) 
       → IsPutOrKept it held inside others stack built → closes_of (next ∷ nexts) ≡ closes_of (level ∷ outer) → IsGoing config limit position trees before old (next ∷ nexts) others built
   goes_past it held inside built past (inl (put, so, context, is)) closes = subst (IsGoing config limit position trees before old (next ∷ nexts) others) (sym is)
       (goes_on (first_becomes (site_of it).attributes it.first_span it.last_span put) (append put (append (site_of it).attributes stack))
-      (subst (Leads config false limit (level ∷ outer) now (first_becomes (site_of it).attributes it.first_span it.last_span put) (next ∷ nexts)) (sym context) (past.puts put so tt)) closes
+      (subst (Leads config false limit (level ∷ outer) now (first_becomes (site_of it).attributes it.first_span it.last_span put) (next ∷ nexts)) (sym context) (past.puts put (put, so, refl) tt)) closes
       (λ first more. finished_becomes level.close (closes_of outer) first more stack (site_of it).attributes it.first_span it.last_span put))
   goes_past it held inside built past (inr (fault, misplaced, context, is)) closes = subst (IsGoing config limit position trees before old (next ∷ nexts) others) (sym is)
       (goes_on (first_stay (trees_of it.whole)) (append (trees_of it.whole) stack)

@@ -18,7 +18,7 @@ use Rattle.expand_items.specs.Items.{Definition, Call, defines, calls}
 use Rattle.expand_text.specs.Contexts.{Config, Context, with_finding, left_in_scope}
 use Rattle.expand_text.specs.Macros.{IsRead, MayBePut, called_by, arms_of, found_of, context_behind}
 use Rattle.expand_text.specs.Outcomes.{Outcome, nothing, passes, enters, stays, becomes, trees_left}
-use Rattle.expand_text.specs.CallSites.{PutAs, IsKept}
+use Rattle.expand_text.specs.CallSites.{PutIn, IsKept}
 use Rattle.expand_items.specs.Positions.{behind as past_end, behind_subtree, keeps_macros}
 use Rattle.expand_text.specs.Walks.{Level, site_of, past_leaf, past_subtree, past, past_call, kept_behind, inside, Leads, first_leaf, first_subtree, first_stay, first_becomes, IsNext}
 use Rattle.mbe_rules.specs.Arms.{Arm}
@@ -129,7 +129,7 @@ module _ (config : Config) (in_text : Bool) (left : ℕ) (level : Level) (outer 
     (expands : macro.arms ≡ Some arms) (makes : IsExpansion arms 0 0 it.input (expansion.Tree tree)) (within : Context) (held : Outcome)
     (expands_to : ExpandsTo config false left (begun_by level.position it level.rest) 0 context (body_in level.position it level.rest tree) within held) where
   -- The expansion takes the place of the call.
-  pub leads_call : (put : Forest) → PutAs (site_in level.position it level.rest tree) (trees_left held) (Some put) → MayBePut in_text it.delimiter put
+  pub leads_call : (put : Forest) → PutIn in_text (site_in level.position it level.rest tree) (trees_left held) put → MayBePut in_text it.delimiter put
       → Leads config in_text (suc left) (level ∷ outer) context
       (first_becomes (attributes_in level.position it level.rest) (begin_in it level.rest) (end_in level.position it level.rest) put) (past_call it level ∷ outer) within
   leads_call put so may after [] e = absurd e

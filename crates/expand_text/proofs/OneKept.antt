@@ -4,11 +4,11 @@ use Rattle.tt.specs.Forest.{Forest}
 use Rattle.tt.specs.Types.Delimiter.{Delimiter}
 use Rattle.expand_text.specs.declared.fault.MacroFault.{MacroFault}
 use Rattle.expand_text.specs.declared.fault.MacroFault.TheVariants as wrong
-use Rattle.expand_text.specs.CallSites.{CallSite, PutAs, IsTooLarge, IsMisplaced, IsKept}
+use Rattle.expand_text.specs.CallSites.{CallSite, PutAs, PutIn, IsTooLarge, IsMisplaced, IsUnshown, IsKept}
 use Rattle.expand_text.specs.Limits.{names_limit}
-use Rattle.expand_text.specs.Macros.{MayBePut, IsUnwritten}
+use Rattle.expand_text.specs.Macros.{IsTooLargeTree, MayBePut, IsUnwritten}
 use Rattle.expand_text.specs.Places.{byte_at}
-use Rattle.expand_text.proofs.OnePlacing.{one_put}
+use Rattle.expand_text.proofs.OnePlacing.{one_put, one_shown}
 use Rattle.syntax_unparse.proofs.OneFault.{one_fault, no_fault}
 use Rattle.syntax_unparse.specs.declared.fault.WriteFault.TheVariants as unwritten
 
@@ -38,35 +38,48 @@ no_unwritten call put begin at wrong.TooLong may h free = cc (no_fault put unwri
 no_unwritten call put begin at wrong.NotWritable may h free = cc (no_fault put (unwritten.NotWritable h.1) may.1 may.2 h.2)
 no_unwritten call put begin at found may h free = h
 
+-- A tree that exceeds a limit names it.
+names_too_large : (call : Delimiter) (trees : Forest) (found : MacroFault) → IsTooLargeTree call trees found → names_limit found ≡ false → ⊥
+names_too_large call trees (wrong.TooLarge why) h free = true≢false free
+names_too_large call trees found h free = h
+
 module _ (it : CallSite) (trees : Forest) where
   -- What does not fit its place, and not for a limit, is under conditions.
   conditional : (found : MacroFault) → IsMisplaced it trees found → names_limit found ≡ false → (found ≡ wrong.Conditional) × PutAs it trees None
   conditional found (inl h) free = h
-  conditional found (inr h) free = absurd (by it.len found h free)
+  conditional found (inr h) free = absurd (by it.len h)
     where
-      by : (len : ℕ) (found : MacroFault) → IsTooLarge len it trees found → names_limit found ≡ false → ⊥
-      by zero found h free = h
-      by (suc more) (wrong.TooLarge why) h free = true≢false free
-      by (suc more) found h free = h
+      by : (len : ℕ) → IsTooLarge len it trees found → ⊥
+      by zero h = h
+      by (suc more) h = names_too_large it.delimiter trees found h free
+
+  -- What fits its place, and is not shown for another reason than a limit, is not written.
+  unwritten_there : (begin at : ℕ) (found : MacroFault) → IsUnshown it trees begin at found → names_limit found ≡ false
+      → (shown : Forest) × PutIn true it trees shown × IsUnwritten it.delimiter shown begin at found
+  unwritten_there begin at found (inl (put, so, large, is)) free = absurd (names_too_large it.delimiter put found large free)
+  unwritten_there begin at found (inr h) free = h
 
   -- A call stays for one reason.
   pub one_kept : (in_text : Bool) (begin at place : ℕ) (found other : MacroFault) → IsKept in_text it trees begin at found → IsKept in_text it trees begin place other
       → names_limit found ≡ false → names_limit other ≡ false → (at ≡ place) × (found ≡ other)
   one_kept in_text begin at place found other (inl (x, is)) (inl (y, was)) free none = (is ∙ sym was, (conditional found x free).0 ∙ sym (conditional other y none).0)
-  one_kept in_text begin at place found other (inl (x, is)) (inr (text, put, so, y)) free none =
+  one_kept in_text begin at place found other (inl (x, is)) (inr (text, y)) free none =
+      let (shown, (put, so, is_shown), why) = unwritten_there begin place other y none in
       absurd (cc (one_put it trees None (Some put) (conditional found x free).1 so))
-  one_kept in_text begin at place found other (inr (text, put, so, x)) (inl (y, was)) free none =
+  one_kept in_text begin at place found other (inr (text, x)) (inl (y, was)) free none =
+      let (shown, (put, so, is_shown), why) = unwritten_there begin at found x free in
       absurd (cc (one_put it trees None (Some put) (conditional other y none).1 so))
-  one_kept in_text begin at place found other (inr (text, put, so, x)) (inr (again, that, thus, y)) free none =
-      let both = one_put it trees (Some put) (Some that) so thus in
-      let same : put ≡ that = cc both in
-      one_unwritten it.delimiter put begin at place found other x (subst (λ p. IsUnwritten it.delimiter p begin place other) (sym same) y) free none
+  one_kept in_text begin at place found other (inr (text, x)) (inr (again, y)) free none =
+      let (shown, so, why) = unwritten_there begin at found x free in
+      let (that, thus, because) = unwritten_there begin place other y none in
+      one_unwritten it.delimiter shown begin at place found other why
+      (subst (λ p. IsUnwritten it.delimiter p begin place other) (sym (one_shown true it trees shown that so thus)) because) free none
 
   -- A call that may be replaced does not stay.
-  pub never_kept : (in_text : Bool) (put : Forest) (begin at : ℕ) (found : MacroFault) → IsKept in_text it trees begin at found → PutAs it trees (Some put)
-      → MayBePut in_text it.delimiter put → names_limit found ≡ false → ⊥
-  never_kept in_text put begin at found (inl (x, is)) so may free = cc (one_put it trees None (Some put) (conditional found x free).1 so)
-  never_kept in_text put begin at found (inr (text, that, thus, x)) so may free =
-      let both = one_put it trees (Some that) (Some put) thus so in
-      let same : that ≡ put = cc both in
-      no_unwritten it.delimiter put begin at found (subst (λ b. MayBePut b it.delimiter put) text may) (subst (λ p. IsUnwritten it.delimiter p begin at found) same x) free
+  pub never_kept : (in_text : Bool) (shown : Forest) (begin at : ℕ) (found : MacroFault) → IsKept in_text it trees begin at found → PutIn in_text it trees shown
+      → MayBePut in_text it.delimiter shown → names_limit found ≡ false → ⊥
+  never_kept in_text shown begin at found (inl (x, is)) (put, so, is_shown) may free = cc (one_put it trees None (Some put) (conditional found x free).1 so)
+  never_kept in_text shown begin at found (inr (text, x)) so may free =
+      let (that, thus, why) = unwritten_there begin at found x free in
+      let same : that ≡ shown = one_shown true it trees that shown thus (subst (λ b. PutIn b it trees shown) text so) in
+      no_unwritten it.delimiter shown begin at found (subst (λ b. MayBePut b it.delimiter shown) text may) (subst (λ p. IsUnwritten it.delimiter p begin at found) same why) free

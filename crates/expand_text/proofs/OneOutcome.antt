@@ -6,7 +6,7 @@ use Rattle.expand_items.specs.declared.position.Position.{Position}
 use Rattle.expand_items.specs.Items.{Call, defines, other}
 use Rattle.expand_items.specs.Positions.{keeps_macros}
 use Rattle.expand_text.specs.declared.fault.MacroFault.{MacroFault}
-use Rattle.expand_text.specs.CallSites.{PutAs, IsKept}
+use Rattle.expand_text.specs.CallSites.{PutIn, IsKept}
 use Rattle.expand_text.specs.Contexts.{Config, Context, with_finding}
 use Rattle.expand_text.specs.Limits.{names_limit, KeepLimits}
 use Rattle.expand_text.specs.Macros.{IsCallFault, MayBePut, called_by, arms_of, found_of}
@@ -17,7 +17,7 @@ use Rattle.expand_text.proofs.Beginning.{plain_first, end_first, item_first, Lea
 use Rattle.expand_text.proofs.KeptLimits.{keep_first, keep_inside, keep_before}
 use Rattle.expand_text.proofs.OneFault.{one_read, one_tree, no_fault, one_fault}
 use Rattle.expand_text.proofs.OneKept.{one_kept, never_kept}
-use Rattle.expand_text.proofs.OnePlacing.{one_put}
+use Rattle.expand_text.proofs.OnePlacing.{one_shown}
 use Rattle.mbe_pattern.specs.Units.{front_trees}
 use Rattle.mbe_rules.specs.Arms.{Arm}
 use Rattle.mbe_rules.specs.Expansions.{IsExpansion}
@@ -67,7 +67,7 @@ module _ (config : Config) (in_text : Bool) (position : Position) (context after
     keep_held keep (inr so) = (keep_first inside.findings (found_of it so.0 so.1 so.2) (keep_before so.6 keep)).0
 
     -- A call that may be replaced is.
-    changes_only : (put : Forest) → PutAs (site_in position it trees tree) (trees_left held) (Some put) → MayBePut in_text it.delimiter put → KeepLimits after.findings
+    changes_only : (put : Forest) → PutIn in_text (site_in position it trees tree) (trees_left held) put → MayBePut in_text it.delimiter put → KeepLimits after.findings
         → Changes config in_text limit position context after outcome left it trees tree inside held ⊎ Stays config in_text limit position context after outcome left it trees tree inside held
         → Changes config in_text limit position context after outcome left it trees tree inside held
     changes_only put fits may keep (inl so) = so
@@ -130,8 +130,7 @@ one_outcome {config = config} {in_text = in_text} {again = again} {that = that} 
     changes_only config in_text position context again that arms it trees (suc left) left tree inside held put fits may y
     (subst₂ (λ i h. Changes config in_text (suc left) position context again that left it trees tree i h ⊎ Stays config in_text (suc left) position context again that left it trees tree i h) (sym one.0) (sym one.1)
     (subst (λ t. Changes config in_text (suc left) position context again that left it trees t go.1 go.2 ⊎ Stays config in_text (suc left) position context again that left it trees t go.1 go.2) (sym filled) go.5)) in
-    let both = one_put (site_in position it trees tree) (trees_left held) (Some put) (Some so.0) fits so.2 in
-    let placed : put ≡ so.0 = cc both in
+    let placed : put ≡ so.0 = one_shown in_text (site_in position it trees tree) (trees_left held) put so.0 fits so.2 in
     let same = one_outcome behind so.4 x y in
     (same.0, ap₂ (becomes_in position it trees) placed same.1 ∙ sym so.5)
 one_outcome {config = config} {in_text = in_text} {again = again} {that = that} (on_kept_call {limit = left} {position = position} {context = context} {inside = inside} {it = it} {macro = macro} {arms = arms} {trees = trees} {held = held} tree at fault going is called expands makes within kept behind) second x y =

@@ -7,10 +7,11 @@ use Rattle.expand_items.proofs.OneSize.{taken_size, taken_is}
 use Rattle.expand_items.specs.declared.part.Part.{Part}
 use Rattle.expand_items.specs.declared.position.Siblings.{Siblings}
 use Rattle.expand_items.specs.Attributes.{conditions_of}
+use Rattle.expand_items.specs.Loosening.{loosened, place_of}
 use Rattle.expand_items.specs.Parts.{item_part, statement_part, IsPart, item, no_item, statement, no_statement, AreParts, ends, stops, goes_on}
 use Rattle.expand_items.specs.Positions.{is_items}
 use Rattle.expand_items.specs.Spreads.{spread_if, AreUnder}
-use Rattle.expand_text.specs.CallSites.{CallSite, PutUnder, PutAs}
+use Rattle.expand_text.specs.CallSites.{CallSite, IsShown, PutUnder, PutAs, PutIn}
 use Rattle.mbe_pattern.specs.declared.pattern.GrammarFragment.TheVariants as fragment
 
 -- the part of so many trees of an item, or else of a statement
@@ -67,4 +68,17 @@ one_put it trees a b = by it.len
   where
     by : (len : ℕ) → PutUnder len it trees a → PutUnder len it trees b → a ≡ b
     by zero x y = x ∙ sym y
-    by (suc more) x y = one_under it.siblings it.delimiter (conditions_of it.attributes) trees a b x.1 y.1
+    by (suc more) x y = one_under it.position.siblings it.delimiter (conditions_of it.attributes) trees a b x.1 y.1
+
+-- and is shown in one way.
+pub one_shown : (in_text : Bool) (it : CallSite) (trees a b : Forest) → PutIn in_text it trees a → PutIn in_text it trees b → a ≡ b
+one_shown in_text it trees a b (put, so, is) (that, thus, was) = by in_text is was
+  where
+    same : put ≡ that
+    same =
+        let both = one_put it trees (Some put) (Some that) so thus in
+        cc both
+
+    by : (in_text : Bool) → IsShown in_text it put a → IsShown in_text it that b → a ≡ b
+    by false x y = x ∙ same ∙ sym y
+    by true x y = x.1 ∙ ap (loosened (place_of it.enclosure it.position)) same ∙ sym y.1

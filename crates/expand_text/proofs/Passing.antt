@@ -17,7 +17,7 @@ use Rattle.expand_items.specs.Items.{Call, calls}
 use Rattle.expand_text.specs.Contexts.{Config, Context, with_finding}
 use Rattle.expand_text.specs.Macros.{MayBePut, called_by, arms_of, found_of, context_behind}
 use Rattle.expand_text.specs.Outcomes.{Outcome, trees_left}
-use Rattle.expand_text.specs.CallSites.{CallSite, PutAs, IsKept}
+use Rattle.expand_text.specs.CallSites.{CallSite, PutIn, IsKept}
 use Rattle.expand_text.specs.Passing.{IsStay, IsInvoked}
 use Rattle.expand_text.specs.Walks.{body_of, Level, level_of, levels_of, past, past_call, first_stay, first_becomes, Leads, GoesPast, found_by, site_of, closes_of, work_in, IsNext, IsFirst, IsAtItem, Steps}
 use Rattle.expand_text.proofs.Leading.{leads_other, leads_faulty, leads_call, leads_kept}
@@ -106,7 +106,7 @@ module _ (config : Config) (in_text : Bool) (limit : ℕ) (old : Walk) (context 
               (subst (λ f. ExpandsTo config false from.left (begun_by old.level.position it trees) 0 others f inside held) is.makes
               (subst (λ p. ExpandsTo config false from.left p 0 others (body_of i) inside held) is.begins expands_to))
 
-          puts : (put : Forest) → PutAs (site_of i) (trees_left held) (Some put) → MayBePut in_text i.delimiter put
+          puts : (put : Forest) → PutIn in_text (site_of i) (trees_left held) put → MayBePut in_text i.delimiter put
               → Leads config in_text limit (levels_of old) context (first_becomes (site_of i).attributes i.first_span i.last_span put) nexts inside
           puts put so may =
               subst (λ s. Leads config in_text limit (levels_of old) context (first_becomes s.attributes i.first_span i.last_span put) nexts inside) (sym is.site)
@@ -115,7 +115,7 @@ module _ (config : Config) (in_text : Bool) (limit : ℕ) (old : Walk) (context 
               (subst (λ n. Leads config in_text n (levels_of old) context (first_becomes site.attributes begin end put) nexts inside) (sym from.fits)
               (leads_call config in_text from.left (level_of old.level) (map level_of (reverse old.outer.items)) context there.first there.goes_on it from.macro from.arms tree there.item
               from.called from.expands from.makes inside held came put
-              (subst (λ s. PutAs s (trees_left held) (Some put)) is.site so) (subst (λ s. MayBePut in_text s.delimiter put) is.site may)))))
+              (subst (λ s. PutIn in_text s (trees_left held) put) is.site so) (subst (λ s. MayBePut in_text s.delimiter put) is.site may)))))
 
           stays : (at : ℕ) (fault : MacroFault) → IsKept in_text (site_of i) (trees_left held) (start_of i.first_span.range) at fault
               → Leads config in_text limit (levels_of old) context (first_stay (trees_of i.whole)) nexts (with_finding (found_by i at fault) inside)

@@ -15,7 +15,7 @@ use Rattle.expand_text.specs.Expanding.{IsAdded}
 use Rattle.expand_text.specs.Expansion.{IsTextOf, IsCallText}
 use Rattle.expand_text.specs.Macros.{IsPastLimit, tree_of}
 use Rattle.expand_text.specs.Outcomes.{placed}
-use Rattle.expand_text.specs.CallSites.{CallSite, PutAs, PutUnder, IsTooLarge}
+use Rattle.expand_text.specs.CallSites.{CallSite, PutAs, PutIn, PutUnder, IsTooLarge}
 use Rattle.expand_items.specs.Attributes.{conditions_of}
 
 -- Without attributes, the trees are as they are placed.
@@ -24,7 +24,7 @@ free_put it trees none = subst (λ n. PutUnder n it trees (Some (placed it.enclo
 
 module _ (it : CallSite) (trees : Forest) (some : 0 < it.len) where
   -- With attributes, the trees are under conditions.
-  pub under_put : (put : Option Forest) → IsWithinLimits (tree_of it.delimiter trees) → AreUnder it.siblings it.delimiter (conditions_of it.attributes) trees put → PutAs it trees put
+  pub under_put : (put : Option Forest) → IsWithinLimits (tree_of it.delimiter trees) → AreUnder it.position.siblings it.delimiter (conditions_of it.attributes) trees put → PutAs it trees put
   under_put put within under = by it.len some
     where
       by : (n : ℕ) → 0 < n → PutUnder n it trees put
@@ -41,19 +41,19 @@ module _ (it : CallSite) (trees : Forest) (some : 0 < it.len) where
 
   -- If they are put under the conditions, they are in place,
   pub added_under : IsWithinLimits (tree_of it.delimiter trees) → (is_put : Bool) (old new : Stack)
-      → IsPutUnder it.siblings it.delimiter (conditions_of it.attributes) trees is_put old new → is_put ≡ true → IsAdded it trees None old new
+      → IsPutUnder it.position.siblings it.delimiter (conditions_of it.attributes) trees is_put old new → is_put ≡ true → IsAdded it trees None old new
   added_under within is_put old new is does = by is.put is.under (sym is.answer ∙ does) is.added
     where
-      by : (put : Option Forest) → AreUnder it.siblings it.delimiter (conditions_of it.attributes) trees put → is_some put ≡ true → new ≡ append_if put old → IsAdded it trees None old new
+      by : (put : Option Forest) → AreUnder it.position.siblings it.delimiter (conditions_of it.attributes) trees put → is_some put ≡ true → new ≡ append_if put old → IsAdded it trees None old new
       by None under answer added = absurd (false≢true answer)
       by (Some put) under answer added = (put, under_put (Some put) within under, added)
 
   -- and if they are not, they cannot be.
   pub kept_under : IsWithinLimits (tree_of it.delimiter trees) → (is_put : Bool) (old new : Stack)
-      → IsPutUnder it.siblings it.delimiter (conditions_of it.attributes) trees is_put old new → is_put ≡ false → IsAdded it trees (Some wrong.Conditional) old new
+      → IsPutUnder it.position.siblings it.delimiter (conditions_of it.attributes) trees is_put old new → is_put ≡ false → IsAdded it trees (Some wrong.Conditional) old new
   kept_under within is_put old new is does_not = by is.put is.under (sym is.answer ∙ does_not) is.added
     where
-      by : (put : Option Forest) → AreUnder it.siblings it.delimiter (conditions_of it.attributes) trees put → is_some put ≡ false → new ≡ append_if put old
+      by : (put : Option Forest) → AreUnder it.position.siblings it.delimiter (conditions_of it.attributes) trees put → is_some put ≡ false → new ≡ append_if put old
           → IsAdded it trees (Some wrong.Conditional) old new
       by None under answer added = (inl (refl, under_put None within under), added)
       by (Some put) under answer added = absurd (false≢true (sym answer))
@@ -65,6 +65,6 @@ built_alone top first last trees begun same added =
     ap₂ (λ d s. record { delimiter = d; children = bottom s }) (same ∙ ap (λ b. b.top) begun) (added ∙ ap (λ b. append trees b.stack) begun)
 
 -- The text of the trees in place is that of a call.
-pub call_text : (it : CallSite) (trees put : Forest) (begin : ℕ) (text : Written) → PutAs it trees (Some put) → IsTextOf it.delimiter put begin text → IsCallText it trees begin text
-call_text it trees put begin (made.Text text) so (may, same) = (put, so, may, same)
-call_text it trees put begin (made.Faulty at fault) so unwritten = inr (refl, put, so, unwritten)
+pub call_text : (it : CallSite) (trees shown : Forest) (begin : ℕ) (text : Written) → PutIn true it trees shown → IsTextOf it.delimiter shown begin text → IsCallText it trees begin text
+call_text it trees shown begin (made.Text text) so (may, same) = (shown, so, may, same)
+call_text it trees shown begin (made.Faulty at fault) so unwritten = inr (refl, inr (shown, so, unwritten))

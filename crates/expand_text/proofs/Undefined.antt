@@ -5,7 +5,7 @@ use Rattle.tt.specs.Forest.{Forest, end, leaf, node}
 use Rattle.tt.specs.Gluing.{after_trees}
 use Rattle.tt.specs.Moves.{after_tree}
 use Rattle.mbe_pattern.specs.Units.{is_at_word, is_at_punct}
-use Rattle.expand_items.specs.Attributes.{item_at, item_behind, begins_condition, attributes_len, with_attributes}
+use Rattle.expand_items.specs.Attributes.{item_at, item_behind, begins_attributes, attributes_len, with_attributes}
 use Rattle.expand_items.specs.Items.{Item, Definition, Call, defines, calls, other, call_in, definition_behind, definition_in, item_from, item_in}
 use Rattle.expand_items.specs.Positions.{is_statement, keeps_macros}
 use Rattle.expand_items.specs.declared.position.Position.{Position}
@@ -58,9 +58,9 @@ no_definition root position trees it lacks is = at position.is_verbatim is
     by false is = from (call_in root trees) (ap (λ d. item_from d (call_in root trees)) (sym none) ∙ is)
 
     at : (verbatim : Bool)
-        → cond verbatim other (cond (begins_condition position trees) (item_behind position (attributes_len trees) (after_trees (attributes_len trees) trees) (item_in root (after_trees (attributes_len trees) trees))) (item_in root trees)) ≡ defines it → ⊥
+        → cond verbatim other (cond (begins_attributes position trees) (item_behind position (attributes_len trees) (after_trees (attributes_len trees) trees) (item_in root (after_trees (attributes_len trees) trees))) (item_in root trees)) ≡ defines it → ⊥
     at true is = cc is
-    at false is = by (begins_condition position trees) is
+    at false is = by (begins_attributes position trees) is
 
 -- If no macro is in scope, no call names one.
 called_none : (config : Config) (macros : List Macro) (it : Call) → macros ≡ [] → called_by config macros it ≡ None

@@ -26,7 +26,7 @@ use Rattle.expand_items.specs.declared.position.Siblings.TheVariants.{Items}
 use Rattle.syntax_edit.specs.Places.{text_part}
 use Rattle.syntax_edit.specs.Texts.{Replacement, Writing, begun, finished, with_all, IsReplaced, AreReplaced, FitAll}
 use Rattle.expand_text.specs.Reading.{sorts_left}
-use Rattle.expand_text.specs.CallSites.{CallSite, PutAs, IsKept}
+use Rattle.expand_text.specs.CallSites.{CallSite, PutIn, IsKept}
 use Rattle.expand_text.specs.Walks.{body_of, found_by, site_of}
 use Rattle.syntax_parse.specs.Parsed.{IsParse}
 use Rattle.syntax_parse.specs.Refusal.{IsFaultOf, IsRefusal}
@@ -54,7 +54,7 @@ IsTextOf call put begin (made.Faulty at fault) = IsUnwritten call put begin at f
 
 -- the Rust text of the expansion of a call, in its place, or why the call stays
 abbrev pub IsCallText : CallSite → (trees : Forest) → (begin : ℕ) → Written → Type 0
-IsCallText it trees begin (made.Text text) = (put : Forest) × PutAs it trees (Some put) × MayBePut true it.delimiter put × (string_bytes text ≡ text_of put)
+IsCallText it trees begin (made.Text text) = (put : Forest) × PutIn true it trees put × MayBePut true it.delimiter put × (string_bytes text ≡ text_of put)
 IsCallText it trees begin (made.Faulty at fault) = IsKept true it trees begin at fault
 
 -- what a call expands to is written as Rust, or cannot be
@@ -66,7 +66,7 @@ pub record IsInvocationText (config : Config) (limit : ℕ) (it : Invocation) (r
 -- an expansion replaces its call, if that part of the source is left; or the call stays, and that is found
 abbrev pub IsPut : Invocation → (trees : Forest) → (inside after : Context) → (old new : Writing) → Type 0
 IsPut it trees inside after old new =
-    ((put : Forest) × PutAs (site_of it) trees (Some put) × MayBePut true it.delimiter put × (after ≡ inside)
+    ((put : Forest) × PutIn true (site_of it) trees put × MayBePut true it.delimiter put × (after ≡ inside)
     × IsReplaced (replacement it.first_span it.last_span put) old new)
     ⊎ ((at : ℕ) × (fault : MacroFault) × IsKept true (site_of it) trees (start_of it.first_span.range) at fault
     × (after ≡ with_finding (found_by it at fault) inside) × (new ≡ old))

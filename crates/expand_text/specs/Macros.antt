@@ -132,6 +132,11 @@ context_behind it (Some macro) context = with_finding (found_of it macro (start_
 abbrev pub tree_of : (call : Delimiter) → Forest → Root
 tree_of call trees = under (record call { kind = Invisible }) trees
 
+-- an expansion exceeds a limit as such a tree
+abbrev pub IsTooLargeTree : (call : Delimiter) → Forest → MacroFault → Type 0
+IsTooLargeTree call trees (wrong.TooLarge why) = IsPastLimit (tree_of call trees) why
+IsTooLargeTree call trees fault = ⊥
+
 -- these trees may replace a call: in the text only if they are a tree within the limits, can be written as Rust, and have a length that a
 -- text may have
 abbrev pub MayBePut : (in_text : Bool) → (call : Delimiter) → Forest → Type 0

@@ -17,9 +17,9 @@ use Rattle.expand_text.specs.Contexts.{Config, Context, with_finding}
 use Rattle.expand_text.specs.Macros.{IsRead, IsCallFault, MayBePut, called_by, arms_of, found_of, context_behind}
 use Rattle.expand_text.specs.Outcomes.{Outcome, nothing, passes, enters, stays, becomes, trees_left}
 use Rattle.expand_items.specs.Expressions.{without_semicolon}
-use Rattle.expand_items.specs.Positions.{enclosure, first_in, first_of_call, behind, behind_leaf, behind_subtree, keeps_macros, is_statement, takes_semicolon, siblings_of_call}
+use Rattle.expand_items.specs.Positions.{enclosure, first_in, first_of_call, behind, behind_leaf, behind_subtree, keeps_macros, is_statement, takes_semicolon}
 use Rattle.expand_text.specs.Scopes.{Macro}
-use Rattle.expand_text.specs.CallSites.{CallSite, PutAs, IsKept}
+use Rattle.expand_text.specs.CallSites.{CallSite, PutIn, IsKept}
 use Rattle.mbe_rules.specs.Arms.{Arm}
 use Rattle.mbe_rules.specs.Expansions.{IsExpansion}
 use Rattle.mbe_rules.specs.declared.macro_rules.Expansion.TheVariants as expansion
@@ -95,7 +95,7 @@ site_in position it trees tree =
       attributes = attributes_in position it trees;
       len = it.attributes;
       enclosure = enclosure it.attributes it.delimiter.kind (behind_call it trees) (body_in position it trees tree) position;
-      siblings = siblings_of_call it.attributes it.delimiter.kind (behind_call it trees) position;
+      position = begun_by position it trees;
       delimiter = it.delimiter;
     }
 
@@ -169,7 +169,7 @@ pub data ExpandsTo (config : Config) : (in_text : Bool) → (limit : ℕ) → Po
       → arms_of (called_by config context.macros it) ≡ Some arms
       → IsExpansion arms 0 0 it.input (expansion.Tree tree)
       → ExpandsTo config false limit (begun_by position it trees) 0 context (body_in position it trees tree) inside held
-      → PutAs (site_in position it trees tree) (trees_left held) (Some put)
+      → PutIn in_text (site_in position it trees tree) (trees_left held) put
       → MayBePut in_text it.delimiter put
       → ExpandsTo config in_text (suc limit) (behind_in position it trees) 0 inside (rest_in position it trees) after others
       → ExpandsTo config in_text (suc limit) position 0 context trees after (becomes_in position it trees put others)

@@ -26,7 +26,7 @@ use Rattle.expand_items.specs.Items.{Item, Call}
 use Rattle.expand_text.specs.Contexts.{Config, Context, IsContext, with_finding, left_in_scope}
 use Rattle.expand_text.specs.Macros.{MayBePut}
 use Rattle.expand_text.specs.Outcomes.{Outcome, nothing, passes, enters, stays, becomes, trees_left}
-use Rattle.expand_text.specs.CallSites.{CallSite, PutAs, IsKept}
+use Rattle.expand_text.specs.CallSites.{CallSite, PutIn, IsKept}
 use Rattle.expand_items.specs.Positions.{first_in, behind, behind_leaf, behind_subtree, keeps_macros}
 
 -- the trees of a subtree that are left, the position before them, how many are taken as they are, where the subtree closes, and how many
@@ -144,7 +144,7 @@ site_of it =
       attributes = front_trees it.attributes (trees_of it.whole);
       len = it.attributes;
       enclosure = it.enclosure;
-      siblings = it.position.siblings;
+      position = it.position;
       delimiter = it.delimiter;
     }
 
@@ -159,7 +159,7 @@ found_by it at fault = record { name = it.name; at = at; fault = fault; defined_
 -- what comes next after a call that expands to these trees: they replace it if they fit and are allowed; or the call stays, which is found
 pub record GoesPast (config : Config) (in_text : Bool) (limit : ℕ) (levels : List Level) (context : Context) (it : Invocation) (trees : Forest) (nexts : List Level) (inside : Context) : Type 0 where
   pub puts :
-      (put : Forest) → PutAs (site_of it) trees (Some put) → MayBePut in_text it.delimiter put
+      (put : Forest) → PutIn in_text (site_of it) trees put → MayBePut in_text it.delimiter put
       → Leads config in_text limit levels context (first_becomes (site_of it).attributes it.first_span it.last_span put) nexts inside
   pub stays :
       (at : ℕ) (fault : MacroFault) → IsKept in_text (site_of it) trees (start_of it.first_span.range) at fault

@@ -15,7 +15,7 @@ use expand_items::{Enclosure, Position, put_under};
 use syntax_edit::start_of;
 use tt::{Delimiter, DelimiterKind, Refused, Span, TopSubtreeBuilder, TtFault, TtIter};
 
-// Adds what a call under conditions expands to, each part under the conditions; or returns why that is impossible.
+// Adds what a call with attributes expands to, each part under their conditions; or returns why that is impossible.
 #[cycle(expansion)]
 fn expand_under(
     config: &Config,

@@ -24,13 +24,13 @@ pub enum MacroFault {
     SeveralDefinitions,
     /// The call is under `#[cfg(..)]`, and its expansion is empty, or no run of items or statements that can each have that condition. It
     /// is left as it is. The byte is the beginning of the call.
-    #[error("a condition stands before it, and not before all that this becomes")]
+    #[error("its result cannot have its condition before each part")]
     Conditional,
     /// No arm matches the input. The byte is the place at which the arm that comes farthest stops.
-    #[error("no arm takes this")]
+    #[error("no arm matches its input")]
     NoMatch,
     /// The arm of that number, from 0, matches the input in two ways, and no arm before it matches.
-    #[error("arm {0} takes this in two ways")]
+    #[error("arm {0} matches its input in two ways")]
     Ambiguous(usize),
     /// The arm that matches the input cannot be filled.
     #[error("{0}")]
@@ -40,11 +40,11 @@ pub enum MacroFault {
     TooDeep,
     /// The expansion cannot be written as Rust, so the call is left as it is. The byte is the place from which the first token comes that
     /// would read back as something else; if that is no token, it is the beginning of the call.
-    #[error("what this becomes cannot be written")]
+    #[error("its result cannot be written as Rust")]
     NotWritable,
     /// The text of the expansion would have 4,294,967,295 bytes or more, so the call is
     /// left as it is. The byte is the beginning of the call.
-    #[error("what this becomes is too long a text")]
+    #[error("its result would be too long a text")]
     TooLong,
     /// As a tree, the arms of a definition (with the root's word for each `$crate`) or the expansion of a call exceed a limit, so the
     /// definition or the call is left as it is. The byte is the beginning of the definition's name, or of the call.

@@ -4,7 +4,7 @@
 //! in which the last definition of a name wins, and which a subtree cuts back at its end unless it is under `#[macro_use]`.
 //! `expand_call` finds the macro of a call and has `mbe_rules` expand the input. `expand_trees` walks the expansion in the same way
 //! and calls itself for its calls, as deep as the limit at most. At the top, an `Output` of `syntax_edit` copies the text and
-//! replaces each call. `rooted` replaces `$crate` once per definition.
+//! replaces each call by its expansion, `loosened` before it is written. `rooted` replaces `$crate` once per definition.
 //!
 //! A definition or call with a fault stays in the text and yields a finding. A call one expansion too deep ends the expansion, since a
 //! macro that calls itself twice would not end in any reasonable time.

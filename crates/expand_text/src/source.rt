@@ -2,6 +2,7 @@
 ghost use Rattle.std.specs.Prelude.{◌≡◌, IfOk, OnOk, string_bytes};
 ghost use Rattle.tt.specs.Stored.{IsWithinLimits};
 ghost use Rattle.expand_text.specs.Macros.{tree_of};
+ghost use Rattle.expand_items.specs.Loosening.{loosened, place_of};
 ghost use Rattle.expand_text.specs.Expansion.{IsTextOf, IsInvocationText, IsInvocationWritten, IsEventWritten, GoesOn, IsSourceText};
 ghost use Rattle.expand_text.specs.Contexts.{Learns, config_of};
 ghost use Rattle.syntax_edit.specs.Texts.{writing_of};
@@ -14,7 +15,7 @@ use crate::fault::MacroFault;
 use crate::memory::OutOfMemory;
 use crate::places::start_at;
 use crate::walk::{Event, Invocation, Walk, next};
-use expand_items::{Position, Siblings};
+use expand_items::{Position, Siblings, loosened};
 use std::alloc::Global;
 use syntax_edit::{Output, end_of, start_of};
 use syntax_unparse::{WriteFault, rust_text};
@@ -49,6 +50,34 @@ fn write_tree(
     }
 }
 
+// Writes an expansion, this tree in the place of its call, with only the parentheses that it needs, or returns why it has no text. The call
+// begins at the byte `begin`.
+fn write_loosened(
+    alloc: Global,
+    begin: u32,
+    invocation: &Invocation<'_>,
+    tree: &TopSubtree,
+) -> Result<Written, OutOfMemory>
+    ensures { IfOk result (IsTextOf invocation.now.delimiter (loosened (place_of invocation.now.enclosure invocation.now.position) tree.now.children) begin) }
+{
+    let top = Delimiter {
+        kind: DelimiterKind::Invisible,
+        ..invocation.delimiter
+    };
+    let position = invocation.position;
+    match loosened(
+        alloc,
+        top,
+        invocation.enclosure,
+        position,
+        tree.token_trees(),
+    ) {
+        Ok(shown) => Ok(write_tree(alloc, begin, invocation.delimiter, &shown)?),
+        Err(TtFault::Memory) => Err(OutOfMemory),
+        Err(fault) => Ok(Written::Faulty(begin, MacroFault::TooLarge(fault))),
+    }
+}
+
 // Returns the text of what a call expands to, or why it has none.
 fn invocation_text(
     config: &Config,
@@ -69,7 +98,7 @@ fn invocation_text(
         None => {}
     }
     match builder.build() {
-        Ok(tree) => Ok(write_tree(config.alloc, begin, invocation.delimiter, &tree)?),
+        Ok(tree) => Ok(write_loosened(config.alloc, begin, invocation, &tree)?),
         Err(
             Refused {
                 fault: TtFault::Memory,

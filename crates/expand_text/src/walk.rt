@@ -42,7 +42,7 @@ pub(crate) struct Level<'a> {
 pub(crate) struct Invocation<'a> {
     pub(crate) name: Symbol,
     pub(crate) defined_at: u32,
-    /// All of its trees, with the attributes before it if it is under a condition, and with the `;` that is a part of it.
+    /// All of its trees, with the attributes before it if it is a statement or an item, and with the `;` that is a part of it.
     pub(crate) whole: TokenTreesView<'a>,
     /// The number of these trees that are attributes.
     pub(crate) attributes: usize,

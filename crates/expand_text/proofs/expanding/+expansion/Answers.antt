@@ -23,7 +23,7 @@ use Rattle.expand_text.proofs.Placing.{added_under, built_alone, is_too_large, k
 use Rattle.expand_text.specs.Outcomes.{nothing, trees_left}
 use Rattle.expand_text.specs.Walks.{body_of, Level, level_of, levels_of, site_of, found_by, closes_of, first_leaf, first_subtree, first_stay, Ends, Leads, IsNext, IsWithin, Steps}
 use Rattle.expand_text.proofs.Finishing.{IsGoing, begins, ends_so, goes_on, goes_into, goes_out, goes_past, finished_leaf, finished_stay}
-use Rattle.expand_text.proofs.Rooting.{depth_append, is_above, depth_close}
+use Rattle.expand_items.proofs.Rebuilding.{depth_append, is_above, depth_close}
 use Rattle.expand_text.proofs.expanding.+expansion.Goals as goal
 
 pub expand_trees-trees-init : goal.expand_trees-trees-init

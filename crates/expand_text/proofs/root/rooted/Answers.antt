@@ -10,7 +10,8 @@ use Rattle.tt.specs.Types.TtElement.TheVariants as element
 use Rattle.tt.specs.Views.{trees_of}
 use Rattle.expand_text.specs.declared.root.Level.{Level}
 use Rattle.expand_text.specs.Roots.{rooted_leaf, after_leaf, rooted}
-use Rattle.expand_text.proofs.Rooting.{finished, work_left, leaf_first, node_first, none_first, finished_leaf, finished_node, finished_end, finished_all, leaf_no_room, node_no_room, depth_append, depth_close}
+use Rattle.expand_items.proofs.Rebuilding.{leaf_first, node_first, none_first, depth_append, depth_close}
+use Rattle.expand_text.proofs.Rooting.{finished, work_left, finished_leaf, finished_node, finished_end, finished_all, leaf_no_room, node_no_room}
 use Rattle.expand_text.proofs.root.rooted.Goals as goal
 
 pub tokens-preserved-in_ok-push-in-Some-Leaf : goal.tokens-preserved-in_ok-push-in-Some-Leaf

@@ -1,8 +1,10 @@
 use Rattle.std.proofs.Common.{rules, ◌≡◌, ◌≢◌, inl, inr, refl, ap, subst, ◌∙◌}
 use Rattle.tt.specs.Building.{built}
+use Rattle.tt.specs.Stored.{IsWithinLimits}
 use Rattle.tt.specs.TreeFault.{IsTreeFault}
 use Rattle.tt.specs.Types.DelimiterKind.TheVariants.{Invisible}
 use Rattle.tt.specs.Types.TtFault.TheVariants as limit
+use Rattle.expand_items.specs.Loosening.{loosened, place_of}
 use Rattle.expand_text.specs.Expanding.{IsAdded}
 use Rattle.expand_text.specs.Expansion.{IsTextOf}
 use Rattle.expand_text.specs.Macros.{tree_of}
@@ -33,17 +35,29 @@ returns-in-Err c before is =
       record {
         outcome = put.outcome;
         expands_to = put.expands_to;
-        text = inr (refl, trees, so, ((subst (λ r. IsTreeFault r why) whole past, no_memory), c.start_of-begin.ensures));
+        text = inr (refl, inl (trees, so, (subst (λ r. IsTreeFault r why) whole past, no_memory), c.start_of-begin.ensures));
       },
     )
 
-pub returns-in_ok-write_tree-in-Ok : goal.returns-in_ok-write_tree-in-Ok
-returns-in_ok-write_tree-in-Ok c before is =
+pub returns-in_ok-write_loosened-in-Ok : goal.returns-in_ok-write_loosened-in-Ok
+returns-in_ok-write_loosened-in-Ok c before is =
     let it = c.args.invocation.now in
+    let text = c.in_ok-write_loosened-in-Ok.field-0 in
+    let begin = c.start_of-begin.result in
     let (after, ready, put) = c.in_ok-fault.ensures.placed before is in
     let (trees, so, added) = subst (λ m. IsAdded (site_of it) (trees_left put.outcome) m c.in_ok-builder.builder.stack c.expand_invocation.new.builder.stack) c.in-None.is put.added in
     let whole : built c.expand_invocation.new.builder ≡ tree_of it.delimiter trees =
     built_alone (record it.delimiter { kind = Invisible }) c.in_ok-builder.builder c.expand_invocation.new.builder trees c.in_ok-builder.ensures.ok c.in_ok-fault.ensures.top added in
-    let children = ap (λ r. r.children) (c.in-Ok.ensures.ok ∙ whole) in
-    let text = subst (λ f. IsTextOf it.delimiter f c.start_of-begin.result c.in_ok-write_tree-in-Ok.field-0) children c.in_ok-write_tree-in-Ok.ensures in
-    (after, ready, record { outcome = put.outcome; expands_to = put.expands_to; text = call_text (site_of it) (trees_left put.outcome) trees _ c.in_ok-write_tree-in-Ok.field-0 so (subst (λ n. IsTextOf it.delimiter trees n c.in_ok-write_tree-in-Ok.field-0) c.start_of-begin.ensures text) })
+    let tree : c.in-Ok.tree ≡ tree_of it.delimiter trees = c.in-Ok.ensures.ok ∙ whole in
+    let within : IsWithinLimits (tree_of it.delimiter trees) = subst IsWithinLimits tree c.in-Ok.ensures.limits in
+    let shown = loosened (place_of it.enclosure it.position) trees in
+    let made : IsTextOf it.delimiter shown begin text =
+    subst (λ f. IsTextOf it.delimiter (loosened (place_of it.enclosure it.position) f) begin text) (ap (λ r. r.children) tree) c.in_ok-write_loosened-in-Ok.ensures in (
+      after,
+      ready,
+      record {
+        outcome = put.outcome;
+        expands_to = put.expands_to;
+        text = call_text (site_of it) (trees_left put.outcome) shown _ text (trees, so, (within, refl)) (subst (λ n. IsTextOf it.delimiter shown n text) c.start_of-begin.ensures made);
+      },
+    )

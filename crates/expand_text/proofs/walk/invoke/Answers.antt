@@ -74,8 +74,7 @@ returns c =
         last = c.pass_semicolon-last_span.ensures.last
             ∙ ap₂ (λ b f. cond b (begin_at f close) close) takes (ap (λ l. l.rest) passed);
         whole = whole;
-        site = site_same level.position it level.rest tree (trees_of c.from_savepoint.result) c.enclosure-enclosure.result c.first_of_call.result.siblings whole enclosed
-            (ap (λ p. p.siblings) begins);
+        site = site_same level.position it level.rest tree (trees_of c.from_savepoint.result) c.enclosure-enclosure.result c.first_of_call.result whole enclosed begins;
         begins = begins;
         makes = ap (λ b. body b tree) is_one;
       },

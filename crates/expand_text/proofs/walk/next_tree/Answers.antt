@@ -8,7 +8,7 @@ use Rattle.expand_text.specs.Contexts.{left_in_scope}
 use Rattle.expand_text.specs.Walks.{Level, level_of, levels_of, past_leaf, entered, closes_of, Ends, IsLeft, IsNext, Steps}
 use Rattle.expand_text.proofs.Leading.{leads_leaf, leads_subtree, leads_end}
 use Rattle.expand_text.proofs.Readiness.{ready_length}
-use Rattle.expand_text.proofs.Rooting.{leaf_first, node_first, none_first}
+use Rattle.expand_items.proofs.Rebuilding.{leaf_first, node_first, none_first}
 use Rattle.expand_text.proofs.walk.next_tree.Goals as goal
 
 pub returns-in-Some-clause-next : goal.returns-in-Some-clause-next
