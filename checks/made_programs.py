@@ -149,10 +149,11 @@ class Maker:
             self.values.append(f"{function}()")
 
     def shapes(self, piece):
-        """What the body of a function may do with a piece, an expression of numbers: first the forms that begin with it."""
+        """What the body of a function may do with a piece, an expression of numbers: first the forms in which it may be no block."""
         sign = self.operator()
         return (
             f"{piece} {sign} 3", f"{piece} as u8 as i64", f"{piece}.wrapping_mul(3)", f"{piece} << 1", f"{piece} as i64 {sign} 2", f"{piece}.pow(2)",
+            f"for x in 0..{piece} {{ return x {sign} 2; }} 9",
         ), (
             f"{piece}", f"3 {sign} {piece}", f"-{piece}", f"!{piece}", f"let x = {piece}; x", f"let x: i64 = {piece} {sign} 1; x",
             f"let mut x = 0; x += {piece}; x", f"return {piece};", f"[{piece}, 5][0]", f"[4, 5, {piece}].iter().sum()", f"i64::max({piece}, 2)",
@@ -160,7 +161,7 @@ class Maker:
             f"match 5 {{ x if {piece} > x => x, _ => {piece} }}", f"(0..{piece}).count() as i64", f"{{ {piece} }}", f"(|x: i64| {piece} {sign} x)(3)",
             f"P {{ a: {piece} }}.a", f"P {{ a: {piece} {sign} 1 }}.a", f"*&{piece}", f"i64::from({piece} < 4)", f"i64::from(5 == {piece} && {piece} > 1)",
             f"format!(\"{{}}\", {piece}).len() as i64", f"assert!({piece} == {piece}); 3", f"let x = [1, 2]; x[{piece} as usize & 1]",
-            f"'a: loop {{ break 'a {piece}; }}", f"for x in 0..{piece} {{ return x {sign} 2; }} 9", f"while {piece} > 100 {{ return 3; }} 8",
+            f"'a: loop {{ break 'a {piece}; }}", f"while {piece} > 100 {{ return 3; }} 8",
             f"let Some(x) = Some({piece}) else {{ return 3 }}; x", f"if let 1..4 = {piece} {{ 3 }} else {{ 5 }}", f"5.min({piece})", f"P::of({piece}).a {sign} 2",
             f"1 {sign} {piece} as i64", f"({piece}, 5).0 {sign} 2",
         )
