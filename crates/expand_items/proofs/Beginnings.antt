@@ -7,7 +7,8 @@ use Rattle.tt.specs.Gluing.{after_trees}
 use Rattle.tt.specs.Moves.{after_tree}
 use Rattle.tt.specs.Types.Ident.{Ident}
 use Rattle.tt.specs.Types.Leaf.TheVariants as leaf_of
-use Rattle.expand_items.specs.Items.{other, call_behind, call_from, definition_behind, is_at_colons, is_at_root, is_at_sign, item_from, item_in, may_begin_item, name_in}
+use Rattle.expand_items.specs.Items.{other, call_behind, call_behind_colons, call_from, definition_behind, is_at_colons, is_at_root, is_at_sign, item_from, item_in, may_begin_item, name_in}
+use Rattle.expand_items.specs.declared.item.MacroPath.TheVariants as path
 use Rattle.mbe_pattern.specs.Units.{is_at_word, is_at_punct, unit_size}
 
 -- If no sign comes first, no `!` and no `:` does.
@@ -32,7 +33,7 @@ begins_none root end e = refl
 begins_none root (node delimiter children rest) e = refl
 begins_none root (leaf (leaf_of.Literal it) rest) e = refl
 begins_none root (leaf (leaf_of.Punct it) rest) e =
-    ap (λ b. item_from None (cond b (call_behind 2 true (after_trees 2 (leaf (leaf_of.Punct it) rest))) None)) (no_colons (leaf (leaf_of.Punct it) rest) (ap (λ b. b || false) e))
+    ap (λ b. item_from None (cond b (call_behind_colons root (after_trees 2 (leaf (leaf_of.Punct it) rest))) None)) (no_colons (leaf (leaf_of.Punct it) rest) (ap (λ b. b || false) e))
 begins_none root (leaf (leaf_of.Ident it) rest) e =
     let trees = leaf (leaf_of.Ident it) rest in
     let (bang, colon) = no_sign rest e in
@@ -44,12 +45,12 @@ begins_none root (leaf (leaf_of.Ident it) rest) e =
     no_definition false bang = refl
 
     no_call : (a : Bool) → is_at_colons rest ≡ false → is_at_punct (codes "!") rest ≡ false → (name : Option Ident)
-        → cond (a && is_at_colons rest) (call_behind 3 false (after_trees 3 (leaf (leaf_of.Ident it) rest))) (call_from 0 false name (is_at_punct (codes "!") rest) (after_tree rest)) ≡ None
+        → cond (a && is_at_colons rest) (call_behind 3 path.Root (after_trees 3 (leaf (leaf_of.Ident it) rest))) (call_from 0 path.Name name (is_at_punct (codes "!") rest) (after_tree rest)) ≡ None
     no_call a colons bang None = by a
       where
-        by : (a : Bool) → cond (a && is_at_colons rest) (call_behind 3 false (after_trees 3 (leaf (leaf_of.Ident it) rest))) None ≡ None
-        by true = ap (λ b. cond b (call_behind 3 false (after_trees 3 (leaf (leaf_of.Ident it) rest))) None) colons
+        by : (a : Bool) → cond (a && is_at_colons rest) (call_behind 3 path.Root (after_trees 3 (leaf (leaf_of.Ident it) rest))) None ≡ None
+        by true = ap (λ b. cond b (call_behind 3 path.Root (after_trees 3 (leaf (leaf_of.Ident it) rest))) None) colons
         by false = refl
     no_call true colons bang (Some name) =
-        ap₂ (λ b c. cond b (call_behind 3 false (after_trees 3 (leaf (leaf_of.Ident it) rest))) (call_from 0 false (Some name) c (after_tree rest))) colons bang
-    no_call false colons bang (Some name) = ap (λ c. call_from 0 false (Some name) c (after_tree rest)) bang
+        ap₂ (λ b c. cond b (call_behind 3 path.Root (after_trees 3 (leaf (leaf_of.Ident it) rest))) (call_from 0 path.Name (Some name) c (after_tree rest))) colons bang
+    no_call false colons bang (Some name) = ap (λ c. call_from 0 path.Name (Some name) c (after_tree rest)) bang

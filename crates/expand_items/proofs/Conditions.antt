@@ -7,7 +7,9 @@ use Rattle.tt.specs.Moves.{after_tree}
 use Rattle.tt.specs.Types.Delimiter.{Delimiter}
 use Rattle.tt.specs.Types.Ident.{Ident}
 use Rattle.expand_items.specs.Attributes.{attributes_len, begins_attributes, item_at, item_behind, with_attributes}
-use Rattle.expand_items.specs.Items.{Definition, Call, Item, defines, calls, other, call_behind, call_from, call_in, definition_in, is_at_colons, is_at_root, item_from, item_in, name_in}
+use Rattle.expand_items.specs.Items.{Definition, Call, Item, defines, calls, other, call_behind, call_behind_colons, call_from, call_in, definition_in, is_at_colons, is_at_root_path, item_from, item_in, name_in}
+use Rattle.expand_items.specs.declared.item.MacroPath.{MacroPath}
+use Rattle.expand_items.specs.declared.item.MacroPath.TheVariants as path
 use Rattle.expand_items.specs.Positions.{is_statement}
 use Rattle.expand_items.specs.declared.position.Position.{Position}
 use Rattle.expand_items.proofs.Attributes.{EndsWithNode, attributes_end}
@@ -20,24 +22,31 @@ abbrev IsBare : Option Call → Type 0
 IsBare None = Unit {0}
 IsBare (Some it) = it.attributes ≡ 0
 
-bare_behind : (before : ℕ) (elsewhere : Bool) (trees : Forest) → IsBare (call_behind before elsewhere trees)
-bare_behind before elsewhere trees = by (name_in trees) (is_at_punct (codes "!") (after_tree trees)) (after_trees 2 trees)
+bare_behind : (before : ℕ) (way : MacroPath) (trees : Forest) → IsBare (call_behind before way trees)
+bare_behind before way trees = by (name_in trees) (is_at_punct (codes "!") (after_tree trees)) (after_trees 2 trees)
   where
-    by : (name : Option Ident) (there : Bool) (behind : Forest) → IsBare (call_from before elsewhere name there behind)
+    by : (name : Option Ident) (there : Bool) (behind : Forest) → IsBare (call_from before way name there behind)
     by None there behind = tt
     by (Some name) false behind = tt
     by (Some name) true end = tt
     by (Some name) true (leaf it rest) = tt
     by (Some name) true (node delimiter children rest) = refl
 
+bare_behind_colons : (root : List ℕ) (trees : Forest) → IsBare (call_behind_colons root trees)
+bare_behind_colons root trees = by (is_at_root_path root trees)
+  where
+    by : (a : Bool) → IsBare (cond a (call_behind 5 path.Other (after_trees 3 trees)) (call_behind 2 path.Other trees))
+    by true = bare_behind 5 path.Other (after_trees 3 trees)
+    by false = bare_behind 2 path.Other trees
+
 bare_in : (root : List ℕ) (trees : Forest) → IsBare (call_in root trees)
-bare_in root trees = by (is_at_colons trees) (is_at_root root trees && is_at_colons (after_tree trees))
+bare_in root trees = by (is_at_colons trees) (is_at_root_path root trees)
   where
     by : (a b : Bool)
-        → IsBare (cond a (call_behind 2 true (after_trees 2 trees)) (cond b (call_behind 3 false (after_trees 3 trees)) (call_behind 0 false trees)))
-    by true b = bare_behind 2 true (after_trees 2 trees)
-    by false true = bare_behind 3 false (after_trees 3 trees)
-    by false false = bare_behind 0 false trees
+        → IsBare (cond a (call_behind_colons root (after_trees 2 trees)) (cond b (call_behind 3 path.Root (after_trees 3 trees)) (call_behind 0 path.Name trees)))
+    by true b = bare_behind_colons root (after_trees 2 trees)
+    by false true = bare_behind 3 path.Root (after_trees 3 trees)
+    by false false = bare_behind 0 path.Name trees
 
 -- A call that comes first by itself has no attributes.
 pub bare_call : (root : List ℕ) (trees : Forest) (it : Call) → item_in root trees ≡ calls it → it.attributes ≡ 0

@@ -5,7 +5,9 @@ use Rattle.tt.specs.Forest.{Forest, end, leaf, node, size}
 use Rattle.tt.specs.Gluing.{after_trees}
 use Rattle.tt.specs.Moves.{after_tree}
 use Rattle.tt.specs.Types.Ident.{Ident}
-use Rattle.expand_items.specs.Items.{Definition, Call, defines, calls, defined_as, definition_from, definition_in, call_from, call_behind, is_at_colons, is_at_root, call_in, item_from, item_in, name_in}
+use Rattle.expand_items.specs.Items.{Definition, Call, defines, calls, defined_as, definition_from, definition_in, call_from, call_behind, call_behind_colons, is_at_colons, is_at_root_path, call_in, item_from, item_in, name_in}
+use Rattle.expand_items.specs.declared.item.MacroPath.{MacroPath}
+use Rattle.expand_items.specs.declared.item.MacroPath.TheVariants as path
 use Rattle.mbe_pattern.specs.Units.{is_at_word, is_brace, is_at_punct}
 
 -- it has at least one tree, if it is there
@@ -40,24 +42,31 @@ long_definition trees =
     by true false name = tt
     by false b name = tt
 
-long_behind : (before : ℕ) (elsewhere : Bool) (trees : Forest) → IsLongCall (call_behind before elsewhere trees)
-long_behind before elsewhere trees = by (name_in trees) (is_at_punct (codes "!") (after_tree trees)) (after_trees 2 trees)
+long_behind : (before : ℕ) (way : MacroPath) (trees : Forest) → IsLongCall (call_behind before way trees)
+long_behind before way trees = by (name_in trees) (is_at_punct (codes "!") (after_tree trees)) (after_trees 2 trees)
   where
-    by : (name : Option Ident) (there : Bool) (behind : Forest) → IsLongCall (call_from before elsewhere name there behind)
+    by : (name : Option Ident) (there : Bool) (behind : Forest) → IsLongCall (call_from before way name there behind)
     by None there behind = tt
     by (Some name) false behind = tt
     by (Some name) true end = tt
     by (Some name) true (leaf it rest) = tt
     by (Some name) true (node delimiter children rest) = omega arith
 
+long_behind_colons : (root : List ℕ) (trees : Forest) → IsLongCall (call_behind_colons root trees)
+long_behind_colons root trees = by (is_at_root_path root trees)
+  where
+    by : (a : Bool) → IsLongCall (cond a (call_behind 5 path.Other (after_trees 3 trees)) (call_behind 2 path.Other trees))
+    by true = long_behind 5 path.Other (after_trees 3 trees)
+    by false = long_behind 2 path.Other trees
+
 long_call : (root : List ℕ) (trees : Forest) → IsLongCall (call_in root trees)
-long_call root trees = by (is_at_colons trees) (is_at_root root trees && is_at_colons (after_tree trees))
+long_call root trees = by (is_at_colons trees) (is_at_root_path root trees)
   where
     by : (a b : Bool)
-        → IsLongCall (cond a (call_behind 2 true (after_trees 2 trees)) (cond b (call_behind 3 false (after_trees 3 trees)) (call_behind 0 false trees)))
-    by true b = long_behind 2 true (after_trees 2 trees)
-    by false true = long_behind 3 false (after_trees 3 trees)
-    by false false = long_behind 0 false trees
+        → IsLongCall (cond a (call_behind_colons root (after_trees 2 trees)) (cond b (call_behind 3 path.Root (after_trees 3 trees)) (call_behind 0 path.Name trees)))
+    by true b = long_behind_colons root (after_trees 2 trees)
+    by false true = long_behind 3 path.Root (after_trees 3 trees)
+    by false false = long_behind 0 path.Name trees
 
 -- After some trees no more tokens are left.
 pub fewer_behind : (n : ℕ) (trees : Forest) → size (after_trees n trees) ≤ size trees

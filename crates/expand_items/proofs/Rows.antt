@@ -12,6 +12,8 @@ use Rattle.tt.specs.Types.Spacing.TheVariants.{Alone}
 use Rattle.tt_base.proofs.Samples.{span, punct, ident, subtree}
 use Rattle.expand_items.specs.Attributes.{attributes_len, conditions_of, item_at}
 use Rattle.expand_items.specs.Items.{Item, calls, defines, other, item_in}
+use Rattle.expand_items.specs.declared.item.MacroPath.{MacroPath}
+use Rattle.expand_items.specs.declared.item.MacroPath.TheVariants as path
 use Rattle.expand_items.specs.Positions.{begun, first_in, behind_leaf, behind_subtree, keeps_macros, is_statement, takes_semicolon, siblings_of_call}
 use Rattle.expand_items.specs.declared.position.Position.{Position}
 use Rattle.expand_items.specs.declared.position.Siblings.{Siblings}
@@ -36,35 +38,38 @@ attribute text rest = alone 35 (join (subtree Bracket (word text end)) rest)
 abbrev pub m_name : Ident
 m_name = record { sym = codes "m"; span = span 0 1; is_raw = No }
 
-abbrev pub m_call_behind : (attributes : ℕ) → (is_elsewhere : Bool) → (len : ℕ) → Item
-m_call_behind attributes is_elsewhere len =
+abbrev pub m_call_behind : (attributes : ℕ) → MacroPath → (len : ℕ) → Item
+m_call_behind attributes way len =
     calls (record {
       attributes = attributes;
       name = m_name;
-      is_elsewhere = is_elsewhere;
+      path = way;
       delimiter = delimiter Parenthesis (span 0 1) (span 1 1);
       input = end;
       len = len;
     })
 
-abbrev pub m_call : (is_elsewhere : Bool) → (len : ℕ) → Item
-m_call is_elsewhere len = m_call_behind 0 is_elsewhere len
+abbrev pub m_call : MacroPath → (len : ℕ) → Item
+m_call way len = m_call_behind 0 way len
 
 -- a definition of it without arms
 abbrev pub m_definition : DelimiterKind → (len : ℕ) → Item
 m_definition kind len = defines (record { name = m_name; delimiter = delimiter kind (span 0 1) (span 1 1); arms = end; len = len })
 
--- `m!()`, `crate::m!()`, `k::m!()` with the root's word `k`, and `::m!()`.
-call_first : item_in (codes "crate") (word (codes "m") (bang (brackets Parenthesis end))) ≡ m_call false 3
+-- `m!()`, `crate::m!()`, `k::m!()` and `::k::m!()` with the root's word `k`, and `::m!()`.
+call_first : item_in (codes "crate") (word (codes "m") (bang (brackets Parenthesis end))) ≡ m_call path.Name 3
 call_first = refl
 
-call_rooted : item_in (codes "k") (word (codes "crate") (colons (word (codes "m") (bang (brackets Parenthesis end))))) ≡ m_call false 6
+call_rooted : item_in (codes "k") (word (codes "crate") (colons (word (codes "m") (bang (brackets Parenthesis end))))) ≡ m_call path.Root 6
 call_rooted = refl
 
-call_root_word : item_in (codes "k") (word (codes "k") (colons (word (codes "m") (bang (brackets Parenthesis end))))) ≡ m_call false 6
+call_root_word : item_in (codes "k") (word (codes "k") (colons (word (codes "m") (bang (brackets Parenthesis end))))) ≡ m_call path.Root 6
 call_root_word = refl
 
-call_elsewhere : item_in (codes "crate") (colons (word (codes "m") (bang (brackets Parenthesis end)))) ≡ m_call true 5
+call_behind_colons_root : item_in (codes "k") (colons (word (codes "k") (colons (word (codes "m") (bang (brackets Parenthesis end)))))) ≡ m_call path.Other 8
+call_behind_colons_root = refl
+
+call_elsewhere : item_in (codes "crate") (colons (word (codes "m") (bang (brackets Parenthesis end)))) ≡ m_call path.Other 5
 call_elsewhere = refl
 
 -- `if !()`, `m!`, `m != ()` and `a::m!()` are no calls.
@@ -258,16 +263,16 @@ abbrev m_item : Forest
 m_item = word (codes "m") (bang (brackets Parenthesis (alone 59 end)))
 
 -- `#[cfg] m!();` is one item; so are `#[cfg] #[inline] m!();`, `#[inline] m!();`, and `#[cfg] m!()` with nothing after it.
-under_condition : item_at (codes "crate") (begun Items) (attribute (codes "cfg") m_item) ≡ m_call_behind 2 false 5
+under_condition : item_at (codes "crate") (begun Items) (attribute (codes "cfg") m_item) ≡ m_call_behind 2 path.Name 5
 under_condition = refl
 
-behind_two : item_at (codes "crate") (begun Items) (attribute (codes "cfg") (attribute (codes "inline") m_item)) ≡ m_call_behind 4 false 7
+behind_two : item_at (codes "crate") (begun Items) (attribute (codes "cfg") (attribute (codes "inline") m_item)) ≡ m_call_behind 4 path.Name 7
 behind_two = refl
 
-last_statement : item_at (codes "crate") (begun Statements) (attribute (codes "cfg") (word (codes "m") (bang (brackets Parenthesis end)))) ≡ m_call_behind 2 false 5
+last_statement : item_at (codes "crate") (begun Statements) (attribute (codes "cfg") (word (codes "m") (bang (brackets Parenthesis end)))) ≡ m_call_behind 2 path.Name 5
 last_statement = refl
 
-other_attribute : item_at (codes "crate") (begun Items) (attribute (codes "inline") m_item) ≡ m_call_behind 2 false 5
+other_attribute : item_at (codes "crate") (begun Items) (attribute (codes "inline") m_item) ≡ m_call_behind 2 path.Name 5
 other_attribute = refl
 
 -- `#[cfg] m!() + ..` is none, and what follows the first of two attributes is none,
@@ -285,8 +290,8 @@ definition_under_condition : item_at (codes "crate") (begun Items) (attribute (c
 definition_under_condition = refl
 
 -- Without an attribute, what comes first is that, also after one.
-without_condition : item_at (codes "crate") (begun Items) m_item ≡ m_call false 3
+without_condition : item_at (codes "crate") (begun Items) m_item ≡ m_call path.Name 3
 without_condition = refl
 
-behind_condition : item_at (codes "crate") (behind_attribute (codes "cfg") (begun Items)) m_item ≡ m_call false 3
+behind_condition : item_at (codes "crate") (behind_attribute (codes "cfg") (begun Items)) m_item ≡ m_call path.Name 3
 behind_condition = refl

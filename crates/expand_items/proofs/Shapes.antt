@@ -9,7 +9,9 @@ use Rattle.tt.specs.Types.Delimiter.{Delimiter}
 use Rattle.tt.specs.Types.Ident.{Ident}
 use Rattle.tt.specs.Types.Leaf.TheVariants as leaf_of
 use Rattle.tt.specs.Types.Punct.{Punct}
-use Rattle.expand_items.specs.Items.{Definition, Call, defines, calls, call_from, call_behind, call_in, defined_as, definition_from, definition_in, is_at_colons, is_at_root, item_from, item_in, name_in}
+use Rattle.expand_items.specs.Items.{Definition, Call, defines, calls, call_from, call_behind, call_behind_colons, call_in, defined_as, definition_from, definition_in, is_at_colons, is_at_root, is_at_root_path, is_elsewhere, item_from, item_in, name_in}
+use Rattle.expand_items.specs.declared.item.MacroPath.{MacroPath}
+use Rattle.expand_items.specs.declared.item.MacroPath.TheVariants as path
 use Rattle.mbe_pattern.specs.Units.{front_trees, is_at_word, is_brace, is_at_punct, unit_size}
 use Rattle.mbe_pattern.proofs.Passing.{after_end}
 
@@ -24,12 +26,12 @@ abbrev EndsWith : Forest → Option Call → Type 0
 EndsWith trees None = Unit {0}
 EndsWith trees (Some it) = EndsWithSubtree trees it
 
-ends_behind : (whole : Forest) (before : ℕ) (is_elsewhere : Bool) (trees : Forest) → after_trees (suc (suc before)) whole ≡ after_trees 2 trees
-    → EndsWith whole (call_behind before is_elsewhere trees)
-ends_behind whole before is_elsewhere trees same = by (name_in trees) (is_at_punct (codes "!") (after_tree trees)) (after_trees 2 trees) same
+ends_behind : (whole : Forest) (before : ℕ) (way : MacroPath) (trees : Forest) → after_trees (suc (suc before)) whole ≡ after_trees 2 trees
+    → EndsWith whole (call_behind before way trees)
+ends_behind whole before way trees same = by (name_in trees) (is_at_punct (codes "!") (after_tree trees)) (after_trees 2 trees) same
   where
     by : (name : Option Ident) (is_call : Bool) (behind : Forest) → after_trees (suc (suc before)) whole ≡ behind
-        → EndsWith whole (call_from before is_elsewhere name is_call behind)
+        → EndsWith whole (call_from before way name is_call behind)
     by None is_call behind shape = tt
     by (Some name) false behind shape = tt
     by (Some name) true end shape = tt
@@ -40,13 +42,18 @@ ends_behind whole before is_elsewhere trees same = by (name_in trees) (is_at_pun
 pub call_ends : (root : List ℕ) (trees : Forest) (it : Call) → item_in root trees ≡ calls it → EndsWithSubtree trees it
 call_ends root trees it is = found (definition_in trees) (call_in root trees) all is
   where
-    by : (a b : Bool) → EndsWith trees (cond a (call_behind 2 true (after_trees 2 trees)) (cond b (call_behind 3 false (after_trees 3 trees)) (call_behind 0 false trees)))
-    by true b = ends_behind trees 2 true (after_trees 2 trees) refl
-    by false true = ends_behind trees 3 false (after_trees 3 trees) refl
-    by false false = ends_behind trees 0 false trees refl
+    by : (a b : Bool) → EndsWith trees (cond a (call_behind_colons root (after_trees 2 trees)) (cond b (call_behind 3 path.Root (after_trees 3 trees)) (call_behind 0 path.Name trees)))
+    by true b = behind_colons (is_at_root_path root (after_trees 2 trees))
+      where
+        behind_colons : (c : Bool)
+            → EndsWith trees (cond c (call_behind 5 path.Other (after_trees 3 (after_trees 2 trees))) (call_behind 2 path.Other (after_trees 2 trees)))
+        behind_colons true = ends_behind trees 5 path.Other (after_trees 3 (after_trees 2 trees)) refl
+        behind_colons false = ends_behind trees 2 path.Other (after_trees 2 trees) refl
+    by false true = ends_behind trees 3 path.Root (after_trees 3 trees) refl
+    by false false = ends_behind trees 0 path.Name trees refl
 
     all : EndsWith trees (call_in root trees)
-    all = by (is_at_colons trees) (is_at_root root trees && is_at_colons (after_tree trees))
+    all = by (is_at_colons trees) (is_at_root_path root trees)
 
     found : (definition : Option Definition) (call : Option Call) → EndsWith trees call → item_from definition call ≡ calls it → EndsWithSubtree trees it
     found None None there e = absurd (cc e)
@@ -111,10 +118,10 @@ begins trees word behind char is there one =
 -- whether a call that may be there begins with a name, if it is not looked for elsewhere
 abbrev Begins : Forest → Option Call → Type 0
 Begins trees None = Unit {0}
-Begins trees (Some it) = it.is_elsewhere ≡ false → BeginsWithName trees
+Begins trees (Some it) = is_elsewhere it.path ≡ false → BeginsWithName trees
 
 -- A call that is not looked for elsewhere begins with an ident and a `!` or a `:`.
-pub call_begins : (root : List ℕ) (trees : Forest) (it : Call) → item_in root trees ≡ calls it → it.is_elsewhere ≡ false → BeginsWithName trees
+pub call_begins : (root : List ℕ) (trees : Forest) (it : Call) → item_in root trees ≡ calls it → is_elsewhere it.path ≡ false → BeginsWithName trees
 call_begins root trees it is here = found (definition_in trees) (call_in root trees) all is
   where
     is_bang : (c : ℕ) → (c == 33) ≡ true → ((c == 33) || (c == 58)) ≡ true
@@ -127,18 +134,28 @@ call_begins root trees it is here = found (definition_in trees) (call_in root tr
         by true = refl
         by false = e
 
-    elsewhere : (name : Option Ident) (there : Bool) (behind : Forest) → Begins trees (call_from 2 true name there behind)
-    elsewhere None there behind = tt
-    elsewhere (Some name) false behind = tt
-    elsewhere (Some name) true end = tt
-    elsewhere (Some name) true (leaf l rest) = tt
-    elsewhere (Some name) true (node delimiter children rest) = λ e. absurd (false≢true (sym e))
+    elsewhere : (before : ℕ) (name : Option Ident) (there : Bool) (behind : Forest) → Begins trees (call_from before path.Other name there behind)
+    elsewhere before None there behind = tt
+    elsewhere before (Some name) false behind = tt
+    elsewhere before (Some name) true end = tt
+    elsewhere before (Some name) true (leaf l rest) = tt
+    elsewhere before (Some name) true (node delimiter children rest) = λ e. absurd (false≢true (sym e))
+
+    elsewhere_behind : (before : ℕ) (behind : Forest) → Begins trees (call_behind before path.Other behind)
+    elsewhere_behind before behind = elsewhere before (name_in behind) (is_at_punct (codes "!") (after_tree behind)) (after_trees 2 behind)
+
+    colons : (rest : Forest) → Begins trees (call_behind_colons root rest)
+    colons rest = by (is_at_root_path root rest)
+      where
+        by : (c : Bool) → Begins trees (cond c (call_behind 5 path.Other (after_trees 3 rest)) (call_behind 2 path.Other rest))
+        by true = elsewhere_behind 5 (after_trees 3 rest)
+        by false = elsewhere_behind 2 rest
 
     given : BeginsWithName trees → (call : Option Call) → Begins trees call
     given begun None = tt
     given begun (Some call) = λ e. begun
 
-    rooted : (is_at_root root trees && is_at_colons (after_tree trees)) ≡ true → BeginsWithName trees
+    rooted : is_at_root_path root trees ≡ true → BeginsWithName trees
     rooted both =
         let (at_root, colons) = and_parts (is_at_root root trees) (is_at_colons (after_tree trees)) both in
         let (word, rest, shape) = word_of at_root in
@@ -152,7 +169,7 @@ call_begins root trees it is here = found (definition_in trees) (call_in root tr
             by false is both = word_first root trees both
 
     named : (name : Option Ident) → name_in trees ≡ name → (there : Bool) → is_at_punct (codes "!") (after_tree trees) ≡ there → (behind : Forest)
-        → Begins trees (call_from 0 false name there behind)
+        → Begins trees (call_from 0 path.Name name there behind)
     named None is there e behind = tt
     named (Some name) is false e behind = tt
     named (Some name) is true e end = tt
@@ -161,18 +178,18 @@ call_begins root trees it is here = found (definition_in trees) (call_in root tr
         let (behind, word, shape) = name_first trees name is in
         λ f. begins trees word behind 33 shape e is_bang
 
-    by : (a b : Bool) → (is_at_root root trees && is_at_colons (after_tree trees)) ≡ b
-        → Begins trees (cond a (call_behind 2 true (after_trees 2 trees)) (cond b (call_behind 3 false (after_trees 3 trees)) (call_behind 0 false trees)))
-    by true b e = elsewhere (name_in (after_trees 2 trees)) (is_at_punct (codes "!") (after_tree (after_trees 2 trees))) (after_trees 2 (after_trees 2 trees))
-    by false true e = given (rooted e) (call_behind 3 false (after_trees 3 trees))
+    by : (a b : Bool) → is_at_root_path root trees ≡ b
+        → Begins trees (cond a (call_behind_colons root (after_trees 2 trees)) (cond b (call_behind 3 path.Root (after_trees 3 trees)) (call_behind 0 path.Name trees)))
+    by true b e = colons (after_trees 2 trees)
+    by false true e = given (rooted e) (call_behind 3 path.Root (after_trees 3 trees))
     by false false e = named (name_in trees) refl (is_at_punct (codes "!") (after_tree trees)) refl (after_trees 2 trees)
 
     all : Begins trees (call_in root trees)
-    all = by (is_at_colons trees) (is_at_root root trees && is_at_colons (after_tree trees)) refl
+    all = by (is_at_colons trees) (is_at_root_path root trees) refl
 
     found : (definition : Option Definition) (call : Option Call) → Begins trees call → item_from definition call ≡ calls it → BeginsWithName trees
     found None None there e = absurd (cc e)
-    found None (Some other) there e = there (ap (λ c. c.is_elsewhere) (same e) ∙ here)
+    found None (Some other) there e = there (ap (λ c. is_elsewhere c.path) (same e) ∙ here)
       where
         same : calls other ≡ calls it → other ≡ it
         same e = cc

@@ -13,6 +13,8 @@ use Rattle.expand_items.specs.declared.item.Call as call
 use Rattle.expand_items.specs.declared.item.Definition as definition
 use Rattle.expand_items.specs.declared.item.Item as item
 use Rattle.expand_items.specs.declared.item.Item.TheVariants as item_of
+use Rattle.expand_items.specs.declared.item.MacroPath.{MacroPath}
+use Rattle.expand_items.specs.declared.item.MacroPath.TheVariants as path
 use Rattle.mbe_grammar.specs.declared.test.Test.TheVariants as test
 use Rattle.mbe_grammar.specs.Tests.{passes}
 use Rattle.mbe_grammar.specs.Units.{first_unit}
@@ -25,15 +27,21 @@ pub record Definition : Type 0 where
   pub arms : Forest
   pub len : ℕ
 
--- a call of a macro: the number of trees of attributes that are a part of it, its name, whether that is looked for elsewhere than among the
--- macros in scope, the input under a delimiter, and its number of trees, with the attributes
+-- a call of a macro: the number of trees of attributes that are a part of it, its name and what precedes that, the input under a delimiter,
+-- and its number of trees, with the attributes
 pub record Call : Type 0 where
   pub attributes : ℕ
   pub name : Ident
-  pub is_elsewhere : Bool
+  pub path : MacroPath
   pub delimiter : Delimiter
   pub input : Forest
   pub len : ℕ
+
+-- it is neither nothing nor the root of the crate
+abbrev pub is_elsewhere : MacroPath → Bool
+is_elsewhere path.Name = false
+is_elsewhere path.Root = false
+is_elsewhere path.Other = true
 
 -- what comes first among siblings
 pub data Item : Type 0 where
@@ -78,22 +86,22 @@ definition_in trees =
     else None
 
 -- the call of a name, if a subtree follows the `!`; so many trees before the name are a part of it
-abbrev pub called_as : (before : ℕ) → (is_elsewhere : Bool) → Ident → Forest → Option Call
-called_as before is_elsewhere name end = None
-called_as before is_elsewhere name (leaf it rest) = None
-called_as before is_elsewhere name (node delimiter children rest) =
-    Some (record { attributes = 0; name = name; is_elsewhere = is_elsewhere; delimiter = delimiter; input = children; len = before + 3 })
+abbrev pub called_as : (before : ℕ) → MacroPath → Ident → Forest → Option Call
+called_as before way name end = None
+called_as before way name (leaf it rest) = None
+called_as before way name (node delimiter children rest) =
+    Some (record { attributes = 0; name = name; path = way; delimiter = delimiter; input = children; len = before + 3 })
 
 -- the same, if there are a name and a `!`
-abbrev pub call_from : (before : ℕ) → (is_elsewhere : Bool) → Option Ident → (is_call : Bool) → Forest → Option Call
-call_from before is_elsewhere None is_call trees = None
-call_from before is_elsewhere (Some name) false trees = None
-call_from before is_elsewhere (Some name) true trees = called_as before is_elsewhere name trees
+abbrev pub call_from : (before : ℕ) → MacroPath → Option Ident → (is_call : Bool) → Forest → Option Call
+call_from before way None is_call trees = None
+call_from before way (Some name) false trees = None
+call_from before way (Some name) true trees = called_as before way name trees
 
 -- a name, `!` and a subtree
-abbrev pub call_behind : (before : ℕ) → (is_elsewhere : Bool) → Forest → Option Call
-call_behind before is_elsewhere trees =
-    call_from before is_elsewhere (name_in trees) (is_at_punct (codes "!") (after_tree trees)) (after_trees 2 trees)
+abbrev pub call_behind : (before : ℕ) → MacroPath → Forest → Option Call
+call_behind before way trees =
+    call_from before way (name_in trees) (is_at_punct (codes "!") (after_tree trees)) (after_trees 2 trees)
 
 -- `::` comes first, as one token
 abbrev pub is_at_colons : Forest → Bool
@@ -103,11 +111,20 @@ is_at_colons trees = if unit_size trees == 2 then is_at_punct (codes ":") trees 
 abbrev pub is_at_root : (root : List ℕ) → Forest → Bool
 is_at_root root trees = is_at_word (codes "crate") trees || is_at_word root trees
 
--- the call that comes first: with `::` before its name, which is then looked for elsewhere; with the crate's root and `::`; or with nothing
+-- the root of the crate and `::` come first
+abbrev pub is_at_root_path : (root : List ℕ) → Forest → Bool
+is_at_root_path root trees = is_at_root root trees && is_at_colons (after_tree trees)
+
+-- the call whose path begins with `::`, if these trees follow that
+abbrev pub call_behind_colons : (root : List ℕ) → Forest → Option Call
+call_behind_colons root trees =
+    if is_at_root_path root trees then call_behind 5 path.Other (after_trees 3 trees) else call_behind 2 path.Other trees
+
+-- the call that comes first: with `::` before its path; with the crate's root and `::`; or with nothing before its name
 abbrev pub call_in : (root : List ℕ) → Forest → Option Call
 call_in root trees =
-    if is_at_colons trees then call_behind 2 true (after_trees 2 trees)
-    else (if is_at_root root trees && is_at_colons (after_tree trees) then call_behind 3 false (after_trees 3 trees) else call_behind 0 false trees)
+    if is_at_colons trees then call_behind_colons root (after_trees 2 trees)
+    else (if is_at_root_path root trees then call_behind 3 path.Root (after_trees 3 trees) else call_behind 0 path.Name trees)
 
 -- a `!` or a `:` comes first
 abbrev pub is_at_sign : Forest → Bool
@@ -144,7 +161,7 @@ call_of it =
     record {
       attributes = it.attributes;
       name = it.name;
-      is_elsewhere = it.is_elsewhere;
+      path = it.path;
       delimiter = it.header.delimiter;
       input = rest_of it.input;
       len = it.len;

@@ -2,7 +2,7 @@
 ghost use Rattle.std.specs.Prelude.{◌≡◌, ◌≤◌, ◌∷◌, [], option_map};
 ghost use Rattle.tt.specs.Iters.{rest_of};
 ghost use Rattle.tt.specs.Moves.{after_tree};
-ghost use Rattle.expand_items.specs.Items.{name_in, definition_len, defined_as, definition_behind, definition_in, call_behind, is_at_colons, is_at_root, call_in, is_at_sign, may_begin_item, item_in, definition_of, call_of, item_meant};
+ghost use Rattle.expand_items.specs.Items.{name_in, definition_len, defined_as, definition_behind, definition_in, call_behind, call_behind_colons, is_at_colons, is_at_root, is_at_root_path, call_in, is_at_sign, may_begin_item, item_in, definition_of, call_of, item_meant};
 ghost use Rattle.mbe_pattern.specs.Units.{is_at_word, is_at_punct};
 
 use mbe_grammar::{Test, Unit};
@@ -15,6 +15,9 @@ const COLONS_LEN: usize = 2;
 /// The number of trees of `crate::`.
 const ROOT_LEN: usize = 3;
 
+/// The number of trees of `::crate::`.
+const COLONS_ROOT_LEN: usize = 5;
+
 /// A definition of a macro: `macro_rules! NAME` and a subtree that contains the arms, and the `;` after parentheses or brackets.
 #[derive(Drop)]
 pub struct Definition<'a> {
@@ -25,14 +28,25 @@ pub struct Definition<'a> {
     pub len: usize,
 }
 
+/// What precedes the name of a macro that is called.
+#[derive(Debug, Clone, Copy, PartialEq, Eq)]
+pub enum MacroPath {
+    /// Nothing: the name is one of the macros in scope.
+    Name,
+    /// The root of the crate and `::`: the name is one of the macros that the crate exports.
+    Root,
+    /// Something else and `::`.
+    Other,
+}
+
 /// A call of a macro: a name, `!` and a subtree.
 #[derive(Drop)]
 pub struct Call<'a> {
     /// The number of its trees that are attributes before it: zero, unless it is a statement or an item under a condition, `#[cfg(..)]`.
     pub attributes: usize,
     pub name: Ident,
-    /// Whether `::` precedes the name, and something else than the root of the crate precedes that.
-    pub is_elsewhere: bool,
+    /// What precedes the name.
+    pub path: MacroPath,
     pub header: Subtree,
     pub input: TtIter<'a>,
     /// The number of its trees, with the attributes.
@@ -109,9 +123,9 @@ pub fn definition_in<'a>(mut trees: TtIter<'a>) -> Option<Definition<'a>>
 }
 
 // Returns the call of a name, `!` and a subtree that come first, if there is one; `before` trees of the call precede them.
-fn call_behind<'a>(mut trees: TtIter<'a>, before: usize, is_elsewhere: bool) -> Option<Call<'a>>
-    requires { before ≤ ROOT_LEN }
-    ensures { option_map call_of result ≡ call_behind before is_elsewhere (rest_of trees.entry) }
+fn call_behind<'a>(mut trees: TtIter<'a>, before: usize, path: MacroPath) -> Option<Call<'a>>
+    requires { before ≤ COLONS_ROOT_LEN }
+    ensures { option_map call_of result ≡ call_behind before path (rest_of trees.entry) }
 {
     let name = take_name(&mut trees)?;
     if trees.expect_char('!').is_err() {
@@ -123,7 +137,7 @@ fn call_behind<'a>(mut trees: TtIter<'a>, before: usize, is_elsewhere: bool) -> 
     Some(Call {
         attributes: 0,
         name,
-        is_elsewhere,
+        path,
         header,
         input,
         len: before + 3,
@@ -150,21 +164,39 @@ fn is_at_root(trees: TtIter<'_>, root: &str) -> bool
     is_at_word(trees.remaining().iter(), "crate") || is_at_word(trees, root)
 }
 
+// Returns whether the root of the crate and `::` come first.
+fn is_at_root_path(trees: TtIter<'_>, root: &str) -> bool
+    ensures { result ≡ is_at_root_path root.now (rest_of trees.entry) }
+{
+    let mut behind = trees.remaining().iter();
+    behind.next();
+    is_at_root(trees, root) && is_at_colons(behind)
+}
+
+// Returns the call whose path begins with `::`, if these trees follow that and one is there.
+fn call_behind_colons<'a>(mut trees: TtIter<'a>, root: &str) -> Option<Call<'a>>
+    ensures { option_map call_of result ≡ call_behind_colons root.now (rest_of trees.entry) }
+{
+    if is_at_root_path(trees.remaining().iter(), root) {
+        pass(&mut trees, ROOT_LEN);
+        return call_behind(trees, COLONS_ROOT_LEN, MacroPath::Other);
+    }
+    call_behind(trees, COLONS_LEN, MacroPath::Other)
+}
+
 // Returns the call that comes first, if there is one.
 fn call_in<'a>(mut trees: TtIter<'a>, root: &str) -> Option<Call<'a>>
     ensures { option_map call_of result ≡ call_in root.now (rest_of trees.entry) }
 {
     if is_at_colons(trees.remaining().iter()) {
         pass(&mut trees, COLONS_LEN);
-        return call_behind(trees, COLONS_LEN, true);
+        return call_behind_colons(trees, root);
     }
-    let mut behind = trees.remaining().iter();
-    behind.next();
-    if is_at_root(trees.remaining().iter(), root) && is_at_colons(behind) {
+    if is_at_root_path(trees.remaining().iter(), root) {
         pass(&mut trees, ROOT_LEN);
-        return call_behind(trees, ROOT_LEN, false);
+        return call_behind(trees, ROOT_LEN, MacroPath::Root);
     }
-    call_behind(trees, 0, false)
+    call_behind(trees, 0, MacroPath::Name)
 }
 
 // Returns whether a `!` or a `:` comes first.

@@ -24,7 +24,7 @@ mod spread;
 
 pub use attribute::{attributes_len, is_attribute, is_condition, item_at};
 pub use expression::{Enclosure, without_semicolon};
-pub use item::{Call, Definition, Item, definition_in, item_in};
+pub use item::{Call, Definition, Item, MacroPath, definition_in, item_in};
 pub use loosening::loosened;
 pub use part::{Part, parts};
 pub use position::{Position, Siblings};
