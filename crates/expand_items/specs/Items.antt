@@ -37,6 +37,12 @@ pub record Call : Type 0 where
   pub input : Forest
   pub len : ℕ
 
+-- a path is the root of the crate
+abbrev pub is_root : MacroPath → Bool
+is_root path.Name = false
+is_root path.Root = true
+is_root path.Other = false
+
 -- it is neither nothing nor the root of the crate
 abbrev pub is_elsewhere : MacroPath → Bool
 is_elsewhere path.Name = false

@@ -6,13 +6,14 @@
 //! by its neighbours: `Front` and `expression`). `item_in` returns what is first there: a definition, a call or something else, with its
 //! number of trees; `item_at` takes the attributes before a call together with the call. `parts` splits trees into items or
 //! statements by `reach` of `mbe_grammar`, and `put_under` adds them to a builder with the conditions before each part but the first.
-//! `loosened` goes through a whole expansion and makes each opaque subtree invisible that needs no parentheses, by what is beside it
+//! `definitions_in` returns all definitions in items, at all depths. `loosened` goes through a whole expansion and makes each opaque subtree invisible that needs no parentheses, by what is beside it
 //! (`Front`, `fits_before`) or by its form (`Operand`).
 //!
 //! The definitions that contracts use are in `specs/` of this crate.
 #![tactic(auto)]
 
 mod attribute;
+mod definitions;
 mod expression;
 mod front;
 mod item;
@@ -23,6 +24,7 @@ mod position;
 mod spread;
 
 pub use attribute::{attributes_len, is_attribute, is_condition, item_at};
+pub use definitions::{Defined, definitions_in};
 pub use expression::{Enclosure, without_semicolon};
 pub use item::{Call, Definition, Item, MacroPath, definition_in, item_in};
 pub use loosening::loosened;

@@ -4,7 +4,8 @@ use Rattle.std.specs.Str.{IsUtf8}
 use Rattle.tt.specs.Forest.{Forest, Root}
 use Rattle.tt_base.specs.declared.span.SpanPart.{SpanPart}
 use Rattle.expand_items.specs.declared.position.Position.{Position}
-use Rattle.expand_text.specs.Meaning.{ExpandsTo, ends, on_leaf, on_node, on_definition, on_other_call, into_other_call, into_attributes, on_faulty_call, on_call, on_kept_call}
+use Rattle.expand_items.proofs.ItemsAt.{calls_at}
+use Rattle.expand_text.specs.Meaning.{ExpandsTo, ends, on_leaf, on_node, on_definition, on_inactive, on_other_call, into_other_call, into_attributes, on_faulty_call, on_call, on_kept_call}
 use Rattle.expand_text.specs.Expansion.{replacements}
 use Rattle.expand_text.specs.Contexts.{Config, Context}
 use Rattle.syntax_edit.specs.Laid.{Laid, lies_leaf, lies_node}
@@ -27,13 +28,14 @@ comes_follow (on_node plain held others) (lies_node opens inside closes behind) 
 comes_follow (on_definition {it = it} inside going is read others) laid = comes_follow others (laid_behind it.len laid)
 comes_follow (on_other_call {it = it} going is bare unexpanded not_into others) laid = comes_follow others (laid_behind it.len laid)
 comes_follow (into_other_call going is bare unexpanded into others) laid = comes_follow others laid
+comes_follow (on_inactive {len = len} going is others) laid = comes_follow others (laid_behind len laid)
 comes_follow (into_attributes going is some unexpanded others) laid = comes_follow others laid
 comes_follow (on_faulty_call {it = it} at fault going is called some faulty others) laid = comes_follow others (laid_behind it.len laid)
-comes_follow {config = config} (on_call {position = position} {it = it} {trees = trees} tree put going is some expands held so may others) laid =
-    let (lies, behind) = call_laid config.root trees it position is laid in
+comes_follow {config = config} (on_call {position = position} {it = it} {trees = trees} tree put going is called some expands noted held so may others) laid =
+    let (lies, behind) = call_laid config.root trees it position (calls_at is) laid in
     next lies (comes_follow others behind)
-comes_follow {config = config} (on_kept_call {position = position} {it = it} {trees = trees} tree at fault going is called some expands held kept others) laid =
-    let (lies, behind) = call_laid config.root trees it position is laid in
+comes_follow {config = config} (on_kept_call {position = position} {it = it} {trees = trees} tree at fault going is called some expands noted held kept others) laid =
+    let (lies, behind) = call_laid config.root trees it position (calls_at is) laid in
     follow_from (omega (arith, lies.after, lies.range.order)) (comes_follow others behind)
 
 -- The replacements of a whole text fit into it.

@@ -6,10 +6,12 @@ use Rattle.expand_items.specs.declared.position.Position.{Position}
 use Rattle.expand_items.specs.Items.{Definition, Call}
 use Rattle.expand_items.specs.Positions.{keeps_macros}
 use Rattle.expand_text.specs.declared.fault.Finding.{Finding}
-use Rattle.expand_text.specs.Meaning.{ExpandsTo, ends, on_leaf, on_node, on_definition, on_other_call, into_other_call, into_attributes, on_faulty_call, on_call, on_kept_call, context_after}
+use Rattle.expand_text.specs.declared.fault.MacroFault.TheVariants as wrong
+use Rattle.expand_text.specs.Meaning.{ExpandsTo, ends, on_leaf, on_node, on_definition, on_inactive, on_other_call, into_other_call, into_attributes, on_faulty_call, on_call, on_kept_call, begun_by, body_in, context_after}
 use Rattle.expand_text.specs.Contexts.{Config, Context, asks_for}
 use Rattle.expand_text.specs.Limits.{names_limit, KeepLimits}
-use Rattle.expand_text.specs.Macros.{IsReadIf, IsRead, called_by, context_behind, found_in, found_of, left_by}
+use Rattle.expand_text.specs.Capturing.{IsCaptureFound, capture_found}
+use Rattle.expand_text.specs.Macros.{IsReadIf, IsRead, called_by, context_behind, found_in, found_of, left_behind, left_by, unexported_by}
 use Rattle.expand_text.specs.Outcomes.{Outcome}
 use Rattle.expand_text.specs.Scopes.{Macro}
 
@@ -35,9 +37,20 @@ keep_read config is_open it before inside = by (asks_for config.only it.name.sym
     by true (inr (at, fault, bad, is)) keep = (keep_first before.findings (found_in it at fault) (subst (λ context. KeepLimits context.findings) is keep)).0
 
 -- Before a call that no macro expands.
-keep_behind : (it : Call) (macro : Option Macro) (context : Context) → KeepLimits (context_behind it macro context).findings → KeepLimits context.findings
-keep_behind it None context keep = keep
-keep_behind it (Some macro) context keep = (keep_first context.findings (found_of it macro (start_of it.name.span.range) (left_by macro.is_several)) keep).0
+keep_left : (it : Call) (macro unexported : Option Macro) (context : Context) → KeepLimits (left_behind it macro unexported context).findings → KeepLimits context.findings
+keep_left it (Some macro) unexported context keep = (keep_first context.findings (found_of it macro (start_of it.name.span.range) (left_by macro.is_several)) keep).0
+keep_left it None (Some macro) context keep = (keep_first context.findings (found_of it macro (start_of it.name.span.range) wrong.NotExported) keep).0
+keep_left it None None context keep = keep
+
+keep_behind : (config : Config) (it : Call) (context : Context) → KeepLimits (context_behind config it context).findings → KeepLimits context.findings
+keep_behind config it context keep = keep_left it (called_by config context it) (unexported_by config context it) context keep
+
+-- Before an expansion whose names were looked at.
+pub keep_capture : (defined_at : ℕ) (it : Call) (position : Position) (body : Forest) (before after : Context) → IsCaptureFound defined_at it position body before after
+    → KeepLimits after.findings → KeepLimits before.findings
+keep_capture defined_at it position body before after (None, is, same) keep = subst (λ context. KeepLimits context.findings) same keep
+keep_capture defined_at it position body before after (Some found, is, same) keep =
+    (keep_first before.findings (capture_found defined_at it found) (subst (λ context. KeepLimits context.findings) same keep)).0
 
 -- Before any trees.
 pub keep_before : {config : Config} {in_text : Bool} {limit plain : ℕ} {position : Position} {context after : Context} {trees : Forest} {outcome : Outcome}
@@ -48,12 +61,15 @@ keep_before (on_node {position = position} {context = context} {inside = inside}
     keep_before held (keep_inside (keeps_macros delimiter.kind children position) context inside (keep_before others keep))
 keep_before {config = config} (on_definition {position = position} {context = context} {it = it} inside going is read others) keep = keep_read config position.is_open it context inside read (keep_before others keep)
 keep_before {config = config} (on_other_call {context = context} {it = it} going is bare unexpanded not_into others) keep =
-    keep_behind it (called_by config context.macros it) context (keep_before others keep)
+    keep_behind config it context (keep_before others keep)
 keep_before {config = config} (into_other_call {context = context} {it = it} going is bare unexpanded into others) keep =
-    keep_behind it (called_by config context.macros it) context (keep_before others keep)
+    keep_behind config it context (keep_before others keep)
+keep_before (on_inactive going is others) keep = keep_before others keep
 keep_before (into_attributes going is some unexpanded others) keep = keep_before others keep
 keep_before (on_faulty_call {context = context} {it = it} {macro = macro} at fault going is called some faulty others) keep =
     (keep_first context.findings (found_of it macro at fault) (keep_before others keep)).0
-keep_before (on_call tree put going is some expands held so may others) keep = keep_before held (keep_before others keep)
-keep_before (on_kept_call {inside = inside} {it = it} {macro = macro} tree at fault going is called some expands held kept others) keep =
-    keep_before held (keep_first inside.findings (found_of it macro at fault) (keep_before others keep)).0
+keep_before (on_call {position = position} {context = context} {noted = noted} {it = it} {macro = macro} {trees = trees} tree put going is called some expands captures held so may others) keep =
+    keep_capture macro.defined_at it (begun_by position it trees) (body_in position it trees tree) context noted captures (keep_before held (keep_before others keep))
+keep_before (on_kept_call {position = position} {context = context} {noted = noted} {inside = inside} {it = it} {macro = macro} {trees = trees} tree at fault going is called some expands captures held kept others) keep =
+    keep_capture macro.defined_at it (begun_by position it trees) (body_in position it trees tree) context noted captures
+    (keep_before held (keep_first inside.findings (found_of it macro at fault) (keep_before others keep)).0)

@@ -12,15 +12,16 @@ use Rattle.expand_text.specs.Scopes.{Macro}
 use Rattle.expand_text.specs.declared.walk.Event.{Event}
 use Rattle.expand_text.specs.declared.walk.Event.TheVariants as event
 use Rattle.expand_text.specs.Calling.{IsFaulty}
-use Rattle.expand_text.specs.Meaning.{IsPlain, ExpandsTo, ends, on_leaf, on_node, on_definition, on_other_call, into_other_call, into_attributes, on_faulty_call, on_call, on_kept_call, attributes_in, begin_in, begun_by, behind_in, end_in, rest_in, site_in, whole_in, context_after, body_in}
-use Rattle.expand_items.specs.Attributes.{item_at}
-use Rattle.expand_items.specs.Items.{Definition, Call, defines, calls}
+use Rattle.expand_text.specs.Meaning.{IsPlain, ExpandsTo, ends, on_leaf, on_node, on_definition, on_inactive, on_other_call, into_other_call, into_attributes, on_faulty_call, on_call, on_kept_call, attributes_in, begin_in, begun_by, behind_in, end_in, rest_in, site_in, whole_in, context_after, body_in}
+use Rattle.expand_items.specs.Inactive.{IsItemAt}
+use Rattle.expand_items.specs.Items.{Definition, Call, defines, calls, inactive}
+use Rattle.expand_text.specs.Capturing.{IsCaptureFound}
 use Rattle.expand_text.specs.Contexts.{Config, Context, with_finding, left_in_scope}
 use Rattle.expand_text.specs.Macros.{IsRead, MayBePut, called_by, arms_of, found_of, context_behind}
 use Rattle.expand_text.specs.Outcomes.{Outcome, nothing, passes, enters, stays, becomes, trees_left}
 use Rattle.expand_text.specs.CallSites.{PutIn, IsKept}
 use Rattle.expand_items.specs.Positions.{behind as past_end, behind_subtree, keeps_macros}
-use Rattle.expand_text.specs.Walks.{Level, site_of, past_leaf, past_subtree, past, past_call, kept_behind, inside, Leads, first_leaf, first_subtree, first_stay, first_becomes, IsNext}
+use Rattle.expand_text.specs.Walks.{Level, site_of, past_leaf, past_subtree, past, past_call, past_part, kept_behind, inside, Leads, first_leaf, first_subtree, first_stay, first_becomes, IsNext}
 use Rattle.mbe_rules.specs.Arms.{Arm}
 use Rattle.mbe_rules.specs.Expansions.{IsExpansion}
 use Rattle.mbe_rules.specs.declared.macro_rules.Expansion.TheVariants as expansion
@@ -29,7 +30,7 @@ use Rattle.mbe_pattern.specs.Units.{front_trees, is_brace}
 module _ (config : Config) (in_text : Bool) (limit : ℕ) (level : Level) (outer : List Level) (context : Context) where
   -- Passes a leaf.
   pub leads_leaf : (it : Leaf) → level.rest ≡ leaf it (after_tree level.rest) → IsPlain config context level.position level.plain level.rest
-      → Leads config in_text limit (level ∷ outer) context (first_leaf it) (past_leaf it level ∷ outer) context
+      → Leads config in_text limit (level ∷ outer) context (first_leaf it) (past_leaf config.known it level ∷ outer) context
   leads_leaf it begins plain after [] e = absurd e
   leads_leaf it begins plain after (others ∷ more) (within, expands_to, behind) = (
     within,
@@ -66,7 +67,7 @@ module _ (config : Config) (in_text : Bool) (limit : ℕ) (level : Level) (outer
 
   module _ (first : level.plain ≡ 0) (goes_on : context.is_over ≡ false) where
     -- Passes a definition.
-    pub leads_definition : (it : Definition) (others : Context) → item_at config.root level.position level.rest ≡ defines it → IsRead config level.position.is_open it context others
+    pub leads_definition : (it : Definition) (others : Context) → IsItemAt config.known config.root level.position level.rest (defines it) → IsRead config level.position.is_open it context others
         → Leads config in_text limit (level ∷ outer) context (first_stay (front_trees it.len level.rest)) (past it.len true level ∷ outer) others
     leads_definition it others there is after [] e = absurd e
     leads_definition it others there is after (left ∷ more) (within, expands_to, behind) = (
@@ -76,23 +77,34 @@ module _ (config : Config) (in_text : Bool) (limit : ℕ) (level : Level) (outer
       behind,
     )
 
-    module _ (it : Call) (there : item_at config.root level.position level.rest ≡ calls it) where
+    -- Passes an item or a statement under a false condition.
+    pub leads_inactive : (len : ℕ) → IsItemAt config.known config.root level.position level.rest (inactive len)
+        → Leads config in_text limit (level ∷ outer) context (first_stay (front_trees len level.rest)) (past_part len level ∷ outer) context
+    leads_inactive len there after [] e = absurd e
+    leads_inactive len there after (left ∷ more) (within, expands_to, behind) = (
+      within,
+      subst (λ n. ExpandsTo config in_text limit level.position n context level.rest within (stays (front_trees len level.rest) left)) (sym first)
+          (on_inactive goes_on there expands_to),
+      behind,
+    )
+
+    module _ (it : Call) (there : IsItemAt config.known config.root level.position level.rest (calls it)) where
       -- Passes a call that is not expanded.
-      pub leads_other : it.attributes ≡ 0 → arms_of (called_by config context.macros it) ≡ None → config.everywhere ≡ false
+      pub leads_other : it.attributes ≡ 0 → arms_of (called_by config context it) ≡ None → config.everywhere ≡ false
           → Leads config in_text limit (level ∷ outer) context (first_stay (front_trees it.len level.rest)) (past it.len (is_brace it.delimiter.kind) level ∷ outer)
-          (context_behind it (called_by config context.macros it) context)
+          (context_behind config it context)
       leads_other bare none not_into after [] e = absurd e
       leads_other bare none not_into after (others ∷ more) (within, expands_to, behind) = (
         within,
         subst (λ n. ExpandsTo config in_text limit level.position n context level.rest within (stays (front_trees it.len level.rest) others)) (sym first)
             (on_other_call goes_on there bare none not_into
-            (subst (λ n. ExpandsTo config in_text limit (past_end (is_brace it.delimiter.kind) level.position) n (context_behind it (called_by config context.macros it) context) (after_trees it.len level.rest) within others) first expands_to)),
+            (subst (λ n. ExpandsTo config in_text limit (past_end (is_brace it.delimiter.kind) level.position) n (context_behind config it context) (after_trees it.len level.rest) within others) first expands_to)),
         behind,
       )
 
       -- Enters a call that is not expanded.
-      pub leads_into : it.attributes ≡ 0 → arms_of (called_by config context.macros it) ≡ None → config.everywhere ≡ true
-          → Leads config in_text limit (level ∷ outer) context (λ outcomes. outcomes) (record level { plain = it.len } ∷ outer) (context_behind it (called_by config context.macros it) context)
+      pub leads_into : it.attributes ≡ 0 → arms_of (called_by config context it) ≡ None → config.everywhere ≡ true
+          → Leads config in_text limit (level ∷ outer) context (λ outcomes. outcomes) (record level { plain = it.len } ∷ outer) (context_behind config it context)
       leads_into bare none into after [] e = absurd e
       leads_into bare none into after (others ∷ more) (within, expands_to, behind) = (
         within,
@@ -101,7 +113,7 @@ module _ (config : Config) (in_text : Bool) (limit : ℕ) (level : Level) (outer
       )
 
       -- Enters the attributes before a call.
-      pub leads_attributes : 0 < it.attributes → arms_of (called_by config context.macros it) ≡ None
+      pub leads_attributes : 0 < it.attributes → arms_of (called_by config context it) ≡ None
           → Leads config in_text limit (level ∷ outer) context (λ outcomes. outcomes) (record level { plain = it.attributes } ∷ outer) context
       leads_attributes some none after [] e = absurd e
       leads_attributes some none after (others ∷ more) (within, expands_to, behind) = (
@@ -125,9 +137,10 @@ module _ (config : Config) (in_text : Bool) (limit : ℕ) (level : Level) (outer
 
 -- Passes a call that expands to a tree, which expands to `held` in turn.
 module _ (config : Config) (in_text : Bool) (left : ℕ) (level : Level) (outer : List Level) (context : Context) (first : level.plain ≡ 0) (goes_on : context.is_over ≡ false) (it : Call)
-    (macro : Macro) (arms : List Arm) (tree : Root) (there : item_at config.root level.position level.rest ≡ calls it) (called : called_by config context.macros it ≡ Some macro)
-    (expands : macro.arms ≡ Some arms) (makes : IsExpansion arms 0 0 it.input (expansion.Tree tree)) (within : Context) (held : Outcome)
-    (expands_to : ExpandsTo config false left (begun_by level.position it level.rest) 0 context (body_in level.position it level.rest tree) within held) where
+    (macro : Macro) (arms : List Arm) (tree : Root) (there : IsItemAt config.known config.root level.position level.rest (calls it)) (called : called_by config context it ≡ Some macro)
+    (expands : macro.arms ≡ Some arms) (makes : IsExpansion arms 0 0 it.input (expansion.Tree tree)) (noted within : Context) (held : Outcome)
+    (captures : IsCaptureFound macro.defined_at it (begun_by level.position it level.rest) (body_in level.position it level.rest tree) context noted)
+    (expands_to : ExpandsTo config false left (begun_by level.position it level.rest) 0 noted (body_in level.position it level.rest tree) within held) where
   -- The expansion takes the place of the call.
   pub leads_call : (put : Forest) → PutIn in_text (site_in level.position it level.rest tree) (trees_left held) put → MayBePut in_text it.delimiter put
       → Leads config in_text (suc left) (level ∷ outer) context
@@ -137,7 +150,7 @@ module _ (config : Config) (in_text : Bool) (left : ℕ) (level : Level) (outer 
     beyond,
     subst (λ n. ExpandsTo config in_text (suc left) level.position n context level.rest beyond
         (stays (attributes_in level.position it level.rest) (becomes (begin_in it level.rest) (end_in level.position it level.rest) put others))) (sym first)
-        (on_call tree put goes_on there (ap arms_of called ∙ expands) makes expands_to so may
+        (on_call tree put goes_on there called expands makes captures expands_to so may
         (subst (λ n. ExpandsTo config in_text (suc left) (behind_in level.position it level.rest) n within (rest_in level.position it level.rest) beyond others) first then)),
     behind,
   )
@@ -149,7 +162,7 @@ module _ (config : Config) (in_text : Bool) (left : ℕ) (level : Level) (outer 
   leads_kept at fault kept after (others ∷ more) (beyond, then, behind) = (
     beyond,
     subst (λ n. ExpandsTo config in_text (suc left) level.position n context level.rest beyond (stays (whole_in level.position it level.rest) others)) (sym first)
-        (on_kept_call tree at fault goes_on there called expands makes expands_to kept
+        (on_kept_call tree at fault goes_on there called expands makes captures expands_to kept
         (subst (λ n. ExpandsTo config in_text (suc left) (behind_in level.position it level.rest) n (with_finding (found_of it macro at fault) within) (rest_in level.position it level.rest) beyond others) first then)),
     behind,
   )

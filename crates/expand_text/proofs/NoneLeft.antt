@@ -6,10 +6,12 @@ use Rattle.expand_items.specs.declared.position.Position.{Position}
 use Rattle.expand_items.specs.Items.{Definition, Call}
 use Rattle.expand_items.specs.Positions.{keeps_macros}
 use Rattle.expand_text.specs.declared.fault.Finding.{Finding}
+use Rattle.expand_text.specs.declared.fault.MacroFault.TheVariants as wrong
 use Rattle.expand_text.specs.Contexts.{Config, Context, asks_for}
 use Rattle.expand_text.specs.Left.{NoneIsLeft}
-use Rattle.expand_text.specs.Macros.{IsReadIf, IsRead, called_by, context_behind, found_in, found_of, left_by}
-use Rattle.expand_text.specs.Meaning.{ExpandsTo, ends, on_leaf, on_node, on_definition, on_other_call, into_other_call, into_attributes, on_faulty_call, on_call, on_kept_call, context_after}
+use Rattle.expand_text.specs.Capturing.{IsCaptureFound, capture_found}
+use Rattle.expand_text.specs.Macros.{IsReadIf, IsRead, called_by, context_behind, found_in, found_of, left_behind, left_by, unexported_by}
+use Rattle.expand_text.specs.Meaning.{ExpandsTo, ends, on_leaf, on_node, on_definition, on_inactive, on_other_call, into_other_call, into_attributes, on_faulty_call, on_call, on_kept_call, begun_by, body_in, context_after}
 use Rattle.expand_text.specs.Outcomes.{Outcome}
 use Rattle.expand_text.specs.Scopes.{Macro}
 
@@ -36,10 +38,24 @@ read_none config is_open it before inside = by (asks_for config.only it.name.sym
     by true (inl (arms, within, spells, is)) none = (sym (ap (λ context. context.findings) is) ∙ none, λ goes. ap (λ context. context.is_over) is ∙ goes)
     by true (inr (at, fault, bad, is)) none = absurd (one_found before.findings (found_in it at fault) (sym (ap (λ context. context.findings) is) ∙ none))
 
--- A call that stays names no macro in scope.
-behind_none : (it : Call) (macro : Option Macro) (context : Context) → (context_behind it macro context).findings ≡ [] → (macro ≡ None) × (context.findings ≡ [])
-behind_none it None context none = (refl, none)
-behind_none it (Some macro) context none = absurd (one_found context.findings (found_of it macro (start_of it.name.span.range) (left_by macro.is_several)) none)
+-- A call that stays names no macro in scope, and none that is not exported.
+left_none : (it : Call) (macro unexported : Option Macro) (context : Context) → (left_behind it macro unexported context).findings ≡ []
+    → (macro ≡ None) × (context.findings ≡ []) × (context.is_over ≡ false → (left_behind it macro unexported context).is_over ≡ false)
+left_none it (Some macro) unexported context none = absurd (one_found context.findings (found_of it macro (start_of it.name.span.range) (left_by macro.is_several)) none)
+left_none it None (Some macro) context none = absurd (one_found context.findings (found_of it macro (start_of it.name.span.range) wrong.NotExported) none)
+left_none it None None context none = (refl, none, λ goes. goes)
+
+behind_none : (config : Config) (it : Call) (context : Context) → (context_behind config it context).findings ≡ []
+    → (called_by config context it ≡ None) × (context.findings ≡ []) × (context.is_over ≡ false → (context_behind config it context).is_over ≡ false)
+behind_none config it context none = left_none it (called_by config context it) (unexported_by config context it) context none
+
+-- Nothing is captured by an expansion.
+capture_none : (defined_at : ℕ) (it : Call) (position : Position) (body : Forest) (before after : Context) → IsCaptureFound defined_at it position body before after
+    → after.findings ≡ [] → (before.findings ≡ []) × (before.is_over ≡ false → after.is_over ≡ false)
+capture_none defined_at it position body before after (None, is, same) none =
+    (sym (ap (λ context. context.findings) same) ∙ none, λ goes. ap (λ context. context.is_over) same ∙ goes)
+capture_none defined_at it position body before after (Some found, is, same) none =
+    absurd (one_found before.findings (capture_found defined_at it found) (sym (ap (λ context. context.findings) same) ∙ none))
 
 -- Nothing was found before.
 none_before : {config : Config} {in_text : Bool} {limit plain : ℕ} {position : Position} {context after : Context} {trees : Forest} {outcome : Outcome}
@@ -50,14 +66,16 @@ none_before (on_node {position = position} {context = context} {inside = inside}
     none_before held (inside_none (keeps_macros delimiter.kind children position) context inside (none_before others none))
 none_before {config = config} (on_definition {position = position} {context = context} {it = it} inside going is read others) none = (read_none config position.is_open it context inside read (none_before others none)).0
 none_before {config = config} (on_other_call {context = context} {it = it} going is bare unexpanded not_into others) none =
-    (behind_none it (called_by config context.macros it) context (none_before others none)).1
+    (behind_none config it context (none_before others none)).1
 none_before {config = config} (into_other_call {context = context} {it = it} going is bare unexpanded into others) none =
-    (behind_none it (called_by config context.macros it) context (none_before others none)).1
+    (behind_none config it context (none_before others none)).1
+none_before (on_inactive going is others) none = none_before others none
 none_before (into_attributes going is some unexpanded others) none = none_before others none
 none_before (on_faulty_call {context = context} {it = it} {macro = macro} at fault going is called some faulty others) none =
     absurd (one_found context.findings (found_of it macro at fault) (none_before others none))
-none_before (on_call tree put going is some expands held so may others) none = none_before held (none_before others none)
-none_before (on_kept_call {inside = inside} {it = it} {macro = macro} tree at fault going is called some expands held kept others) none =
+none_before (on_call {position = position} {context = context} {noted = noted} {it = it} {macro = macro} {trees = trees} tree put going is called some expands captures held so may others) none =
+    (capture_none macro.defined_at it (begun_by position it trees) (body_in position it trees tree) context noted captures (none_before held (none_before others none))).0
+none_before (on_kept_call {inside = inside} {it = it} {macro = macro} tree at fault going is called some expands captures held kept others) none =
     absurd (one_found inside.findings (found_of it macro at fault) (none_before others none))
 
 -- No call is left, and calls are still expanded.
@@ -73,19 +91,21 @@ none_left (on_node {position = position} {context = context} {inside = inside} {
 none_left {config = config} (on_definition {position = position} {context = context} {it = definition} inside going is read others) goes none =
     none_left others ((read_none config position.is_open definition context inside read (none_before others none)).1 goes) none
 none_left {config = config} (on_other_call {context = context} {it = call} going is bare unexpanded not_into others) goes none =
-    let quiet = behind_none call (called_by config context.macros call) context (none_before others none) in
-    let it = none_left others (ap (λ macro. (context_behind call macro context).is_over) quiet.0 ∙ goes) none in
+    let quiet = behind_none config call context (none_before others none) in
+    let it = none_left others (quiet.2 goes) none in
     ((quiet.0, it.0), it.1)
 none_left {config = config} (into_other_call {context = context} {it = call} going is bare unexpanded into others) goes none =
-    let quiet = behind_none call (called_by config context.macros call) context (none_before others none) in
-    let it = none_left others (ap (λ macro. (context_behind call macro context).is_over) quiet.0 ∙ goes) none in
+    let quiet = behind_none config call context (none_before others none) in
+    let it = none_left others (quiet.2 goes) none in
     ((quiet.0, it.0), it.1)
+none_left (on_inactive going is others) goes none = none_left others goes none
 none_left (into_attributes going is some unexpanded others) goes none = none_left others goes none
 none_left (on_faulty_call {context = context} {it = call} {macro = macro} at fault going is called some faulty others) goes none =
     absurd (one_found context.findings (found_of call macro at fault) (none_before others none))
-none_left (on_call tree put going is some expands held so may others) goes none =
-    let within = none_left held goes (none_before others none) in
+none_left (on_call {position = position} {context = context} {noted = noted} {it = call} {macro = macro} {trees = trees} tree put going is called some expands captures held so may others) goes none =
+    let known = capture_none macro.defined_at call (begun_by position call trees) (body_in position call trees tree) context noted captures (none_before held (none_before others none)) in
+    let within = none_left held (known.1 goes) (none_before others none) in
     let it = none_left others within.1 none in
     ((within.0, it.0), it.1)
-none_left (on_kept_call {inside = inside} {it = call} {macro = macro} tree at fault going is called some expands held kept others) goes none =
+none_left (on_kept_call {inside = inside} {it = call} {macro = macro} tree at fault going is called some expands captures held kept others) goes none =
     absurd (one_found inside.findings (found_of call macro at fault) (none_before others none))

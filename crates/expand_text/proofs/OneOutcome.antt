@@ -3,18 +3,20 @@ use Rattle.std.proofs.Common.{◌≡◌, ◌⊎◌, ℕ, zero, suc, Bool, false,
 use Rattle.tt.specs.Forest.{Forest, Root, leaf, node}
 use Rattle.tt.specs.Span.{start_of}
 use Rattle.expand_items.specs.declared.position.Position.{Position}
-use Rattle.expand_items.specs.Items.{Call, defines, other}
+use Rattle.expand_items.specs.Items.{Call, defines, inactive, other}
 use Rattle.expand_items.specs.Positions.{keeps_macros}
 use Rattle.expand_text.specs.declared.fault.MacroFault.{MacroFault}
 use Rattle.expand_text.specs.CallSites.{PutIn, IsKept}
+use Rattle.expand_text.specs.Capturing.{IsCaptureFound}
 use Rattle.expand_text.specs.Contexts.{Config, Context, with_finding}
 use Rattle.expand_text.specs.Limits.{names_limit, KeepLimits}
 use Rattle.expand_text.specs.Macros.{IsCallFault, MayBePut, called_by, arms_of, found_of}
-use Rattle.expand_text.specs.Meaning.{ExpandsTo, ends, on_leaf, on_node, on_definition, on_other_call, into_other_call, into_attributes, on_faulty_call, on_call, on_kept_call, context_after, begun_by, site_in, begin_in, becomes_in, stays_in, body_in}
+use Rattle.expand_text.specs.Meaning.{ExpandsTo, ends, on_leaf, on_node, on_definition, on_inactive, on_other_call, into_other_call, into_attributes, on_faulty_call, on_call, on_kept_call, context_after, begun_by, site_in, begin_in, becomes_in, stays_in, body_in}
 use Rattle.expand_text.specs.Outcomes.{Outcome, passes, enters, stays, trees_left}
 use Rattle.expand_text.specs.Scopes.{Macro}
 use Rattle.expand_text.proofs.Beginning.{plain_first, end_first, item_first, Leaves, IsWrong, Changes, Stays, Tries, goes_out, begins_by, begins_call}
 use Rattle.expand_text.proofs.KeptLimits.{keep_first, keep_inside, keep_before}
+use Rattle.expand_text.proofs.OneCapture.{one_capture}
 use Rattle.expand_text.proofs.OneFault.{one_read, one_tree, no_fault, one_fault}
 use Rattle.expand_text.proofs.OneKept.{one_kept, never_kept}
 use Rattle.expand_text.proofs.OnePlacing.{one_shown}
@@ -30,10 +32,23 @@ moved {config = config} {in_text = in_text} {limit = limit} {plain = plain} {pos
     subst (λ c. ExpandsTo config in_text limit position plain c trees after outcome) (sym same) it
 
 -- A macro that a call names is one.
-one_called : (config : Config) (context : Context) (it : Call) (a b : Macro) → called_by config context.macros it ≡ Some a → called_by config context.macros it ≡ Some b → a ≡ b
+one_called : (config : Config) (context : Context) (it : Call) (a b : Macro) → called_by config context it ≡ Some a → called_by config context it ≡ Some b → a ≡ b
 one_called config context it a b is was =
     let both : Some a ≡ Some b = sym is ∙ was in
     cc both
+
+-- The same expansion, in which the same names are captured, expands to the same.
+same_held : (config : Config) (left : ℕ) (position : Position) (context : Context) (it : Call) (trees : Forest) (macro : Macro) (tree made : Root) (noted : Context) (its : Macro) (known inside : Context) (held : Outcome)
+    → tree ≡ made → macro ≡ its → IsCaptureFound macro.defined_at it (begun_by position it trees) (body_in position it trees tree) context noted
+    → IsCaptureFound its.defined_at it (begun_by position it trees) (body_in position it trees made) context known
+    → ExpandsTo config false left (begun_by position it trees) 0 known (body_in position it trees made) inside held
+    → ExpandsTo config false left (begun_by position it trees) 0 noted (body_in position it trees tree) inside held
+same_held config left position context it trees macro tree made noted its known inside held filled one captures captured within =
+    let there : IsCaptureFound macro.defined_at it (begun_by position it trees) (body_in position it trees tree) context known =
+    subst (λ m. IsCaptureFound m.defined_at it (begun_by position it trees) (body_in position it trees tree) context known) (sym one)
+    (subst (λ t. IsCaptureFound its.defined_at it (begun_by position it trees) (body_in position it trees t) context known) (sym filled) captured) in
+    moved (one_capture macro.defined_at it (begun_by position it trees) (body_in position it trees tree) context noted known captures there)
+    (subst (λ t. ExpandsTo config false left (begun_by position it trees) 0 known (body_in position it trees t) inside held) (sym filled) within)
 
 -- The same finding makes the same known.
 same_found : (it : Call) (context : Context) (a b : Macro) (at place : ℕ) (found wrong : MacroFault) → a ≡ b → (at ≡ place) × (found ≡ wrong)
@@ -104,6 +119,10 @@ one_outcome {config = config} (on_definition {position = position} {context = co
     let known = one_read config position.is_open it context inside go.0 read go.2 (keep_before behind x) (keep_before go.3 y) in
     let same = one_outcome behind (moved known go.3) x y in
     (same.0, ap (stays (front_trees it.len trees)) same.1 ∙ sym go.4)
+one_outcome {config = config} (on_inactive {len = len} {position = position} {context = context} {trees = trees} going is behind) second x y =
+    let go = begins_by second (inactive len) (item_first config context position trees (inactive len) going is) in
+    let same = one_outcome behind go.1 x y in
+    (same.0, ap (stays (front_trees len trees)) same.1 ∙ sym go.2)
 one_outcome {config = config} {in_text = in_text} {limit = limit} {again = again} {that = that} (on_other_call {position = position} {context = context} {it = it} {trees = trees} going is bare none not_into behind) second x y =
     let go = subst₂ (λ n b. Leaves config in_text limit position context again that n b it trees) bare not_into (begins_call second it None going is none) in
     let same = one_outcome behind go.1 x y in
@@ -121,28 +140,28 @@ one_outcome {config = config} {in_text = in_text} {limit = limit} {again = again
     let known = same_found it context macro go.0 at go.1 fault go.2 (one_called config context it macro go.0 called go.4) (one_fault arms it limit at go.1 fault go.2 bad go.5 free none) in
     let same = one_outcome behind (moved known go.6) x y in
     (same.0, ap (stays (front_trees it.len trees)) same.1 ∙ sym go.7)
-one_outcome {config = config} {in_text = in_text} {again = again} {that = that} (on_call {limit = left} {position = position} {context = context} {inside = inside} {it = it} {arms = arms} {trees = trees} {held = held} tree put going is expands makes within fits may behind) second x y =
-    let go = tries_only config in_text position context again that arms it trees left tree makes y (begins_call second it (Some arms) going is expands) in
-    let filled = one_tree arms it tree go.0 makes go.3 in
-    let held_there = subst (λ t. ExpandsTo config false left (begun_by position it trees) 0 context (body_in position it trees t) go.1 go.2) (sym filled) go.4 in
-    let one = one_outcome within held_there (keep_before behind x) (keep_held config in_text position context again that arms it trees (suc left) left go.0 go.1 go.2 y go.5) in
+one_outcome {config = config} {in_text = in_text} {again = again} {that = that} (on_call {limit = left} {position = position} {context = context} {noted = noted} {inside = inside} {it = it} {macro = macro} {arms = arms} {trees = trees} {held = held} tree put going is called expands makes captures within fits may behind) second x y =
+    let go = tries_only config in_text position context again that arms it trees left tree makes y (begins_call second it (Some arms) going is (ap arms_of called ∙ expands)) in
+    let filled = one_tree arms it tree go.0 makes go.6 in
+    let held_there = same_held config left position context it trees macro tree go.0 noted go.1 go.2 go.3 go.4 filled (one_called config context it macro go.1 called go.5) captures go.7 go.8 in
+    let one = one_outcome within held_there (keep_before behind x) (keep_held config in_text position context again that arms it trees (suc left) left go.0 go.3 go.4 y go.9) in
     let so =
     changes_only config in_text position context again that arms it trees (suc left) left tree inside held put fits may y
     (subst₂ (λ i h. Changes config in_text (suc left) position context again that left it trees tree i h ⊎ Stays config in_text (suc left) position context again that left it trees tree i h) (sym one.0) (sym one.1)
-    (subst (λ t. Changes config in_text (suc left) position context again that left it trees t go.1 go.2 ⊎ Stays config in_text (suc left) position context again that left it trees t go.1 go.2) (sym filled) go.5)) in
+    (subst (λ t. Changes config in_text (suc left) position context again that left it trees t go.3 go.4 ⊎ Stays config in_text (suc left) position context again that left it trees t go.3 go.4) (sym filled) go.9)) in
     let placed : put ≡ so.0 = one_shown in_text (site_in position it trees tree) (trees_left held) put so.0 fits so.2 in
     let same = one_outcome behind so.4 x y in
     (same.0, ap₂ (becomes_in position it trees) placed same.1 ∙ sym so.5)
-one_outcome {config = config} {in_text = in_text} {again = again} {that = that} (on_kept_call {limit = left} {position = position} {context = context} {inside = inside} {it = it} {macro = macro} {arms = arms} {trees = trees} {held = held} tree at fault going is called expands makes within kept behind) second x y =
+one_outcome {config = config} {in_text = in_text} {again = again} {that = that} (on_kept_call {limit = left} {position = position} {context = context} {noted = noted} {inside = inside} {it = it} {macro = macro} {arms = arms} {trees = trees} {held = held} tree at fault going is called expands makes captures within kept behind) second x y =
     let go = tries_only config in_text position context again that arms it trees left tree makes y (begins_call second it (Some arms) going is (ap arms_of called ∙ expands)) in
-    let filled = one_tree arms it tree go.0 makes go.3 in
-    let held_there = subst (λ t. ExpandsTo config false left (begun_by position it trees) 0 context (body_in position it trees t) go.1 go.2) (sym filled) go.4 in
+    let filled = one_tree arms it tree go.0 makes go.6 in
+    let held_there = same_held config left position context it trees macro tree go.0 noted go.1 go.2 go.3 go.4 filled (one_called config context it macro go.1 called go.5) captures go.7 go.8 in
     let first = keep_first inside.findings (found_of it macro at fault) (keep_before behind x) in
-    let one = one_outcome within held_there first.0 (keep_held config in_text position context again that arms it trees (suc left) left go.0 go.1 go.2 y go.5) in
+    let one = one_outcome within held_there first.0 (keep_held config in_text position context again that arms it trees (suc left) left go.0 go.3 go.4 y go.9) in
     let so =
     stays_only config in_text position context again that arms it trees (suc left) left tree inside held at fault kept first.1
     (subst₂ (λ i h. Changes config in_text (suc left) position context again that left it trees tree i h ⊎ Stays config in_text (suc left) position context again that left it trees tree i h) (sym one.0) (sym one.1)
-    (subst (λ t. Changes config in_text (suc left) position context again that left it trees t go.1 go.2 ⊎ Stays config in_text (suc left) position context again that left it trees t go.1 go.2) (sym filled) go.5)) in
+    (subst (λ t. Changes config in_text (suc left) position context again that left it trees t go.3 go.4 ⊎ Stays config in_text (suc left) position context again that left it trees t go.3 go.4) (sym filled) go.9)) in
     let none = (keep_first inside.findings (found_of it so.0 so.1 so.2) (keep_before so.6 y)).1 in
     let reason = one_kept (site_in position it trees tree) (trees_left held) in_text (start_of (begin_in it trees).range) at so.1 fault so.2 kept so.5 first.1 none in
     let known = same_found it inside macro so.0 at so.1 fault so.2 (one_called config context it macro so.0 called so.4) reason in

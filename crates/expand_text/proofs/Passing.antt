@@ -3,68 +3,70 @@ use Rattle.std.proofs.Common.{◌≡◌, ◌<◌, ◌≤◌, ℕ, suc, Bool, Lis
 use Rattle.tt.specs.Forest.{Forest, Root, size}
 use Rattle.tt.specs.Gluing.{after_trees}
 use Rattle.tt.specs.Iters.{rest_of}
+use Rattle.tt.specs.Types.TokenTreesView.{TokenTreesView}
 use Rattle.tt.specs.Views.{trees_of}
 use Rattle.tt.specs.Moves.{after_tree}
 use Rattle.tt.specs.Span.{start_of}
 use Rattle.expand_text.specs.declared.fault.Finding.{Finding}
 use Rattle.expand_text.specs.declared.fault.MacroFault.{MacroFault}
-use Rattle.expand_text.specs.declared.walk.Event.{Event}
+use Rattle.expand_text.specs.declared.walk.Invocation.{Invocation}
 use Rattle.expand_text.specs.declared.walk.Event.TheVariants as event
 use Rattle.expand_text.specs.declared.walk.Walk.{Walk}
 use Rattle.expand_text.specs.Calling.{IsFaulty, IsExpanded}
 use Rattle.expand_text.specs.Meaning.{begin_in, begun_by, body_in, end_in, site_in, takes_in, whole_in, ExpandsTo}
-use Rattle.expand_items.specs.Items.{Call, calls}
+use Rattle.expand_items.specs.Items.{Call, calls, inactive}
 use Rattle.expand_text.specs.Contexts.{Config, Context, with_finding}
 use Rattle.expand_text.specs.Macros.{MayBePut, called_by, arms_of, found_of, context_behind}
 use Rattle.expand_text.specs.Outcomes.{Outcome, trees_left}
 use Rattle.expand_text.specs.CallSites.{CallSite, PutIn, IsKept}
-use Rattle.expand_text.specs.Passing.{IsStay, IsInvoked}
-use Rattle.expand_text.specs.Walks.{body_of, Level, level_of, levels_of, past, past_call, first_stay, first_becomes, Leads, GoesPast, found_by, site_of, closes_of, work_in, IsNext, IsFirst, IsAtItem, Steps}
-use Rattle.expand_text.proofs.Leading.{leads_other, leads_faulty, leads_call, leads_kept}
+use Rattle.expand_text.specs.Capturing.{IsCaptureFound}
+use Rattle.expand_text.specs.Passing.{IsPartPassed, IsStay, IsInvoked}
+use Rattle.expand_text.specs.Walks.{body_of, Level, level_of, levels_of, past, past_call, past_part, first_stay, first_becomes, Leads, GoesPast, found_by, site_of, closes_of, work_in, IsNext, IsFirst, IsAtItem, Steps}
+use Rattle.expand_text.proofs.Leading.{leads_inactive, leads_other, leads_faulty, leads_call, leads_kept}
 use Rattle.expand_items.proofs.Conditions.{call_at_less}
+use Rattle.expand_items.proofs.ItemsAt.{calls_at, inactive_less}
 use Rattle.expand_items.proofs.Lengths.{fewer_behind}
 use Rattle.mbe_pattern.specs.Units.{front_trees, is_brace}
 use Rattle.tt.specs.Types.Span.{Span}
 
-module _ (config : Config) (in_text : Bool) (limit : ℕ) (old : Walk) (context : Context) (it : Call) (there : IsAtItem (calls it) config old context) where
-  -- The next event if the call stays.
-  staying : (event : Event) (new : Walk) (others : Context)
-      → Leads config in_text limit (levels_of old) context (first_stay (front_trees it.len (rest_of old.level.rest)))
-      (past it.len (is_brace it.delimiter.kind) (level_of old.level) ∷ map level_of (reverse old.outer.items)) others
-      → IsStay it old event new → IsNext config in_text limit (levels_of old) context event (levels_of new) others
-  staying event.End new others leads is = absurd is
-  staying (event.Leaf l) new others leads is = absurd is
-  staying (event.Opens h) new others leads is = absurd is
-  staying (event.Closes c) new others leads is = absurd is
-  staying (event.Invocation i) new others leads is = absurd is
-  staying (event.Stays trees) new others leads (taken, now, outer) =
+module _ (config : Config) (in_text : Bool) (limit : ℕ) (old : Walk) (context others : Context) (trees : TokenTreesView) (new : Walk) (past : Level) (front : Forest)
+    (leads : Leads config in_text limit (levels_of old) context (first_stay front) (past ∷ map level_of (reverse old.outer.items)) others) where
+  -- The next event if some trees stay.
+  staying : trees_of trees ≡ front → level_of new.level ≡ past → new.outer.items ≡ old.outer.items
+      → IsNext config in_text limit (levels_of old) context (event.Stays trees) (levels_of new) others
+  staying taken now outer =
       subst (λ os. IsNext config in_text limit (levels_of old) context (event.Stays trees) (level_of new.level ∷ map level_of (reverse os)) others) (sym outer)
       (subst (λ l. IsNext config in_text limit (levels_of old) context (event.Stays trees) (l ∷ map level_of (reverse old.outer.items)) others) (sym now)
-      (subst (λ f. Leads config in_text limit (levels_of old) context (first_stay f) (past it.len (is_brace it.delimiter.kind) (level_of old.level) ∷ map level_of (reverse old.outer.items)) others) (sym taken) leads))
+      (subst (λ f. Leads config in_text limit (levels_of old) context (first_stay f) (past ∷ map level_of (reverse old.outer.items)) others) (sym taken) leads))
 
+module _ (config : Config) (in_text : Bool) (limit : ℕ) (old : Walk) (context : Context) (len : ℕ) (there : IsAtItem (inactive len) config old context) where
+  -- An item or a statement under a false condition stays.
+  pub next_part : (trees : TokenTreesView) (new : Walk) → IsPartPassed len old trees new → IsNext config in_text limit (levels_of old) context (event.Stays trees) (levels_of new) context
+  next_part trees new (taken, now, outer) =
+      staying config in_text limit old context context trees new (past_part len (level_of old.level)) (front_trees len (rest_of old.level.rest))
+      (leads_inactive config in_text limit (level_of old.level) (map level_of (reverse old.outer.items)) context there.first there.goes_on len there.item) taken now outer
+
+module _ (config : Config) (in_text : Bool) (limit : ℕ) (old : Walk) (context : Context) (it : Call) (there : IsAtItem (calls it) config old context) where
   -- The call stays if no macro expands it.
-  pub next_other : (event : Event) (new : Walk) → it.attributes ≡ 0 → arms_of (called_by config context.macros it) ≡ None → config.everywhere ≡ false → IsStay it old event new
-      → IsNext config in_text limit (levels_of old) context event (levels_of new) (context_behind it (called_by config context.macros it) context)
-  next_other event new bare none not_into is =
-      staying event new (context_behind it (called_by config context.macros it) context)
-      (leads_other config in_text limit (level_of old.level) (map level_of (reverse old.outer.items)) context there.first there.goes_on it there.item bare none not_into) is
+  pub next_other : (trees : TokenTreesView) (new : Walk) → it.attributes ≡ 0 → arms_of (called_by config context it) ≡ None → config.everywhere ≡ false → IsStay it old trees new
+      → IsNext config in_text limit (levels_of old) context (event.Stays trees) (levels_of new) (context_behind config it context)
+  next_other trees new bare none not_into (taken, now, outer) =
+      staying config in_text limit old context (context_behind config it context) trees new (past it.len (is_brace it.delimiter.kind) (level_of old.level)) (front_trees it.len (rest_of old.level.rest))
+      (leads_other config in_text limit (level_of old.level) (map level_of (reverse old.outer.items)) context there.first there.goes_on it there.item bare none not_into) taken now outer
 
   -- The call stays if it has a fault.
-  pub next_faulty : (event : Event) (new : Walk) (others : Context) → IsFaulty config limit it context others → IsStay it old event new
-      → IsNext config in_text limit (levels_of old) context event (levels_of new) others
-  next_faulty event new others wrong is =
-      staying event new others (leads_faulty config in_text limit (level_of old.level) (map level_of (reverse old.outer.items)) context there.first there.goes_on it there.item others wrong) is
+  pub next_faulty : (trees : TokenTreesView) (new : Walk) (others : Context) → IsFaulty config limit it context others → IsStay it old trees new
+      → IsNext config in_text limit (levels_of old) context (event.Stays trees) (levels_of new) others
+  next_faulty trees new others wrong (taken, now, outer) =
+      staying config in_text limit old context others trees new (past it.len (is_brace it.delimiter.kind) (level_of old.level)) (front_trees it.len (rest_of old.level.rest))
+      (leads_faulty config in_text limit (level_of old.level) (map level_of (reverse old.outer.items)) context there.first there.goes_on it there.item others wrong) taken now outer
 
   -- The call expands to a tree.
-  pub next_expanded : (event : Event) (new : Walk) (others : Context) (tree : Root) (defined_at : ℕ)
-      → IsExpanded config limit it tree defined_at context others
-      → IsInvoked it tree defined_at old event new → IsNext config in_text limit (levels_of old) context event (levels_of new) others
-  next_expanded event.End new others tree defined_at from is = absurd is
-  next_expanded (event.Leaf l) new others tree defined_at from is = absurd is
-  next_expanded (event.Opens h) new others tree defined_at from is = absurd is
-  next_expanded (event.Closes c) new others tree defined_at from is = absurd is
-  next_expanded (event.Stays f) new others tree defined_at from is = absurd is
-  next_expanded (event.Invocation i) new others tree defined_at from (is, now, outer) =
+  pub next_expanded : (i : Invocation) (new : Walk) (same others : Context) (tree : Root) (defined_at : ℕ)
+      → IsExpanded config limit it tree defined_at context same
+      → IsInvoked it tree defined_at old i new → IsCaptureFound i.defined_at it i.position (body_of i) same others
+      → IsNext config in_text limit (levels_of old) context (event.Invocation i) (levels_of new) others
+  next_expanded i new same others tree defined_at from (is, now, outer) captures =
       subst (λ os. IsNext config in_text limit (levels_of old) context (event.Invocation i) (level_of new.level ∷ map level_of (reverse os)) others) (sym outer)
       (subst (λ l. IsNext config in_text limit (levels_of old) context (event.Invocation i) (l ∷ map level_of (reverse old.outer.items)) others) (sym now) (
         from.left,
@@ -100,11 +102,17 @@ module _ (config : Config) (in_text : Bool) (limit : ℕ) (old : Walk) (context 
           body : Forest
           body = body_in old.level.position it trees tree
 
-          came : ExpandsTo config false from.left (begun_by old.level.position it trees) 0 context body inside held
+          noted : IsCaptureFound from.macro.defined_at it (begun_by old.level.position it trees) body context others
+          noted =
+              subst (λ n. IsCaptureFound n it (begun_by old.level.position it trees) body context others) (is.defined ∙ sym from.defined)
+              (subst (λ k. IsCaptureFound i.defined_at it (begun_by old.level.position it trees) body k others) from.context
+              (subst (λ f. IsCaptureFound i.defined_at it (begun_by old.level.position it trees) f same others) is.makes
+              (subst (λ p. IsCaptureFound i.defined_at it p (body_of i) same others) is.begins captures)))
+
+          came : ExpandsTo config false from.left (begun_by old.level.position it trees) 0 others body inside held
           came =
-              subst (λ k. ExpandsTo config false from.left (begun_by old.level.position it trees) 0 k body inside held) from.context
-              (subst (λ f. ExpandsTo config false from.left (begun_by old.level.position it trees) 0 others f inside held) is.makes
-              (subst (λ p. ExpandsTo config false from.left p 0 others (body_of i) inside held) is.begins expands_to))
+              subst (λ f. ExpandsTo config false from.left (begun_by old.level.position it trees) 0 others f inside held) is.makes
+              (subst (λ p. ExpandsTo config false from.left p 0 others (body_of i) inside held) is.begins expands_to)
 
           puts : (put : Forest) → PutIn in_text (site_of i) (trees_left held) put → MayBePut in_text i.delimiter put
               → Leads config in_text limit (levels_of old) context (first_becomes (site_of i).attributes i.first_span i.last_span put) nexts inside
@@ -114,7 +122,7 @@ module _ (config : Config) (in_text : Bool) (limit : ℕ) (old : Walk) (context 
               (subst (λ s. Leads config in_text limit (levels_of old) context (first_becomes site.attributes begin s put) nexts inside) (sym is.last)
               (subst (λ n. Leads config in_text n (levels_of old) context (first_becomes site.attributes begin end put) nexts inside) (sym from.fits)
               (leads_call config in_text from.left (level_of old.level) (map level_of (reverse old.outer.items)) context there.first there.goes_on it from.macro from.arms tree there.item
-              from.called from.expands from.makes inside held came put
+              from.called from.expands from.makes others inside held noted came put
               (subst (λ s. PutIn in_text s (trees_left held) put) is.site so) (subst (λ s. MayBePut in_text s.delimiter put) is.site may)))))
 
           stays : (at : ℕ) (fault : MacroFault) → IsKept in_text (site_of i) (trees_left held) (start_of i.first_span.range) at fault
@@ -124,28 +132,33 @@ module _ (config : Config) (in_text : Bool) (limit : ℕ) (old : Walk) (context 
               (subst (λ n. Leads config in_text n (levels_of old) context (first_stay (whole_in old.level.position it trees)) nexts (with_finding (found_by i at fault) inside)) (sym from.fits)
               (subst (λ f. Leads config in_text (suc from.left) (levels_of old) context (first_stay (whole_in old.level.position it trees)) nexts (with_finding f inside)) (sym (found at fault))
               (leads_kept config in_text from.left (level_of old.level) (map level_of (reverse old.outer.items)) context there.first there.goes_on it from.macro from.arms tree there.item
-              from.called from.expands from.makes inside held came at fault
+              from.called from.expands from.makes others inside held noted came at fault
               (subst (λ s. IsKept in_text site (trees_left held) (start_of s.range) at fault) is.first
               (subst (λ s. IsKept in_text s (trees_left held) (start_of i.first_span.range) at fault) is.site kept)))))
 
-module _ (root : List ℕ) (old : Walk) (it : Call) (there : IsFirst (calls it) root old) where
-  -- Less is left to do after it.
-  stepped : (it_level : Level) → (level : Level) → it_level ≡ level → level.close ≡ old.level.close → size level.rest ≤ size (after_trees it.len (rest_of old.level.rest))
+module _ (old : Walk) (len : ℕ) (less : size (after_trees len (rest_of old.level.rest)) < size (rest_of old.level.rest)) where
+  -- Less is left to do after so many trees.
+  stepped : (it_level : Level) → (level : Level) → it_level ≡ level → level.close ≡ old.level.close → size level.rest ≤ size (after_trees len (rest_of old.level.rest))
       → (outer : List Level) → outer ≡ map level_of (reverse old.outer.items)
       → (closes_of (it_level ∷ outer) ≡ closes_of (levels_of old)) × (work_in (it_level ∷ outer) < work_in (levels_of old))
-  stepped it_level level now close less outer same = (
+  stepped it_level level now close fewer outer same = (
     ap₂ (λ l ls. closes_of (l ∷ ls)) now same ∙ ap (λ s. s ∷ closes_of (map level_of (reverse old.outer.items))) close,
-    omega (arith, less, call_at_less root old.level.position (rest_of old.level.rest) it there, ap₂ (λ l ls. work_in (l ∷ ls)) now same),
+    omega (arith, fewer, less, ap₂ (λ l ls. work_in (l ∷ ls)) now same),
   )
 
-  pub stays_step : (event : Event) (new : Walk) → IsStay it old event new → Steps (levels_of old) event (levels_of new)
-  stays_step event.End new is = absurd is
-  stays_step (event.Leaf l) new is = absurd is
-  stays_step (event.Opens h) new is = absurd is
-  stays_step (event.Closes c) new is = absurd is
-  stays_step (event.Invocation i) new is = absurd is
-  stays_step (event.Stays trees) new (taken, now, outer) =
-      stepped (level_of new.level) (past it.len (is_brace it.delimiter.kind) (level_of old.level)) now refl (omega arith)
+module _ (config : Config) (old : Walk) (len : ℕ) (there : IsFirst (inactive len) config old) where
+  pub part_step : (trees : TokenTreesView) (new : Walk) → IsPartPassed len old trees new → Steps (levels_of old) (event.Stays trees) (levels_of new)
+  part_step trees new (taken, now, outer) =
+      stepped old len (inactive_less there) (level_of new.level) (past_part len (level_of old.level)) now refl (omega arith)
+      (map level_of (reverse new.outer.items)) (ap (λ os. map level_of (reverse os)) outer)
+
+module _ (config : Config) (old : Walk) (it : Call) (there : IsFirst (calls it) config old) where
+  less : size (after_trees it.len (rest_of old.level.rest)) < size (rest_of old.level.rest)
+  less = call_at_less config.root old.level.position (rest_of old.level.rest) it (calls_at there)
+
+  pub stays_step : (trees : TokenTreesView) (new : Walk) → IsStay it old trees new → Steps (levels_of old) (event.Stays trees) (levels_of new)
+  stays_step trees new (taken, now, outer) =
+      stepped old it.len less (level_of new.level) (past it.len (is_brace it.delimiter.kind) (level_of old.level)) now refl (omega arith)
       (map level_of (reverse new.outer.items)) (ap (λ os. map level_of (reverse os)) outer)
 
   -- After its `;` no more tokens are left than before it.
@@ -153,13 +166,8 @@ module _ (root : List ℕ) (old : Walk) (it : Call) (there : IsFirst (calls it) 
   fewer true rest = fewer_behind 1 rest
   fewer false rest = omega arith
 
-  pub invoked_step : (tree : Root) (defined_at : ℕ) (event : Event) (new : Walk) → IsInvoked it tree defined_at old event new → Steps (levels_of old) event (levels_of new)
-  invoked_step tree defined_at event.End new is = absurd is
-  invoked_step tree defined_at (event.Leaf l) new is = absurd is
-  invoked_step tree defined_at (event.Opens h) new is = absurd is
-  invoked_step tree defined_at (event.Closes c) new is = absurd is
-  invoked_step tree defined_at (event.Stays f) new is = absurd is
-  invoked_step tree defined_at (event.Invocation i) new (is, now, outer) =
+  pub invoked_step : (tree : Root) (defined_at : ℕ) (i : Invocation) (new : Walk) → IsInvoked it tree defined_at old i new → Steps (levels_of old) (event.Invocation i) (levels_of new)
+  invoked_step tree defined_at i new (is, now, outer) =
       let trees = rest_of old.level.rest in
-      stepped (level_of new.level) (past_call it (level_of old.level)) now refl (fewer (takes_in old.level.position it trees) (after_trees it.len trees))
+      stepped old it.len less (level_of new.level) (past_call it (level_of old.level)) now refl (fewer (takes_in old.level.position it trees) (after_trees it.len trees))
       (map level_of (reverse new.outer.items)) (ap (λ os. map level_of (reverse os)) outer)

@@ -1,9 +1,9 @@
 -- What replaces calls is woven into the pieces of the text.
-use Rattle.std.proofs.Common.{◌≡◌, ◌<◌, ◌-◌, ◌++◌, ℕ, suc, Bool, true, false, List, [], ◌∷◌, inl, inr, ◌⊎◌, max, Some, None, cond, codes, refl, ap, ap₂, sym, subst, ◌∙◌, arith, append_assoc, append-nil}
+use Rattle.std.proofs.Common.{◌≡◌, ◌<◌, ◌-◌, ◌++◌, ℕ, zero, suc, Bool, true, false, List, [], ◌∷◌, inl, inr, ◌⊎◌, max, Some, None, cond, codes, refl, ap, ap₂, sym, subst, ◌∙◌, arith, append_assoc, append-nil}
 use Rattle.std.proofs.Math.Nat.{le-max_left, le-max_right}
 use Rattle.std.proofs.lemmas.Bool.{eqb-true, false≢true}
 use Rattle.std.specs.Prelude.{◌==◌, ◌||◌, ◌&&◌, not}
-use Rattle.tt.specs.Forest.{Forest, end, leaf, node, join}
+use Rattle.tt.specs.Forest.{Forest, end, leaf, node, join, size}
 use Rattle.tt.specs.Gluing.{after_trees}
 use Rattle.tt.specs.Span.{start_of, end_of}
 use Rattle.tt.specs.Types.Delimiter.{Delimiter}
@@ -16,18 +16,20 @@ use Rattle.expand_text.proofs.CallPlaces.{last_of}
 use Rattle.expand_text.proofs.CallParts.{alone, attributes_alone, begin_alone, call_alone, closed_join, end_alone, ends_alone, split_in}
 use Rattle.expand_items.proofs.Conditions.{IsCallBehind, attributes_closed, definition_at}
 use Rattle.expand_items.specs.Attributes.{item_at}
-use Rattle.expand_items.proofs.Shapes.{EndsClosed, by_subtree, by_semicolon, BeginsWithName, call_begins, call_ends, call_closed, definition_closed, punct_first, ends_by_punct}
-use Rattle.expand_text.specs.Meaning.{ExpandsTo, ends, on_leaf, on_node, on_definition, on_other_call, into_other_call, into_attributes, on_faulty_call, on_call, on_kept_call, attributes_in, begin_in, end_in, len_in, named_behind, plain_behind, rest_in, takes_in, whole_in}
+use Rattle.expand_items.proofs.Shapes.{EndsClosed, by_subtree, by_semicolon, BeginsWithName, call_begins, call_ends, call_closed, definition_closed, punct_first, ends_by_punct, ends_by_subtree}
+use Rattle.expand_items.proofs.ItemsAt.{calls_at, defines_at, inactive_less}
+use Rattle.expand_text.specs.Meaning.{ExpandsTo, ends, on_leaf, on_node, on_definition, on_inactive, on_other_call, into_other_call, into_attributes, on_faulty_call, on_call, on_kept_call, attributes_in, begin_in, end_in, len_in, is_closing, named_behind, plain_behind, plain_behind_part, rest_in, takes_in, whole_in}
 use Rattle.expand_text.specs.Expansion.{replacement, replacements}
 use Rattle.expand_text.specs.Contexts.{Config, Context, asks_for}
-use Rattle.expand_text.specs.Macros.{arms_of, called_by}
+use Rattle.expand_text.specs.Macros.{called_by, named_by}
 use Rattle.expand_text.specs.Outcomes.{Outcome, nothing, passes, enters, stays, becomes}
 use Rattle.expand_text.specs.Reading.{splices, sorts_left}
-use Rattle.expand_text.specs.Scopes.{Macro, last_named}
-use Rattle.expand_items.specs.Items.{Call, calls, item_in}
+use Rattle.expand_text.specs.Scopes.{Macro}
+use Rattle.expand_items.specs.Items.{Call, calls, is_elsewhere, item_in}
+use Rattle.expand_items.specs.declared.item.MacroPath.{MacroPath}
+use Rattle.expand_items.specs.declared.item.MacroPath.TheVariants as path
 use Rattle.expand_items.specs.Positions.{is_items}
 use Rattle.expand_items.specs.declared.position.Position.{Position}
-use Rattle.mbe_rules.specs.Arms.{Arm}
 use Rattle.mbe_pattern.proofs.Passing.{front_joined}
 use Rattle.mbe_pattern.specs.Units.{front_trees, is_brace, is_at_punct}
 use Rattle.laws_round_trip.proofs.CallCuts.{behind_pieces}
@@ -172,7 +174,7 @@ module _ (root : List ℕ) (trees : Forest) (position : Position) (it : Call) (i
           )
 
   -- Its pieces are taken.
-  bare_taken : it.is_elsewhere ≡ false → IsTaken (spelled (front_trees (len_in position it trees) trees)) (start_of (begin_at trees it.name.span).range) (end_of (end_in position it trees).range)
+  bare_taken : is_elsewhere it.path ≡ false → IsTaken (spelled (front_trees (len_in position it trees) trees)) (start_of (begin_at trees it.name.span).range) (end_of (end_in position it trees).range)
   bare_taken here = record { trees = front_trees (len_in position it trees) trees; spelled = refl; begins = begun; ends = bare_end.1 }
     where
       begun : BeginsCall (start_of (begin_at trees it.name.span).range) (spelled (front_trees (len_in position it trees) trees))
@@ -203,10 +205,10 @@ module _ (root : List ℕ) (trees : Forest) (position : Position) (it : Call) (i
   behind = after_trees it.attributes trees
 
   -- Its pieces after the attributes are taken.
-  call_taken : it.is_elsewhere ≡ false
+  call_taken : is_elsewhere it.path ≡ false
       → IsTaken (spelled (after_trees it.attributes (whole_in position it trees))) (start_of (begin_in it trees).range) (end_of (end_in position it trees).range)
   call_taken here =
-      let named : at.bare.is_elsewhere ≡ false = ap (λ c. c.is_elsewhere) (sym at.same) ∙ here in
+      let named : is_elsewhere at.bare.path ≡ false = ap (λ c. is_elsewhere c.path) (sym at.same) ∙ here in
       subst (λ f. IsTaken (spelled f) (start_of (begin_in it trees).range) (end_of (end_in position it trees).range)) (sym (call_alone root position trees it is))
       (subst (λ s. IsTaken (spelled (whole_in position at.bare behind)) (start_of s.range) (end_of (end_in position it trees).range)) (sym (begin_alone root position trees it is))
       (subst (λ s. IsTaken (spelled (whole_in position at.bare behind)) (start_of (begin_at behind at.bare.name.span).range) (end_of s.range)) (sym (end_alone root position trees it is))
@@ -237,13 +239,42 @@ module _ (root : List ℕ) (trees : Forest) (position : Position) (it : Call) (i
       (front_joined it.attributes (whole_in position it trees))
       ∙ spelled_front trees (whole_in position it trees) (rest_in position it trees) more (split_in position it trees)
 
--- A macro is called by its own name, not by a path.
-called_here : (config : Config) (macros : List Macro) (it : Call) (arms : List Arm) → arms_of (called_by config macros it) ≡ Some arms → it.is_elsewhere ≡ false
-called_here config macros it arms is = by it.is_elsewhere refl is
+-- A macro is called by its own name or with the crate's root, not by another path.
+called_here : (config : Config) (context : Context) (it : Call) (macro : Macro) → called_by config context it ≡ Some macro → is_elsewhere it.path ≡ false
+called_here config context it macro is = by it.path (asks_for config.only it.name.sym) is
   where
-    by : (elsewhere : Bool) → it.is_elsewhere ≡ elsewhere → arms_of (cond elsewhere None (cond (asks_for config.only it.name.sym) (last_named it.name.sym macros) None)) ≡ Some arms → elsewhere ≡ false
-    by true e f = absurd (cc f)
-    by false e f = refl
+    by : (way : MacroPath) (asked : Bool) → cond asked (named_by way it.name.sym context) None ≡ Some macro → is_elsewhere way ≡ false
+    by path.Name asked e = refl
+    by path.Root asked e = refl
+    by path.Other true e = absurd (cc e)
+    by path.Other false e = absurd (cc e)
+
+-- After an item or a statement no call begins at a place at which none may: behind a subtree or a `;` any may, and otherwise two trees are
+-- taken as they are.
+held_part : (len : ℕ) (trees : Forest) (before : List Sort) → size (after_trees len trees) < size trees
+    → IsHeld (behind_pieces (spelled (front_trees len trees)) before) (after_trees len trees) (plain_behind_part len trees)
+held_part zero trees before less = absurd (omega (arith, less))
+held_part (suc n) trees before less =
+    let one : suc n - 1 ≡ n = omega arith in
+    subst (λ m. Held (cond (is_closing (after_trees m trees)) 0 2)) (sym one) (by (after_trees n trees) refl)
+  where
+    Held : ℕ → Type 0
+    Held plain = IsHeld (behind_pieces (spelled (front_trees (suc n) trees)) before) (after_trees (suc n) trees) plain
+
+    free : Held 2
+    free = record { begins = λ none. absurd (cc none); point = λ follows at. omega arith }
+
+    by_leaf : (it : Leaf) (rest : Forest) → after_trees n trees ≡ leaf it rest → (b : Bool) → is_at_punct (codes ";") (leaf it rest) ≡ b → Held (cond b 0 2)
+    by_leaf it rest e true s =
+        let (punct, behind, shape, same) = punct_first 59 (leaf it rest) s in
+        held_closed (front_trees (suc n) trees) (by_semicolon (front_trees n trees) punct same (ends_by_punct n trees punct behind (e ∙ shape))) before (after_trees (suc n) trees) 0
+    by_leaf it rest e false s = free
+
+    by : (rest : Forest) → after_trees n trees ≡ rest → Held (cond (is_closing rest) 0 2)
+    by end e = free
+    by (leaf it rest) e = by_leaf it rest e (is_at_punct (codes ";") (leaf it rest)) refl
+    by (node delimiter children rest) e =
+        held_closed (front_trees (suc n) trees) (by_subtree (front_trees n trees) delimiter children (ends_by_subtree n trees delimiter children rest e)) before (after_trees (suc n) trees) 0
 
 module _ (config : Config) where
   -- Trees that stay, and end with a subtree or a `;`, and then others.
@@ -273,11 +304,16 @@ module _ (config : Config) where
   comes_woven (on_definition {position = position} {it = it} {trees = trees} {others = behind} inside goes_on is read expands_to) before held more others woven then =
       moved refl refl (sym (append_assoc (sorts (spelled (front_trees it.len trees))) (sorts_left behind) woven))
       (stays_woven trees (front_trees it.len trees) (after_trees it.len trees) (front_joined it.len trees)
-      (definition_closed config.root trees it (definition_at config.root position trees it is)) before more (splices behind ++ others) (sorts_left behind ++ woven)
+      (definition_closed config.root trees it (definition_at config.root position trees it (defines_at is))) before more (splices behind ++ others) (sorts_left behind ++ woven)
       (λ b h. comes_woven expands_to b h more others woven then))
+  comes_woven (on_inactive {len = len} {trees = trees} {others = behind} goes_on is expands_to) before held more others woven then =
+      let front = front_trees len trees in
+      moved (spelled_front trees front (after_trees len trees) more (front_joined len trees)) refl (sym (append_assoc (sorts (spelled front)) (sorts_left behind) woven))
+      (keeps_all (spelled front) before (spelled (after_trees len trees) ++ more) (splices behind ++ others) (sorts_left behind ++ woven)
+      (comes_woven expands_to (behind_pieces (spelled front) before) (held_part len trees before (inactive_less is)) more others woven then))
   comes_woven (on_other_call {position = position} {it = it} {trees = trees} {others = behind} goes_on is bare none out expands_to) before held more others woven then =
       moved refl refl (sym (append_assoc (sorts (spelled (front_trees it.len trees))) (sorts_left behind) woven))
-      (stays_woven trees (front_trees it.len trees) (after_trees it.len trees) (front_joined it.len trees) (ends_alone config.root position trees it is) before more (splices behind ++ others) (sorts_left behind ++ woven)
+      (stays_woven trees (front_trees it.len trees) (after_trees it.len trees) (front_joined it.len trees) (ends_alone config.root position trees it (calls_at is)) before more (splices behind ++ others) (sorts_left behind ++ woven)
       (λ b h. comes_woven expands_to b h more others woven then))
   comes_woven (into_other_call goes_on is bare none into expands_to) before held more others woven then =
       comes_woven expands_to before (record { begins = λ long. held.begins refl; point = λ follows at. omega (arith, held.point follows at) }) more others woven then
@@ -285,22 +321,23 @@ module _ (config : Config) where
       comes_woven expands_to before (record { begins = λ long. held.begins refl; point = λ follows at. omega (arith, held.point follows at) }) more others woven then
   comes_woven (on_faulty_call {position = position} {it = it} {trees = trees} {others = behind} at fault goes_on is called some wrong expands_to) before held more others woven then =
       moved refl refl (sym (append_assoc (sorts (spelled (front_trees it.len trees))) (sorts_left behind) woven))
-      (stays_woven trees (front_trees it.len trees) (after_trees it.len trees) (front_joined it.len trees) (ends_alone config.root position trees it is) before more (splices behind ++ others) (sorts_left behind ++ woven)
+      (stays_woven trees (front_trees it.len trees) (after_trees it.len trees) (front_joined it.len trees) (ends_alone config.root position trees it (calls_at is)) before more (splices behind ++ others) (sorts_left behind ++ woven)
       (λ b h. comes_woven expands_to b h more others woven then))
-  comes_woven (on_call {position = position} {context = context} {it = it} {arms = arms} {trees = trees} {others = behind} tree put goes_on is called makes expands_to so may past) before held more others woven then =
+  comes_woven (on_call {position = position} {context = context} {it = it} {macro = macro} {trees = trees} {others = behind} tree put goes_on is called some makes noted expands_to so may past) before held more others woven then =
+      let at = calls_at is in
       let attributes = attributes_in position it trees in
       let call = after_trees it.attributes (whole_in position it trees) in
       let rest = rest_in position it trees in
-      moved (spelled_parts config.root trees position it is more) refl
+      moved (spelled_parts config.root trees position it at more) refl
       (ap (λ ws. sorts (spelled attributes) ++ ws) (sym (append_assoc (settled (marks 0 put)) (sorts_left behind) woven))
       ∙ sym (append_assoc (sorts (spelled attributes)) (settled (marks 0 put) ++ sorts_left behind) woven))
       (keeps_all (spelled attributes) before (spelled call ++ (spelled rest ++ more)) (splices (becomes (begin_in it trees) (end_in position it trees) put behind) ++ others)
       (settled (marks 0 put) ++ (sorts_left behind ++ woven))
-      (gives_way (held_attributes config.root trees position it is before held) (call_taken config.root trees position it is (called_here config context.macros it arms called)) may.1
+      (gives_way (held_attributes config.root trees position it at before held) (call_taken config.root trees position it at (called_here config context it macro called)) may.1
       (comes_woven past [] (held_none rest 0) more others woven then)))
-  comes_woven (on_kept_call {position = position} {it = it} {trees = trees} {others = behind} tree at fault goes_on is called some makes expands_to kept past) before held more others woven then =
+  comes_woven (on_kept_call {position = position} {it = it} {trees = trees} {others = behind} tree at fault goes_on is called some makes noted expands_to kept past) before held more others woven then =
       moved refl refl (sym (append_assoc (sorts (spelled (whole_in position it trees))) (sorts_left behind) woven))
-      (stays_woven trees (whole_in position it trees) (rest_in position it trees) (split_in position it trees) (whole_closed config.root trees position it is) before more (splices behind ++ others) (sorts_left behind ++ woven)
+      (stays_woven trees (whole_in position it trees) (rest_in position it trees) (split_in position it trees) (whole_closed config.root trees position it (calls_at is)) before more (splices behind ++ others) (sorts_left behind ++ woven)
       (λ b h. comes_woven past b h more others woven then))
 
   -- What a whole text expands to is woven into its pieces.

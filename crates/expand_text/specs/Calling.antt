@@ -35,7 +35,7 @@ pub record IsFaulty (config : Config) (limit : ℕ) (it : Call) (before after : 
   pub arms : List Arm
   pub at : ℕ
   pub fault : MacroFault
-  pub called : called_by config before.macros it ≡ Some macro
+  pub called : called_by config before it ≡ Some macro
   pub expands : macro.arms ≡ Some arms
   pub wrong : IsCallFault limit arms it at fault
   pub found : after ≡ with_finding (found_of it macro at fault) before
@@ -46,7 +46,7 @@ pub record IsExpanded (config : Config) (limit : ℕ) (it : Call) (tree : Root) 
   pub macro : Macro
   pub arms : List Arm
   pub fits : limit ≡ suc left
-  pub called : called_by config before.macros it ≡ Some macro
+  pub called : called_by config before it ≡ Some macro
   pub defined : macro.defined_at ≡ defined_at
   pub expands : macro.arms ≡ Some arms
   pub makes : IsExpansion arms 0 0 it.input (expansion.Tree tree)
@@ -55,6 +55,6 @@ pub record IsExpanded (config : Config) (limit : ℕ) (it : Call) (tree : Root) 
 -- what becomes of a call, and what is known then: nothing if no arms expand it, a fault, or a tree
 abbrev pub IsCalled : Config → (limit : ℕ) → Call → Called → (before after : Context) → Type 0
 IsCalled config limit it called.Other before after =
-    (arms_of (called_by config before.macros it) ≡ None) × (after ≡ context_behind it (called_by config before.macros it) before)
+    (arms_of (called_by config before it) ≡ None) × (after ≡ context_behind config it before)
 IsCalled config limit it called.Faulty before after = IsFaulty config limit it before after
 IsCalled config limit it (called.Tree tree defined_at) before after = IsExpanded config limit it tree defined_at before after

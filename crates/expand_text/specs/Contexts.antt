@@ -1,13 +1,16 @@
 -- What is known in a walk, and its setting.
 use Rattle.std.specs.Prelude.{◌≡◌, ◌++◌, ◌||◌, ℕ, Bool, true, false, List, [], ◌∷◌, Option, None, Some, bytes_eq}
+use Rattle.expand_items.specs.Cfg.{Known}
 use Rattle.expand_text.specs.declared.fault.Finding.{Finding}
 use Rattle.expand_text.specs.declared.context.Context as context_in_code
 use Rattle.expand_text.specs.declared.config.Config as config_in_code
 use Rattle.expand_text.specs.Findings.{is_too_deep}
 use Rattle.expand_text.specs.Scopes.{Macro, AreReady, kept_of}
 
--- the root's word, whether calls that are not expanded are entered, and the only name whose macros are read and expanded, if not all are
+-- what is known of conditions, the root's word, whether calls that are not expanded are entered, and the only name whose macros are read and
+-- expanded, if not all are
 pub record Config : Type 0 where
+  pub known : Known
   pub root : List ℕ
   pub everywhere : Bool
   pub only : Option (List ℕ)
@@ -17,15 +20,16 @@ abbrev pub asks_for : (only : Option (List ℕ)) → (name : List ℕ) → Bool
 asks_for None name = true
 asks_for (Some it) name = bytes_eq it name
 
--- the macros in scope, the findings so far in order, and whether no call is expanded any more
+-- the macros in scope, those that the crate exports, the findings so far in order, and whether no call is expanded any more
 pub record Context : Type 0 where
   pub macros : List Macro
+  pub exported : List Macro
   pub findings : List Finding
   pub is_over : Bool
 
--- nothing is known
-abbrev pub new_context : Context
-new_context = record { macros = []; findings = []; is_over = false }
+-- nothing is known but the macros that the crate exports
+abbrev pub new_context : (exported : List Macro) → Context
+new_context exported = record { macros = []; exported = exported; findings = []; is_over = false }
 
 -- one more macro is in scope
 abbrev pub with_macro : Macro → Context → Context
@@ -41,10 +45,11 @@ left_in_scope kept context = record context { macros = kept_of kept context.macr
 
 -- what the values of the code mean
 abbrev pub config_of : config_in_code.Config → Config
-config_of it = record { root = it.root; everywhere = it.everywhere; only = it.only }
+config_of it = record { known = it.cfg.now; root = it.root; everywhere = it.everywhere; only = it.only }
 
 pub record IsContext (context : Context) (it : context_in_code.Context) : Type 0 where
   pub macros : AreReady context.macros it.scope.macros.items
+  pub exported : AreReady context.exported it.exported.macros.items
   pub findings : it.findings.items ≡ context.findings
   pub is_over : it.is_over ≡ context.is_over
 

@@ -19,6 +19,7 @@ use Rattle.expand_text.specs.declared.walk.Invocation.{Invocation}
 use Rattle.expand_text.specs.Meaning.{ExpandsTo}
 use Rattle.expand_text.specs.Findings.{is_warning}
 use Rattle.expand_text.specs.Contexts.{Config, Context, new_context, with_finding}
+use Rattle.expand_text.specs.Exports.{AreExported}
 use Rattle.expand_text.specs.Macros.{MayBePut, IsUnwritten}
 use Rattle.expand_text.specs.Outcomes.{Outcome, nothing, passes, enters, stays, becomes, trees_left}
 use Rattle.expand_items.specs.Positions.{begun as begun_among}
@@ -110,7 +111,7 @@ pub record IsSourceText (config : Config) (limit : ℕ) (source : List ℕ) (tre
 
 -- the setting of the options
 abbrev pub config_by : ExpandOptions → Config
-config_by it = record { root = it.root.now; everywhere = it.everywhere; only = option_map (λ name. name.now) it.only }
+config_by it = record { known = it.cfg.now; root = it.root.now; everywhere = it.everywhere; only = option_map (λ name. name.now) it.only }
 
 -- a text reads back as what is left: it has no fault of syntax, and any tree that it is read as spells what is left
 pub record ReadsAs (text : List ℕ) (left : List Sort) : Type 0 where
@@ -122,9 +123,11 @@ pub record ReadsAs (text : List ℕ) (left : List Sort) : Type 0 where
 pub record IsExpanded (options : ExpandOptions) (source : List ℕ) (it : Expanded) : Type 0 where
   pub tree : Root
   pub read : IsParse text_part source tree
+  pub exported : List Macro
+  pub exports : AreExported (config_by options) tree.children exported
   pub after : Context
   pub outcome : Outcome
-  pub expands_to : ExpandsTo (config_by options) true options.limit (begun_among Items) 0 new_context tree.children after outcome
+  pub expands_to : ExpandsTo (config_by options) true options.limit (begun_among Items) 0 (new_context exported) tree.children after outcome
   pub fits : FitAll (replacements outcome) (begun source)
   pub text : string_bytes it.text ≡ with_all (replacements outcome) (begun source)
   pub back : ReadsAs (string_bytes it.text) (sorts_left outcome)

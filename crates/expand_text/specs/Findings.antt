@@ -3,11 +3,13 @@ use Rattle.std.specs.Prelude.{Bool, true, false}
 use Rattle.expand_text.specs.declared.fault.MacroFault.{MacroFault}
 use Rattle.expand_text.specs.declared.fault.MacroFault.TheVariants as wrong
 
--- a call has no fault, but is left as it is
+-- a call has no fault, but is left as it is, or may mean something else than it did
 abbrev pub is_warning : MacroFault → Bool
 is_warning (wrong.Definition why) = false
 is_warning wrong.Left = true
 is_warning wrong.SeveralDefinitions = true
+is_warning wrong.NotExported = true
+is_warning (wrong.Captured binding) = true
 is_warning wrong.Conditional = true
 is_warning wrong.NoMatch = false
 is_warning (wrong.Ambiguous arm) = false
@@ -22,6 +24,8 @@ abbrev pub is_too_deep : MacroFault → Bool
 is_too_deep (wrong.Definition why) = false
 is_too_deep wrong.Left = false
 is_too_deep wrong.SeveralDefinitions = false
+is_too_deep wrong.NotExported = false
+is_too_deep (wrong.Captured binding) = false
 is_too_deep wrong.Conditional = false
 is_too_deep wrong.NoMatch = false
 is_too_deep (wrong.Ambiguous arm) = false

@@ -4,7 +4,7 @@ use Rattle.tt.specs.Forest.{Forest}
 use Rattle.expand_items.specs.declared.position.Position.{Position}
 use Rattle.expand_text.specs.Contexts.{Config, Context}
 use Rattle.expand_text.specs.Macros.{called_by}
-use Rattle.expand_text.specs.Meaning.{ExpandsTo, ends, on_leaf, on_node, on_definition, on_other_call, into_other_call, into_attributes, on_faulty_call, on_call, on_kept_call}
+use Rattle.expand_text.specs.Meaning.{ExpandsTo, ends, on_leaf, on_node, on_definition, on_inactive, on_other_call, into_other_call, into_attributes, on_faulty_call, on_call, on_kept_call}
 use Rattle.expand_text.specs.Outcomes.{Outcome}
 
 -- no call of a macro in scope is left, neither in the trees nor in what a call expands to: a tree is passed only while calls are expanded,
@@ -15,11 +15,12 @@ NoneIsLeft ends = Unit {0}
 NoneIsLeft (on_leaf {context = context} plain others) = (context.is_over ≡ false) × NoneIsLeft others
 NoneIsLeft (on_node {context = context} plain held others) = (context.is_over ≡ false) × NoneIsLeft held × NoneIsLeft others
 NoneIsLeft (on_definition inside going is read others) = NoneIsLeft others
+NoneIsLeft (on_inactive going is others) = NoneIsLeft others
 NoneIsLeft {config = config} (on_other_call {context = context} {it = it} going is bare unexpanded not_into others) =
-    (called_by config context.macros it ≡ None) × NoneIsLeft others
+    (called_by config context it ≡ None) × NoneIsLeft others
 NoneIsLeft {config = config} (into_other_call {context = context} {it = it} going is bare unexpanded into others) =
-    (called_by config context.macros it ≡ None) × NoneIsLeft others
+    (called_by config context it ≡ None) × NoneIsLeft others
 NoneIsLeft (into_attributes going is some unexpanded others) = NoneIsLeft others
 NoneIsLeft (on_faulty_call at fault going is called some faulty others) = ⊥
-NoneIsLeft (on_call tree put going is some expands held so may others) = NoneIsLeft held × NoneIsLeft others
-NoneIsLeft (on_kept_call tree at fault going is called some expands held kept others) = ⊥
+NoneIsLeft (on_call tree put going is called some expands noted held so may others) = NoneIsLeft held × NoneIsLeft others
+NoneIsLeft (on_kept_call tree at fault going is called some expands noted held kept others) = ⊥

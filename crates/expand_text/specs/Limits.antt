@@ -17,6 +17,8 @@ abbrev pub names_limit : MacroFault → Bool
 names_limit (wrong.Definition why) = false
 names_limit wrong.Left = false
 names_limit wrong.SeveralDefinitions = false
+names_limit wrong.NotExported = false
+names_limit (wrong.Captured binding) = false
 names_limit wrong.Conditional = false
 names_limit wrong.NoMatch = false
 names_limit (wrong.Ambiguous arm) = false

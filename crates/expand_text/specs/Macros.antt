@@ -11,7 +11,9 @@ use Rattle.tt.specs.Types.TtFault.TheVariants as limit
 use Rattle.expand_text.specs.declared.fault.Finding.{Finding}
 use Rattle.expand_text.specs.declared.fault.MacroFault.{MacroFault}
 use Rattle.expand_text.specs.declared.fault.MacroFault.TheVariants as wrong
-use Rattle.expand_items.specs.Items.{Definition, Call}
+use Rattle.expand_items.specs.Items.{Definition, Call, is_root}
+use Rattle.expand_items.specs.declared.item.MacroPath.{MacroPath}
+use Rattle.expand_items.specs.declared.item.MacroPath.TheVariants as path
 use Rattle.expand_text.specs.Contexts.{Config, Context, asks_for, with_macro, with_finding}
 use Rattle.expand_text.specs.Places.{byte_at, definition_byte}
 use Rattle.expand_text.specs.Roots.{rooted}
@@ -54,6 +56,8 @@ IsDefinitionFault it trees at (wrong.Definition why) =
 IsDefinitionFault it trees at (wrong.TooLarge why) = IsPastLimit (under it.delimiter trees) why × (at ≡ start_of it.name.span.range)
 IsDefinitionFault it trees at wrong.Left = ⊥
 IsDefinitionFault it trees at wrong.SeveralDefinitions = ⊥
+IsDefinitionFault it trees at wrong.NotExported = ⊥
+IsDefinitionFault it trees at (wrong.Captured binding) = ⊥
 IsDefinitionFault it trees at wrong.Conditional = ⊥
 IsDefinitionFault it trees at wrong.NoMatch = ⊥
 IsDefinitionFault it trees at (wrong.Ambiguous arm) = ⊥
@@ -82,10 +86,19 @@ IsReadIf true root is_open it before after = IsDefined is_open it (rooted root i
 abbrev pub IsRead : Config → (is_open : Bool) → Definition → (before after : Context) → Type 0
 IsRead config is_open it before after = IsReadIf (asks_for config.only it.name.sym) config.root is_open it before after
 
--- the macro that a call names, among these in scope: the last of its name, if macros of that name are expanded
-abbrev pub called_by : Config → List Macro → Call → Option Macro
-called_by config macros it =
-    if it.is_elsewhere then None else (if asks_for config.only it.name.sym then last_named it.name.sym macros else None)
+-- the macro of a name behind a path: the last of its name in scope, or the last that the crate exports
+abbrev pub named_by : MacroPath → (name : List ℕ) → Context → Option Macro
+named_by path.Name name context = last_named name context.macros
+named_by path.Root name context = last_named name context.exported
+named_by path.Other name context = None
+
+-- the macro that a call names, if macros of that name are expanded
+abbrev pub called_by : Config → Context → Call → Option Macro
+called_by config context it = if asks_for config.only it.name.sym then named_by it.path it.name.sym context else None
+
+-- the macro in scope that a call would name without the crate's root before its name
+abbrev pub unexported_by : Config → Context → Call → Option Macro
+unexported_by config context it = if asks_for config.only it.name.sym && is_root it.path then last_named it.name.sym context.macros else None
 
 -- its arms
 abbrev pub arms_of : Option Macro → Option (List Arm)
@@ -107,6 +120,8 @@ IsInputFault arms it at (wrong.Expansion why) =
 IsInputFault arms it at (wrong.Definition why) = ⊥
 IsInputFault arms it at wrong.Left = ⊥
 IsInputFault arms it at wrong.SeveralDefinitions = ⊥
+IsInputFault arms it at wrong.NotExported = ⊥
+IsInputFault arms it at (wrong.Captured binding) = ⊥
 IsInputFault arms it at wrong.Conditional = ⊥
 IsInputFault arms it at wrong.TooDeep = ⊥
 IsInputFault arms it at wrong.NotWritable = ⊥
@@ -123,10 +138,14 @@ abbrev pub left_by : (is_several : Bool) → MacroFault
 left_by true = wrong.SeveralDefinitions
 left_by false = wrong.Left
 
--- what is known after a call that no macro expands: if its macro is left as it is, that is found
-abbrev pub context_behind : Call → Option Macro → Context → Context
-context_behind it None context = context
-context_behind it (Some macro) context = with_finding (found_of it macro (start_of it.name.span.range) (left_by macro.is_several)) context
+-- what is known after a call that no macro expands: if its macro is left as it is, or is in scope but not exported, that is found
+abbrev pub left_behind : Call → (called unexported : Option Macro) → Context → Context
+left_behind it (Some macro) unexported context = with_finding (found_of it macro (start_of it.name.span.range) (left_by macro.is_several)) context
+left_behind it None (Some macro) context = with_finding (found_of it macro (start_of it.name.span.range) wrong.NotExported) context
+left_behind it None None context = context
+
+abbrev pub context_behind : Config → Call → Context → Context
+context_behind config it context = left_behind it (called_by config context it) (unexported_by config context it) context
 
 -- an expansion as a tree of its own, with the places of the call
 abbrev pub tree_of : (call : Delimiter) → Forest → Root
@@ -154,6 +173,8 @@ IsUnwritten call trees begin at wrong.NotWritable =
 IsUnwritten call trees begin at (wrong.Definition why) = ⊥
 IsUnwritten call trees begin at wrong.Left = ⊥
 IsUnwritten call trees begin at wrong.SeveralDefinitions = ⊥
+IsUnwritten call trees begin at wrong.NotExported = ⊥
+IsUnwritten call trees begin at (wrong.Captured binding) = ⊥
 IsUnwritten call trees begin at wrong.Conditional = ⊥
 IsUnwritten call trees begin at wrong.NoMatch = ⊥
 IsUnwritten call trees begin at (wrong.Ambiguous arm) = ⊥

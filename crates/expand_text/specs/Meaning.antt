@@ -11,15 +11,17 @@ use Rattle.tt.specs.Types.Span.{Span}
 use Rattle.expand_text.specs.declared.fault.MacroFault.{MacroFault}
 use Rattle.syntax_edit.specs.Places.{begin_at}
 use Rattle.expand_items.specs.declared.position.Position.{Position}
-use Rattle.expand_items.specs.Attributes.{item_at}
-use Rattle.expand_items.specs.Items.{Definition, Call, defines, calls, other}
+use Rattle.expand_items.specs.Conditions.{behind_leaf_under}
+use Rattle.expand_items.specs.Inactive.{IsItemAt}
+use Rattle.expand_items.specs.Items.{Definition, Call, defines, calls, inactive, other}
 use Rattle.expand_text.specs.Contexts.{Config, Context, with_finding}
 use Rattle.expand_text.specs.Macros.{IsRead, IsCallFault, MayBePut, called_by, arms_of, found_of, context_behind}
 use Rattle.expand_text.specs.Outcomes.{Outcome, nothing, passes, enters, stays, becomes, trees_left}
 use Rattle.expand_items.specs.Expressions.{without_semicolon}
-use Rattle.expand_items.specs.Positions.{enclosure, first_in, first_of_call, behind, behind_leaf, behind_subtree, keeps_macros, is_statement, takes_semicolon}
+use Rattle.expand_items.specs.Positions.{enclosure, first_in, first_of_call, behind, behind_subtree, keeps_macros, is_statement, takes_semicolon}
 use Rattle.expand_text.specs.Scopes.{Macro}
 use Rattle.expand_text.specs.CallSites.{CallSite, PutIn, IsKept}
+use Rattle.expand_text.specs.Capturing.{IsCaptureFound}
 use Rattle.mbe_rules.specs.Arms.{Arm}
 use Rattle.mbe_rules.specs.Expansions.{IsExpansion}
 use Rattle.mbe_rules.specs.declared.macro_rules.Expansion.TheVariants as expansion
@@ -28,7 +30,7 @@ use Rattle.mbe_pattern.specs.Units.{front_trees, is_brace, is_at_punct}
 -- the first tree is taken as it is: no call is expanded any more, or it is one of the plain
 -- trees, or it begins neither a definition nor a call
 abbrev pub IsPlain : Config → Context → Position → (plain : ℕ) → Forest → Type 0
-IsPlain config context position plain trees = (context.is_over ≡ true) ⊎ ((0 < plain) ⊎ (item_at config.root position trees ≡ other))
+IsPlain config context position plain trees = (context.is_over ≡ true) ⊎ ((0 < plain) ⊎ IsItemAt config.known config.root position trees other)
 
 -- how many trees after a leaf begin no call: the name of a lifetime, or after a literal a `.` and the name of a field
 abbrev pub named_behind : Leaf → (rest : Forest) → ℕ
@@ -39,6 +41,17 @@ named_behind (leaf_of.Ident it) rest = 0
 -- how many of the next trees are taken as they are: those after this leaf that are no call, or the plain trees left, if more
 abbrev pub plain_behind : Leaf → (rest : Forest) → (plain : ℕ) → ℕ
 plain_behind it rest plain = max (plain - 1) (named_behind it rest)
+
+-- the first tree is a subtree or a `;`
+abbrev pub is_closing : Forest → Bool
+is_closing end = false
+is_closing (leaf it rest) = is_at_punct (codes ";") (leaf it rest)
+is_closing (node delimiter children rest) = true
+
+-- how many trees after an item or a statement of so many trees are taken as they are: none if that ends with a subtree or a `;`, and
+-- otherwise two, because its last token might be read together with them
+abbrev pub plain_behind_part : (len : ℕ) → (trees : Forest) → ℕ
+plain_behind_part len trees = if is_closing (after_trees (len - 1) trees) then 0 else 2
 
 -- what is known after a subtree: its macros are in scope if they are kept
 abbrev pub context_after : (are_kept : Bool) → (before inside : Context) → Context
@@ -119,7 +132,7 @@ pub data ExpandsTo (config : Config) : (in_text : Bool) → (limit : ℕ) → Po
   ends : {in_text : Bool} {limit plain : ℕ} {position : Position} {context : Context} → ExpandsTo config in_text limit position plain context end context nothing
   on_leaf : {in_text : Bool} {limit plain : ℕ} {position : Position} {context after : Context} {it : Leaf} {rest : Forest} {others : Outcome}
       → IsPlain config context position plain (leaf it rest)
-      → ExpandsTo config in_text limit (behind_leaf it rest position) (plain_behind it rest plain) context rest after others
+      → ExpandsTo config in_text limit (behind_leaf_under config.known it rest position) (plain_behind it rest plain) context rest after others
       → ExpandsTo config in_text limit position plain context (leaf it rest) after (passes it others)
   on_node : {in_text : Bool} {limit plain : ℕ} {position : Position} {context inside after : Context} {delimiter : Delimiter} {children rest : Forest} {held others : Outcome}
       → IsPlain config context position plain (node delimiter children rest)
@@ -128,58 +141,66 @@ pub data ExpandsTo (config : Config) : (in_text : Bool) → (limit : ℕ) → Po
       → ExpandsTo config in_text limit position plain context (node delimiter children rest) after (enters delimiter held others)
   on_definition : {in_text : Bool} {limit : ℕ} {position : Position} {context after : Context} {it : Definition} {trees : Forest} {others : Outcome} (inside : Context)
       → context.is_over ≡ false
-      → item_at config.root position trees ≡ defines it
+      → IsItemAt config.known config.root position trees (defines it)
       → IsRead config position.is_open it context inside
       → ExpandsTo config in_text limit (behind true position) 0 inside (after_trees it.len trees) after others
       → ExpandsTo config in_text limit position 0 context trees after (stays (front_trees it.len trees) others)
+  on_inactive : {in_text : Bool} {limit len : ℕ} {position : Position} {context after : Context} {trees : Forest} {others : Outcome}
+      → context.is_over ≡ false
+      → IsItemAt config.known config.root position trees (inactive len)
+      → ExpandsTo config in_text limit (behind true position) (plain_behind_part len trees) context (after_trees len trees) after others
+      → ExpandsTo config in_text limit position 0 context trees after (stays (front_trees len trees) others)
   on_other_call : {in_text : Bool} {limit : ℕ} {position : Position} {context after : Context} {it : Call} {trees : Forest} {others : Outcome}
       → context.is_over ≡ false
-      → item_at config.root position trees ≡ calls it
+      → IsItemAt config.known config.root position trees (calls it)
       → it.attributes ≡ 0
-      → arms_of (called_by config context.macros it) ≡ None
+      → arms_of (called_by config context it) ≡ None
       → config.everywhere ≡ false
-      → ExpandsTo config in_text limit (behind (is_brace it.delimiter.kind) position) 0 (context_behind it (called_by config context.macros it) context) (behind_call it trees) after others
+      → ExpandsTo config in_text limit (behind (is_brace it.delimiter.kind) position) 0 (context_behind config it context) (behind_call it trees) after others
       → ExpandsTo config in_text limit position 0 context trees after (stays (front_trees it.len trees) others)
   into_other_call : {in_text : Bool} {limit : ℕ} {position : Position} {context after : Context} {it : Call} {trees : Forest} {others : Outcome}
       → context.is_over ≡ false
-      → item_at config.root position trees ≡ calls it
+      → IsItemAt config.known config.root position trees (calls it)
       → it.attributes ≡ 0
-      → arms_of (called_by config context.macros it) ≡ None
+      → arms_of (called_by config context it) ≡ None
       → config.everywhere ≡ true
-      → ExpandsTo config in_text limit position it.len (context_behind it (called_by config context.macros it) context) trees after others
+      → ExpandsTo config in_text limit position it.len (context_behind config it context) trees after others
       → ExpandsTo config in_text limit position 0 context trees after others
   into_attributes : {in_text : Bool} {limit : ℕ} {position : Position} {context after : Context} {it : Call} {trees : Forest} {others : Outcome}
       → context.is_over ≡ false
-      → item_at config.root position trees ≡ calls it
+      → IsItemAt config.known config.root position trees (calls it)
       → 0 < it.attributes
-      → arms_of (called_by config context.macros it) ≡ None
+      → arms_of (called_by config context it) ≡ None
       → ExpandsTo config in_text limit position it.attributes context trees after others
       → ExpandsTo config in_text limit position 0 context trees after others
   on_faulty_call : {in_text : Bool} {limit : ℕ} {position : Position} {context after : Context} {it : Call} {macro : Macro} {arms : List Arm} {trees : Forest} {others : Outcome} (at : ℕ) (fault : MacroFault)
       → context.is_over ≡ false
-      → item_at config.root position trees ≡ calls it
-      → called_by config context.macros it ≡ Some macro
+      → IsItemAt config.known config.root position trees (calls it)
+      → called_by config context it ≡ Some macro
       → macro.arms ≡ Some arms
       → IsCallFault limit arms it at fault
       → ExpandsTo config in_text limit (behind (is_brace it.delimiter.kind) position) 0 (with_finding (found_of it macro at fault) context) (behind_call it trees) after others
       → ExpandsTo config in_text limit position 0 context trees after (stays (front_trees it.len trees) others)
-  on_call : {in_text : Bool} {limit : ℕ} {position : Position} {context inside after : Context} {it : Call} {arms : List Arm} {trees : Forest} {held others : Outcome} (tree : Root) (put : Forest)
+  on_call : {in_text : Bool} {limit : ℕ} {position : Position} {context noted inside after : Context} {it : Call} {macro : Macro} {arms : List Arm} {trees : Forest} {held others : Outcome} (tree : Root) (put : Forest)
       → context.is_over ≡ false
-      → item_at config.root position trees ≡ calls it
-      → arms_of (called_by config context.macros it) ≡ Some arms
+      → IsItemAt config.known config.root position trees (calls it)
+      → called_by config context it ≡ Some macro
+      → macro.arms ≡ Some arms
       → IsExpansion arms 0 0 it.input (expansion.Tree tree)
-      → ExpandsTo config false limit (begun_by position it trees) 0 context (body_in position it trees tree) inside held
+      → IsCaptureFound macro.defined_at it (begun_by position it trees) (body_in position it trees tree) context noted
+      → ExpandsTo config false limit (begun_by position it trees) 0 noted (body_in position it trees tree) inside held
       → PutIn in_text (site_in position it trees tree) (trees_left held) put
       → MayBePut in_text it.delimiter put
       → ExpandsTo config in_text (suc limit) (behind_in position it trees) 0 inside (rest_in position it trees) after others
       → ExpandsTo config in_text (suc limit) position 0 context trees after (becomes_in position it trees put others)
-  on_kept_call : {in_text : Bool} {limit : ℕ} {position : Position} {context inside after : Context} {it : Call} {macro : Macro} {arms : List Arm} {trees : Forest} {held others : Outcome} (tree : Root) (at : ℕ) (fault : MacroFault)
+  on_kept_call : {in_text : Bool} {limit : ℕ} {position : Position} {context noted inside after : Context} {it : Call} {macro : Macro} {arms : List Arm} {trees : Forest} {held others : Outcome} (tree : Root) (at : ℕ) (fault : MacroFault)
       → context.is_over ≡ false
-      → item_at config.root position trees ≡ calls it
-      → called_by config context.macros it ≡ Some macro
+      → IsItemAt config.known config.root position trees (calls it)
+      → called_by config context it ≡ Some macro
       → macro.arms ≡ Some arms
       → IsExpansion arms 0 0 it.input (expansion.Tree tree)
-      → ExpandsTo config false limit (begun_by position it trees) 0 context (body_in position it trees tree) inside held
+      → IsCaptureFound macro.defined_at it (begun_by position it trees) (body_in position it trees tree) context noted
+      → ExpandsTo config false limit (begun_by position it trees) 0 noted (body_in position it trees tree) inside held
       → IsKept in_text (site_in position it trees tree) (trees_left held) (start_of (begin_in it trees).range) at fault
       → ExpandsTo config in_text (suc limit) (behind_in position it trees) 0 (with_finding (found_of it macro at fault) inside) (rest_in position it trees) after others
       → ExpandsTo config in_text (suc limit) position 0 context trees after (stays_in position it trees others)

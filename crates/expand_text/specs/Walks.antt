@@ -20,14 +20,16 @@ use Rattle.expand_text.specs.declared.walk.Event.TheVariants as event
 use Rattle.expand_text.specs.declared.walk.Invocation.{Invocation}
 use Rattle.expand_text.specs.declared.walk.Level as rust
 use Rattle.expand_text.specs.declared.walk.Walk.{Walk}
-use Rattle.expand_text.specs.Meaning.{ExpandsTo, body, plain_behind, takes_in}
-use Rattle.expand_items.specs.Attributes.{item_at}
+use Rattle.expand_text.specs.Meaning.{ExpandsTo, body, plain_behind, plain_behind_part, takes_in}
+use Rattle.expand_items.specs.Cfg.{Known}
+use Rattle.expand_items.specs.Conditions.{behind_leaf_under}
+use Rattle.expand_items.specs.Inactive.{IsItemAt}
 use Rattle.expand_items.specs.Items.{Item, Call}
 use Rattle.expand_text.specs.Contexts.{Config, Context, IsContext, with_finding, left_in_scope}
 use Rattle.expand_text.specs.Macros.{MayBePut}
 use Rattle.expand_text.specs.Outcomes.{Outcome, nothing, passes, enters, stays, becomes, trees_left}
 use Rattle.expand_text.specs.CallSites.{CallSite, PutIn, IsKept}
-use Rattle.expand_items.specs.Positions.{first_in, behind, behind_leaf, behind_subtree, keeps_macros}
+use Rattle.expand_items.specs.Positions.{first_in, behind, behind_subtree, keeps_macros}
 
 -- the trees of a subtree that are left, the position before them, how many are taken as they are, where the subtree closes, and how many
 -- macros stay in scope after it, if not all
@@ -46,11 +48,11 @@ abbrev pub levels_of : Walk → List Level
 levels_of walk = level_of walk.level ∷ map level_of (reverse walk.outer.items)
 
 -- the first tree is passed: a leaf, or a subtree of a kind
-abbrev pub past_leaf : Leaf → Level → Level
-past_leaf it level =
+abbrev pub past_leaf : Known → Leaf → Level → Level
+past_leaf known it level =
     record level {
       rest = after_tree level.rest;
-      position = behind_leaf it (after_tree level.rest) level.position;
+      position = behind_leaf_under known it (after_tree level.rest) level.position;
       plain = plain_behind it (after_tree level.rest) level.plain;
     }
 
@@ -68,6 +70,11 @@ past_semicolon takes level =
       rest = if takes then after_tree level.rest else level.rest;
       position = if takes then behind true level.position else level.position;
     }
+
+-- an item or a statement of so many trees is passed
+abbrev pub past_part : (len : ℕ) → Level → Level
+past_part len level =
+    record level { rest = after_trees len level.rest; position = behind true level.position; plain = plain_behind_part len level.rest }
 
 -- a call is passed, and the `;` after it if that is a part of it
 abbrev pub past_call : Call → Level → Level
@@ -198,11 +205,11 @@ Goes may config limit old before it new after =
     → (others : Context) × IsContext others after × ((in_text : Bool) → IsNext config in_text limit (levels_of old) context it (levels_of new) others)
 
 -- the item comes first
-abbrev pub IsFirst : Item → (root : List ℕ) → Walk → Type 0
-IsFirst it root walk = item_at root walk.level.position (rest_of walk.level.rest) ≡ it
+abbrev pub IsFirst : Item → Config → Walk → Type 0
+IsFirst it config walk = IsItemAt config.known config.root walk.level.position (rest_of walk.level.rest) it
 
 -- the item comes first, no tree is to be taken as it is, and calls are still expanded
 pub record IsAtItem (it : Item) (config : Config) (walk : Walk) (context : Context) : Type 0 where
   pub first : walk.level.plain ≡ 0
   pub goes_on : context.is_over ≡ false
-  pub item : IsFirst it config.root walk
+  pub item : IsFirst it config walk

@@ -1,11 +1,11 @@
 //! What a call expands to.
-ghost use Rattle.std.specs.Prelude.{◌≡◌, List, IfOk, OnOk, is_some, option_copied};
+ghost use Rattle.std.specs.Prelude.{◌≡◌, List, None, IfOk, OnOk, is_some, option_copied};
 ghost use Rattle.tt.specs.Iters.{rest_of};
 ghost use Rattle.expand_text.specs.Calling.{IsMade, IsMadeWithin, IsCalled, IsCalledWithin};
 ghost use Rattle.expand_items.specs.Items.{call_of};
-ghost use Rattle.expand_text.specs.Contexts.{Learns, config_of};
-ghost use Rattle.expand_text.specs.Macros.{arms_of, called_by, left_by};
-ghost use Rattle.expand_text.specs.Scopes.{Macro as MacroOf, AreReady, IsReadyIf};
+ghost use Rattle.expand_text.specs.Contexts.{Context as ContextOf, IsContext, Learns, config_of};
+ghost use Rattle.expand_text.specs.Macros.{arms_of, called_by, left_behind, left_by, unexported_by};
+ghost use Rattle.expand_text.specs.Scopes.{IsReadyIf};
 ghost use Rattle.mbe_rules.specs.Arms.{Arm};
 ghost use Rattle.mbe_rules.specs.Expansions.{AreMade};
 
@@ -14,8 +14,8 @@ use crate::context::Context;
 use crate::fault::MacroFault;
 use crate::memory::OutOfMemory;
 use crate::places::start_at;
-use crate::scope::{Macro, Scope};
-use expand_items::Call;
+use crate::scope::Macro;
+use expand_items::{Call, MacroPath};
 use mbe_rules::{Expansion, MacroRules, TranscribeError};
 use std::alloc::Global;
 use syntax_edit::start_of;
@@ -79,30 +79,64 @@ fn left_by(is_several: bool) -> MacroFault
     }
 }
 
-// Returns the macro that a call names, if it is in scope.
-fn called_by<'k>(config: &Config, scope: &'k Scope, call: &Call<'_>) -> Option<&'k Macro>
-    ensures { (macros : List MacroOf) → AreReady macros scope.now.macros.items → IsReadyIf (called_by (config_of config.now) macros (call_of call.now)) (option_copied result) }
+// Returns the macro that a call names, if macros of that name are expanded.
+fn called_by<'k>(config: &Config<'_>, context: &'k Context, call: &Call<'_>) -> Option<&'k Macro>
+    ensures { (known : ContextOf) → IsContext known context.now → IsReadyIf (called_by (config_of config.now) known (call_of call.now)) (option_copied result) }
 {
-    if call.is_elsewhere || !config.asks_for(&call.name.sym) {
-        None
+    let name = &call.name.sym;
+    if !config.asks_for(name) {
+        return None;
+    }
+    match call.path {
+        MacroPath::Name => context.scope.last(name),
+        MacroPath::Root => context.exported.last(name),
+        MacroPath::Other => None,
+    }
+}
+
+// Returns the macro in scope that a call would name without the crate's root before its name.
+fn unexported_by<'k>(config: &Config<'_>, context: &'k Context, call: &Call<'_>) -> Option<&'k Macro>
+    ensures { (known : ContextOf) → IsContext known context.now → IsReadyIf (unexported_by (config_of config.now) known (call_of call.now)) (option_copied result) }
+{
+    let name = &call.name.sym;
+    if config.asks_for(name) && call.path == MacroPath::Root {
+        context.scope.last(name)
     } else {
-        scope.last(&call.name.sym)
+        None
     }
 }
 
 /// Returns whether arms expand the call.
-pub(crate) fn is_expanded(config: &Config, scope: &Scope, call: &Call<'_>) -> bool
-    ensures { (macros : List MacroOf) → AreReady macros scope.now.macros.items → result ≡ is_some (arms_of (called_by (config_of config.now) macros (call_of call.now))) }
+pub(crate) fn is_expanded(config: &Config<'_>, context: &Context, call: &Call<'_>) -> bool
+    ensures { (known : ContextOf) → IsContext known context.now → result ≡ is_some (arms_of (called_by (config_of config.now) known (call_of call.now))) }
 {
-    match called_by(config, scope, call) {
+    match called_by(config, context, call) {
         Some(it) => it.rules.is_some(),
         None => false,
     }
 }
 
-/// Expands a call, with at most `limit` nested expansions. Adds a finding if the call has a fault, or if its macro is left as it is.
+// Adds a finding if a call that names no macro would name one in scope without the crate's root before its name.
+fn find_unexported(
+    config: &Config<'_>,
+    context: &mut Context,
+    call: &Call<'_>,
+) -> Result<(), OutOfMemory>
+    ensures { OnOk result ((known : ContextOf) → IsContext known context.old → IsContext (left_behind (call_of call.now) None (unexported_by (config_of config.now) known (call_of call.now)) known) context.new) }
+{
+    let Some(it) = unexported_by(config, context, call) else {
+        return Ok(());
+    };
+    let defined_at = it.defined_at;
+    let at = start_of(call.name.span);
+    context.find(&call.name.sym, at, MacroFault::NotExported, Some(defined_at))?;
+    Ok(())
+}
+
+/// Expands a call, with at most `limit` nested expansions. Adds a finding if the call has a fault, if its macro is left as it is, or if its
+/// macro is in scope but not exported.
 pub(crate) fn expand_call(
-    config: &Config,
+    config: &Config<'_>,
     context: &mut Context,
     limit: usize,
     call: &Call<'_>,
@@ -112,7 +146,8 @@ pub(crate) fn expand_call(
 {
     let name = &call.name.sym;
     let at = start_of(call.name.span);
-    let Some(it) = called_by(config, &context.scope, call) else {
+    let Some(it) = called_by(config, context, call) else {
+        find_unexported(config, context, call)?;
         return Ok(Called::Other);
     };
     let defined_at = it.defined_at;

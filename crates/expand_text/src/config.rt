@@ -2,13 +2,16 @@
 ghost use Rattle.std.specs.Prelude.{◌≡◌};
 ghost use Rattle.expand_text.specs.Contexts.{asks_for};
 
+use expand_items::CfgOptions;
 use std::alloc::Global;
 use tt::Symbol;
 
 /// The setting of a walk, and the allocator.
 #[derive(Drop)]
-pub(crate) struct Config {
+pub(crate) struct Config<'a> {
     pub(crate) alloc: Global,
+    /// What is known of the conditions `#[cfg(..)]`.
+    pub(crate) cfg: &'a CfgOptions,
     /// The word that `$crate` becomes.
     pub(crate) root: Symbol,
     /// Whether the walk enters calls that are not expanded.
@@ -17,7 +20,7 @@ pub(crate) struct Config {
     pub(crate) only: Option<Symbol>,
 }
 
-impl Config {
+impl<'a> Config<'a> {
     /// Returns whether macros of that name are read and expanded.
     pub(crate) fn asks_for(&self, name: &Symbol) -> bool
         ensures { result ≡ asks_for self.now.only name.now }

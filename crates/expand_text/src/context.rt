@@ -1,6 +1,7 @@
-//! The state of an expansion: the macros in scope, and the findings.
-ghost use Rattle.std.specs.Prelude.{◌≡◌, IfOk, OnOk};
+//! The state of an expansion: the macros in scope and those that the crate exports, and the findings.
+ghost use Rattle.std.specs.Prelude.{◌≡◌, List, IfOk, OnOk};
 ghost use Rattle.tt.specs.Iters.{rest_of};
+ghost use Rattle.expand_text.specs.Scopes.{Macro, AreReady};
 ghost use Rattle.expand_text.specs.Contexts.{Context as ContextOf, IsContext, new_context, with_finding, left_in_scope, config_of};
 
 use crate::fault::{Finding, MacroFault};
@@ -12,6 +13,8 @@ use tt::Symbol;
 #[derive(Drop)]
 pub(crate) struct Context {
     pub(crate) scope: Scope,
+    /// The macros that the crate exports.
+    pub(crate) exported: Scope,
     /// The findings, in order.
     pub(crate) findings: Vec<Finding>,
     /// Whether no call is expanded any more, because the expansions were nested too deeply.
@@ -19,12 +22,13 @@ pub(crate) struct Context {
 }
 
 impl Context {
-    /// Returns the empty state.
-    pub(crate) fn new(alloc: Global) -> Context
-        ensures { IsContext new_context result }
+    /// Returns the state before the first tree of a crate that exports these macros.
+    pub(crate) fn new(alloc: Global, exported: Scope) -> Context
+        ensures { (macros : List Macro) → AreReady macros exported.entry.macros.items → IsContext (new_context macros) result }
     {
         Context {
             scope: Scope::new(alloc),
+            exported,
             findings: Vec::new(alloc),
             is_over: false,
         }

@@ -28,7 +28,7 @@ pub(crate) enum Rules {
 }
 
 // Reads the rules of a definition, with the root's word for each `$crate`.
-fn rules_of(config: &Config, definition: &Definition<'_>) -> Result<Rules, OutOfMemory>
+fn rules_of(config: &Config<'_>, definition: &Definition<'_>) -> Result<Rules, OutOfMemory>
     ensures { IfOk result (IsRules (definition_of definition.now) (rooted config.now.root (rest_of definition.now.arms))) }
 {
     let delimiter = definition.header.delimiter;
@@ -77,7 +77,7 @@ fn unless_several(is_several: bool, rules: MacroRules) -> Option<MacroRules>
 // Adds the macro to the scope, whose definition is under a condition if `is_open`. It is left as it is if another macro of its name is in
 // scope then. If the definition has a fault, adds a finding too, and the macro is left as it is.
 fn define(
-    config: &Config,
+    config: &Config<'_>,
     context: &mut Context,
     is_open: bool,
     definition: &Definition<'_>,
@@ -107,7 +107,7 @@ fn define(
 
 /// Adds the macro to the scope, if the options ask for macros of its name. Its definition is under a condition if `is_open`.
 pub(crate) fn read_definition(
-    config: &Config,
+    config: &Config<'_>,
     context: &mut Context,
     is_open: bool,
     definition: &Definition<'_>,

@@ -18,7 +18,7 @@ use tt::{Delimiter, DelimiterKind, Refused, Span, TopSubtreeBuilder, TtFault, Tt
 // Adds what a call with attributes expands to, each part under their conditions; or returns why that is impossible.
 #[cycle(expansion)]
 fn expand_under(
-    config: &Config,
+    config: &Config<'_>,
     context: &mut Context,
     limit: usize,
     invocation: &Invocation<'_>,
@@ -87,7 +87,7 @@ fn brackets_of(enclosure: Enclosure) -> Option<DelimiterKind>
 /// does not fit there.
 #[cycle(expansion)]
 pub(crate) fn expand_invocation(
-    config: &Config,
+    config: &Config<'_>,
     context: &mut Context,
     limit: usize,
     invocation: &Invocation<'_>,
@@ -118,7 +118,7 @@ pub(crate) fn expand_invocation(
 // does not fit there, adds the call itself and a finding.
 #[cycle(expansion)]
 fn pass_call(
-    config: &Config,
+    config: &Config<'_>,
     context: &mut Context,
     limit: usize,
     invocation: &Invocation<'_>,
@@ -141,7 +141,7 @@ fn pass_call(
 /// itself for each expansion, so at most `limit` deep.
 #[cycle(expansion)]
 pub(crate) fn expand_trees(
-    config: &Config,
+    config: &Config<'_>,
     context: &mut Context,
     limit: usize,
     position: Position,

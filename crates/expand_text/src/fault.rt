@@ -22,6 +22,14 @@ pub enum MacroFault {
     /// which of them holds. The byte is the beginning of the call's name.
     #[error("several definitions of it are in scope")]
     SeveralDefinitions,
+    /// The call has the crate's root before its name, and a macro of that name is in scope, but none is under `#[macro_export]`. The call is
+    /// left as it is. The byte is the beginning of the call's name.
+    #[error("no macro of its name is exported")]
+    NotExported,
+    /// The expansion binds a local or a label whose name is in the input of the call, so that in the text the two are one. The byte is that
+    /// of the name in the input; the payload is the byte at which the macro binds it.
+    #[error("its result binds a name of its input")]
+    Captured(u32),
     /// The call is under `#[cfg(..)]`, and its expansion is empty, or no run of items or statements that can each have that condition. It
     /// is left as it is. The byte is the beginning of the call.
     #[error("its result cannot have its condition before each part")]
@@ -81,13 +89,17 @@ pub enum ExpandTextError {
 }
 
 impl MacroFault {
-    /// Returns whether this is a warning: there is no fault, but something is left as it is.
+    /// Returns whether this is a warning: there is no fault, but something is left as it is, or may mean something else than before.
     pub fn is_warning(&self) -> bool
         ensures { result ≡ is_warning self.now }
     {
         matches!(
             self,
-            MacroFault::Left | MacroFault::SeveralDefinitions | MacroFault::Conditional
+            MacroFault::Left
+                | MacroFault::SeveralDefinitions
+                | MacroFault::NotExported
+                | MacroFault::Captured(_)
+                | MacroFault::Conditional
         )
     }
 

@@ -14,10 +14,12 @@
 #![tactic(auto)]
 
 mod calling;
+mod capturing;
 mod config;
 mod context;
 mod defining;
 mod expanding;
+mod exports;
 mod fault;
 pub mod laws;
 mod memory;

@@ -80,7 +80,7 @@ fn write_loosened(
 
 // Returns the text of what a call expands to, or why it has none.
 fn invocation_text(
-    config: &Config,
+    config: &Config<'_>,
     context: &mut Context,
     limit: usize,
     invocation: &Invocation<'_>,
@@ -111,7 +111,7 @@ fn invocation_text(
 
 // Expands a call with at most `limit` nested expansions, and writes the result in its place. Adds a finding if there is no text.
 fn write_invocation(
-    config: &Config,
+    config: &Config<'_>,
     context: &mut Context,
     limit: usize,
     invocation: &Invocation<'_>,
@@ -136,7 +136,7 @@ fn write_invocation(
 
 // Writes the expansion if the event is a call; all other trees stay as they are. Returns whether the walk goes on.
 fn write_event(
-    config: &Config,
+    config: &Config<'_>,
     context: &mut Context,
     limit: usize,
     event: Event<'_>,
@@ -158,7 +158,7 @@ fn write_event(
 
 /// Returns the text with each call replaced by its expansion.
 pub(crate) fn expand_source(
-    config: &Config,
+    config: &Config<'_>,
     context: &mut Context,
     limit: usize,
     source: &str,

@@ -5,6 +5,7 @@ ghost use Rattle.expand_text.specs.Contexts.{config_of};
 
 use crate::config::Config;
 use crate::context::Context;
+use crate::exports::exported_macros;
 use crate::fault::{ExpandTextError, Finding};
 use crate::memory::OutOfMemory;
 use crate::options::ExpandOptions;
@@ -23,7 +24,7 @@ pub struct Expanded {
 }
 
 // Returns the setting of these options.
-fn config_by(alloc: Global, options: ExpandOptions<'_>) -> Result<Config, OutOfMemory>
+fn config_by<'a>(alloc: Global, options: ExpandOptions<'a>) -> Result<Config<'a>, OutOfMemory>
     ensures { IfOk result (λ config. config_of config ≡ config_by options.entry) }
 {
     let only = match options.only {
@@ -32,6 +33,7 @@ fn config_by(alloc: Global, options: ExpandOptions<'_>) -> Result<Config, OutOfM
     };
     Ok(Config {
         alloc,
+        cfg: options.cfg,
         root: Symbol::new(alloc, options.root)?,
         everywhere: options.everywhere,
         only,
@@ -52,7 +54,8 @@ pub fn expand_leniently(
 {
     let tree = parse(alloc, text)?;
     let config = config_by(alloc, options)?;
-    let mut context = Context::new(alloc);
+    let exported = exported_macros(&config, &tree)?;
+    let mut context = Context::new(alloc, exported);
     let text = expand_source(&config, &mut context, options.limit, text, &tree)?;
     Ok(Expanded {
         text,

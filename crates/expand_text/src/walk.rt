@@ -2,21 +2,24 @@
 ghost use Rattle.std.specs.Prelude.{◌≡◌, ◌∷◌, [], ℕ, IfOk, OnOk, if◌then◌else◌};
 ghost use Rattle.tt.specs.Iters.{rest_of};
 ghost use Rattle.tt.specs.Views.{trees_of};
-ghost use Rattle.expand_text.specs.Meaning.{begin_in, body, named_behind, IsPlain};
+ghost use Rattle.expand_text.specs.Meaning.{begin_in, body, named_behind, plain_behind_part, IsPlain};
 ghost use Rattle.syntax_edit.specs.Places.{begin_at};
 ghost use Rattle.expand_items.specs.Items.{defines, calls, definition_of, call_of};
-ghost use Rattle.expand_text.specs.Contexts.{Config as ConfigOf, config_of};
-ghost use Rattle.expand_text.specs.Passing.{IsStay, IsInvoked};
+ghost use Rattle.expand_text.specs.Contexts.{config_of};
+ghost use Rattle.expand_text.specs.Passing.{IsPartPassed, IsStay, IsInvoked};
 ghost use Rattle.tt.specs.Gluing.{after_trees};
 ghost use Rattle.expand_text.specs.Walks.{body_of, site_of, level_of, levels_of, past_leaf, past_subtree, past, past_semicolon, begun, entered, IsLeft, IsAtItem, IsFirst, IsWithin, Steps, Goes};
 ghost use Rattle.mbe_pattern.specs.Units.{front_trees};
 
 use crate::calling::{Called, expand_call, is_expanded};
+use crate::capturing::find_capture;
 use crate::config::Config;
 use crate::context::Context;
 use crate::defining::read_definition;
 use crate::memory::OutOfMemory;
-use expand_items::{Call, Definition, Enclosure, Item, Position, item_at, without_semicolon};
+use expand_items::{
+    Call, Definition, Enclosure, Item, Position, is_open_condition, item_at, without_semicolon,
+};
 use mbe_pattern::{is_at_punct, pass, take};
 use std::alloc::{AllocError, Global};
 use syntax_edit::begin_at;
@@ -94,14 +97,16 @@ fn named_behind(leaf: &Leaf, behind: TtIter<'_>) -> usize
 
 impl<'a> Level<'a> {
     // Passes the first tree, a leaf.
-    fn pass_leaf(&mut self, leaf: &Leaf)
-        ensures { level_of self.new ≡ past_leaf leaf.now (level_of self.old) }
+    fn pass_leaf(&mut self, config: &Config<'_>, leaf: &Leaf) -> Result<(), AllocError>
+        ensures { OnOk result (level_of self.new ≡ past_leaf config.now.cfg.now leaf.now (level_of self.old)) }
     {
         self.rest.next();
         let behind = self.rest.remaining();
+        let is_open = is_open_condition(config.alloc, config.cfg, leaf, behind.iter())?;
         let left = self.plain.saturating_sub(1);
         self.plain = left.max(named_behind(leaf, behind.iter()));
-        self.position = self.position.behind_leaf(leaf, behind.iter());
+        self.position = self.position.behind_leaf(leaf, behind.iter(), is_open);
+        Ok(())
     }
 
     // Passes the first tree, a subtree of that kind.
@@ -235,10 +240,14 @@ impl<'a> Walk<'a> {
 }
 
 // Takes the first tree as it is, or ends a level.
-fn next_tree<'a>(walk: &mut Walk<'a>, context: &mut Context) -> Result<Event<'a>, AllocError>
+fn next_tree<'a>(
+    walk: &mut Walk<'a>,
+    config: &Config<'_>,
+    context: &mut Context,
+) -> Result<Event<'a>, AllocError>
     ensures limit { IfOk result (λ event. (limit : ℕ) → IsWithin limit event) }
     ensures steps { IfOk result (λ event. Steps (levels_of walk.old) event (levels_of walk.new)) }
-    ensures next { IfOk result (λ event. (config : ConfigOf) (limit : ℕ) → Goes (λ before. IsPlain config before walk.old.level.position walk.old.level.plain (rest_of walk.old.level.rest)) config limit walk.old context.old event walk.new context.new) }
+    ensures next { IfOk result (λ event. (limit : ℕ) → Goes (λ before. IsPlain (config_of config.now) before walk.old.level.position walk.old.level.plain (rest_of walk.old.level.rest)) (config_of config.now) limit walk.old context.old event walk.new context.new) }
 {
     match walk.level.rest.peek() {
         None => {
@@ -249,7 +258,7 @@ fn next_tree<'a>(walk: &mut Walk<'a>, context: &mut Context) -> Result<Event<'a>
             }
         }
         Some(TtElement::Leaf(leaf)) => {
-            walk.level.pass_leaf(&leaf);
+            walk.level.pass_leaf(config, &leaf)?;
             Ok(Event::Leaf(leaf))
         }
         Some(TtElement::Subtree(header, children)) => {
@@ -262,12 +271,12 @@ fn next_tree<'a>(walk: &mut Walk<'a>, context: &mut Context) -> Result<Event<'a>
 // Passes the definition that comes first, and adds it to the scope.
 fn next_definition<'a>(
     walk: &mut Walk<'a>,
-    config: &Config,
+    config: &Config<'_>,
     context: &mut Context,
     definition: &Definition<'a>,
 ) -> Result<Event<'a>, OutOfMemory>
     ensures limit { IfOk result (λ event. (limit : ℕ) → IsWithin limit event) }
-    ensures steps { IfOk result (λ event. IsFirst (defines (definition_of definition.now)) config.now.root walk.old → Steps (levels_of walk.old) event (levels_of walk.new)) }
+    ensures steps { IfOk result (λ event. IsFirst (defines (definition_of definition.now)) (config_of config.now) walk.old → Steps (levels_of walk.old) event (levels_of walk.new)) }
     ensures next { IfOk result (λ event. (limit : ℕ) → Goes (IsAtItem (defines (definition_of definition.now)) (config_of config.now) walk.old) (config_of config.now) limit walk.old context.old event walk.new context.new) }
 {
     let is_open = walk.level.position.is_open();
@@ -275,12 +284,35 @@ fn next_definition<'a>(
     Ok(Event::Stays(walk.level.take_all(definition.len, true)))
 }
 
+// Returns how many trees after an item or a statement of so many trees are taken as they are.
+fn plain_behind_part(len: usize, mut trees: TtIter<'_>) -> usize
+    ensures { result ≡ plain_behind_part len (rest_of trees.entry) }
+{
+    pass(&mut trees, len.saturating_sub(1));
+    let is_closing = match trees.next() {
+        Some(TtElement::Subtree(_, _)) => true,
+        Some(TtElement::Leaf(Leaf::Punct(punct))) => punct.char == ';',
+        _ => false,
+    };
+    if is_closing { 0 } else { 2 }
+}
+
+// Passes the item or the statement that comes first, which is under a false condition.
+fn next_inactive<'a>(walk: &mut Walk<'a>, len: usize) -> TokenTreesView<'a>
+    ensures { IsPartPassed len walk.old result walk.new }
+{
+    let plain = plain_behind_part(len, walk.level.rest.remaining().iter());
+    let trees = walk.level.take_all(len, true);
+    walk.level.plain = plain;
+    trees
+}
+
 // Passes the call that comes first, which stays as it is.
-fn stay<'a>(walk: &mut Walk<'a>, call: &Call<'a>) -> Event<'a>
+fn stay<'a>(walk: &mut Walk<'a>, call: &Call<'a>) -> TokenTreesView<'a>
     ensures { IsStay (call_of call.now) walk.old result walk.new }
 {
     let ends = call.header.delimiter.kind == DelimiterKind::Brace;
-    Event::Stays(walk.level.take_all(call.len, ends))
+    walk.level.take_all(call.len, ends)
 }
 
 // Returns what an arm made of a call: without a `;` at the end, if that is an expression.
@@ -300,8 +332,8 @@ fn invoke<'a>(
     call: &Call<'a>,
     tree: TopSubtree,
     defined_at: u32,
-) -> Result<Event<'a>, AllocError>
-    ensures { IfOk result (λ event. IsInvoked (call_of call.now) tree defined_at walk.old event walk.new) }
+) -> Result<Invocation<'a>, AllocError>
+    ensures { IfOk result (λ invocation. IsInvoked (call_of call.now) tree defined_at walk.old invocation walk.new) }
 {
     let name = call.name.sym.clone()?;
     let delimiter = call.header.delimiter;
@@ -317,7 +349,7 @@ fn invoke<'a>(
     let enclosure = position.enclosure(attributes, kind, behind.iter(), expansion);
     let takes = position.takes_semicolon(kind, behind.iter());
     let last_span = walk.level.pass_semicolon(takes, delimiter.close);
-    Ok(Event::Invocation(Invocation {
+    Ok(Invocation {
         name,
         defined_at,
         whole: walk.level.rest.from_savepoint(start),
@@ -329,34 +361,38 @@ fn invoke<'a>(
         enclosure,
         position: position.first_of_call(attributes, kind, behind.iter()),
         tree,
-    }))
+    })
 }
 
 // Passes the call that comes first, or enters it or the attributes before it.
 fn next_call<'a>(
     walk: &mut Walk<'a>,
-    config: &Config,
+    config: &Config<'_>,
     context: &mut Context,
     limit: usize,
     call: &Call<'a>,
 ) -> Result<Event<'a>, OutOfMemory>
     ensures limit { IfOk result (IsWithin limit) }
-    ensures steps { IfOk result (λ event. IsFirst (calls (call_of call.now)) config.now.root walk.old → Steps (levels_of walk.old) event (levels_of walk.new)) }
+    ensures steps { IfOk result (λ event. IsFirst (calls (call_of call.now)) (config_of config.now) walk.old → Steps (levels_of walk.old) event (levels_of walk.new)) }
     ensures next { IfOk result (λ event. Goes (IsAtItem (calls (call_of call.now)) (config_of config.now) walk.old) (config_of config.now) limit walk.old context.old event walk.new context.new) }
 {
-    if call.attributes > 0 && !is_expanded(config, &context.scope, call) {
+    if call.attributes > 0 && !is_expanded(config, context, call) {
         walk.level.plain = call.attributes;
-        return Ok(next_tree(walk, context)?);
+        return Ok(next_tree(walk, config, context)?);
     }
     match expand_call(config, context, limit, call)? {
-        Called::Tree(tree, defined_at) => Ok(invoke(walk, call, tree, defined_at)?),
-        Called::Faulty => Ok(stay(walk, call)),
+        Called::Tree(tree, defined_at) => {
+            let invocation = invoke(walk, call, tree, defined_at)?;
+            find_capture(config, context, call, &invocation)?;
+            Ok(Event::Invocation(invocation))
+        }
+        Called::Faulty => Ok(Event::Stays(stay(walk, call))),
         Called::Other => {
             if config.everywhere {
                 walk.level.plain = call.len;
-                Ok(next_tree(walk, context)?)
+                Ok(next_tree(walk, config, context)?)
             } else {
-                Ok(stay(walk, call))
+                Ok(Event::Stays(stay(walk, call)))
             }
         }
     }
@@ -365,7 +401,7 @@ fn next_call<'a>(
 /// Returns the next event, with at most `limit` nested expansions. A definition is in scope from then on.
 pub(crate) fn next<'a>(
     walk: &mut Walk<'a>,
-    config: &Config,
+    config: &Config<'_>,
     context: &mut Context,
     limit: usize,
 ) -> Result<Event<'a>, OutOfMemory>
@@ -374,12 +410,20 @@ pub(crate) fn next<'a>(
     ensures next { IfOk result (λ event. Goes (λ _. Unit {0}) (config_of config.now) limit walk.old context.old event walk.new context.new) }
 {
     if walk.level.plain > 0 || context.is_over {
-        return Ok(next_tree(walk, context)?);
+        return Ok(next_tree(walk, config, context)?);
     }
+    let position = walk.level.position;
     let trees = walk.level.rest.remaining().iter();
-    match item_at(walk.level.position, trees, config.root.as_str()) {
+    match item_at(
+        config.alloc,
+        config.cfg,
+        position,
+        trees,
+        config.root.as_str(),
+    )? {
         Item::Definition(definition) => next_definition(walk, config, context, &definition),
         Item::Call(call) => next_call(walk, config, context, limit, &call),
-        Item::Other => Ok(next_tree(walk, context)?),
+        Item::Inactive(len) => Ok(Event::Stays(next_inactive(walk, len))),
+        Item::Other => Ok(next_tree(walk, config, context)?),
     }
 }

@@ -1,14 +1,25 @@
-use Rattle.std.proofs.Common.{rules, ◌≡◌, true, false, None, sym, subst, cond, option_copied}
+use Rattle.std.proofs.Common.{rules, ◌≡◌, true, None, sym, subst, cond, option_copied}
+use Rattle.expand_items.specs.declared.item.MacroPath.TheVariants as path
 use Rattle.expand_text.specs.Contexts.{asks_for}
+use Rattle.expand_text.specs.Macros.{named_by}
 use Rattle.expand_text.specs.Scopes.{IsReadyIf, last_named}
 use Rattle.expand_text.proofs.Readiness.{ready_last}
 use Rattle.expand_text.proofs.calling.called_by.Goals as goal
 
-pub returns-else-not-asks_for : goal.returns-else-not-asks_for
-returns-else-not-asks_for c macros are =
+pub returns-in-Name : goal.returns-in-Name
+returns-in-Name c known is =
     let name = c.args.call.now.name.sym in
-    let here : c.args.call.now.is_elsewhere ≡ false = search rules in
     let asked : asks_for c.args.config.now.only name ≡ true = search rules in
-    subst (λ e. IsReadyIf (cond e None (cond (asks_for c.args.config.now.only name) (last_named name macros) None)) (option_copied c.last.result)) (sym here)
-    (subst (λ a. IsReadyIf (cond a (last_named name macros) None) (option_copied c.last.result)) (sym asked)
-    (subst (IsReadyIf (last_named name macros)) (sym c.last.ensures) (ready_last name macros c.args.scope.now.macros.items are)))
+    let way : c.args.call.now.path ≡ path.Name = search rules in
+    subst (λ a. IsReadyIf (cond a (named_by c.args.call.now.path name known) None) (option_copied c.last.result)) (sym asked)
+    (subst (λ w. IsReadyIf (named_by w name known) (option_copied c.last.result)) (sym way)
+    (subst (IsReadyIf (last_named name known.macros)) (sym c.last.ensures) (ready_last name known.macros c.args.context.now.scope.macros.items is.macros)))
+
+pub returns-in-Root : goal.returns-in-Root
+returns-in-Root c known is =
+    let name = c.args.call.now.name.sym in
+    let asked : asks_for c.args.config.now.only name ≡ true = search rules in
+    let way : c.args.call.now.path ≡ path.Root = search rules in
+    subst (λ a. IsReadyIf (cond a (named_by c.args.call.now.path name known) None) (option_copied c.last-in-Root.result)) (sym asked)
+    (subst (λ w. IsReadyIf (named_by w name known) (option_copied c.last-in-Root.result)) (sym way)
+    (subst (IsReadyIf (last_named name known.exported)) (sym c.last-in-Root.ensures) (ready_last name known.exported c.args.context.now.exported.macros.items is.exported)))

@@ -41,6 +41,7 @@ returns c context is =
                   subst (AreReady (context.macros ++ found ∷ [])) (sym more)
                   (ready_more context.macros c.match-branch-3.context.scope.macros.items found made before
                   (record { name = name; defined_at = place; is_several = w.is_several-is ∙ same; rules = rules_are }));
+              exported = subst (λ k. AreReady context.exported k.exported.macros.items) (sym w.context-is) is.exported;
               findings = ap (λ k. k.findings.items) w.context-is ∙ is.findings;
               is_over = ap (λ k. k.is_over) w.context-is ∙ is.is_over;
             },
@@ -61,6 +62,7 @@ returns c context is =
                   subst (AreReady (then.macros ++ macro_of it false None ∷ [])) (sym more)
                   (ready_more then.macros c.match-branch-3.context.scope.macros.items (macro_of it false None) made found.macros
                   (record { name = name; defined_at = place; is_several = w.is_several-is; rules = rules_are }));
+              exported = found.exported;
               findings = found.findings;
               is_over = found.is_over;
             },

@@ -4,6 +4,7 @@ use Rattle.expand_text.specs.Meaning.{ExpandsTo}
 use Rattle.expand_text.specs.Expansion.{config_by, replacements}
 use Rattle.syntax_edit.specs.Places.{text_part}
 use Rattle.expand_text.specs.Contexts.{new_context}
+use Rattle.expand_text.specs.Exports.{AreExported}
 use Rattle.expand_items.specs.Positions.{begun as begun_among}
 use Rattle.expand_items.specs.declared.position.Siblings.TheVariants.{Items}
 use Rattle.syntax_edit.specs.Texts.{begun, with_all, FitAll}
@@ -25,9 +26,10 @@ returns-clause-ok c =
     let tree = c.in_ok-tree.tree in
     let options = c.args.options in
     let read : IsParse text_part text tree = c.in_ok-tree.ensures.ok in
-    let (after, ready, source) = c.in_ok-text.ensures new_context c.new-context.ensures in
-    let expands_to : ExpandsTo (config_by options) true options.limit (begun_among Items) 0 new_context tree.children after source.outcome =
-    subst (λ s. ExpandsTo s true options.limit (begun_among Items) 0 new_context tree.children after source.outcome) c.in_ok-config.ensures source.expands_to in
+    let (exported, exports, are) = c.in_ok-exported.ensures in
+    let (after, ready, source) = c.in_ok-text.ensures (new_context exported) (c.new-context.ensures exported are) in
+    let expands_to : ExpandsTo (config_by options) true options.limit (begun_among Items) 0 (new_context exported) tree.children after source.outcome =
+    subst (λ s. ExpandsTo s true options.limit (begun_among Items) 0 (new_context exported) tree.children after source.outcome) c.in_ok-config.ensures source.expands_to in
     let woven : IsWoven [] (spelled tree.children) (splices source.outcome) (sorts_left source.outcome) = text_woven (config_by options) tree.children source.outcome expands_to in
     let fits : FitAll (replacements source.outcome) (begun text) = comes_fit text_part text tree c.utf8.text read expands_to in
     let written : string_bytes c.in_ok-text.text ≡ with_all (replacements source.outcome) (begun text) =
@@ -37,6 +39,8 @@ returns-clause-ok c =
     record {
       tree = tree;
       read = read;
+      exported = exported;
+      exports = subst (λ s. AreExported s tree.children exported) c.in_ok-config.ensures exports;
       after = after;
       outcome = source.outcome;
       expands_to = expands_to;

@@ -8,6 +8,7 @@ use Rattle.expand_text.specs.Walks.{Level, level_of, past, first_stay, IsNext, L
 use Rattle.mbe_pattern.specs.Units.{front_trees}
 use Rattle.expand_text.proofs.Leading.{leads_definition}
 use Rattle.expand_items.proofs.Conditions.{definition_at_less}
+use Rattle.expand_items.proofs.ItemsAt.{defines_at}
 use Rattle.expand_text.proofs.walk.next_definition.Goals as goal
 
 pub returns-clause-next : goal.returns-clause-next
@@ -33,4 +34,4 @@ returns-clause-steps c there =
     let outer = map level_of (reverse c.args.walk.now.outer.items) in
     let it : Definition = definition_of c.args.definition.now in
     let now : level_of c.take_all.new.self ≡ past it.len true level = c.take_all.ensures.level in
-    subst (λ l. Steps (level ∷ outer) (event.Stays c.take_all.result) (l ∷ outer)) (sym now) (refl, omega (arith, definition_at_less c.args.config.now.root level.position level.rest it there))
+    subst (λ l. Steps (level ∷ outer) (event.Stays c.take_all.result) (l ∷ outer)) (sym now) (refl, omega (arith, definition_at_less c.args.config.now.root level.position level.rest it (defines_at there)))

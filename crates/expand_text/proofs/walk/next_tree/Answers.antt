@@ -4,7 +4,7 @@ use Rattle.tt.specs.Iters.{rest_of, IsFirstElement}
 use Rattle.tt.specs.Moves.{after_tree}
 use Rattle.tt.specs.Types.TtElement.TheVariants as element
 use Rattle.expand_text.specs.declared.walk.Event.TheVariants as event
-use Rattle.expand_text.specs.Contexts.{left_in_scope}
+use Rattle.expand_text.specs.Contexts.{config_of, left_in_scope}
 use Rattle.expand_text.specs.Walks.{Level, level_of, levels_of, past_leaf, entered, closes_of, Ends, IsLeft, IsNext, Steps}
 use Rattle.expand_text.proofs.Leading.{leads_leaf, leads_subtree, leads_end}
 use Rattle.expand_text.proofs.Readiness.{ready_length}
@@ -12,7 +12,8 @@ use Rattle.expand_items.proofs.Rebuilding.{leaf_first, node_first, none_first}
 use Rattle.expand_text.proofs.walk.next_tree.Goals as goal
 
 pub returns-in-Some-clause-next : goal.returns-in-Some-clause-next
-returns-in-Some-clause-next c config limit context is plain =
+returns-in-Some-clause-next c limit context is plain =
+    let config = config_of c.args.config.now in
     let level : Level = level_of c.args.walk.now.level in
     let outer = map level_of (reverse c.args.walk.now.outer.items) in
     let close = c.in-Some.close in
@@ -27,7 +28,8 @@ returns-in-Some-clause-next c config limit context is plain =
     )
 
 pub returns-in-None-leave-clause-next : goal.returns-in-None-leave-clause-next
-returns-in-None-leave-clause-next c config limit context is plain =
+returns-in-None-leave-clause-next c limit context is plain =
+    let config = config_of c.args.config.now in
     let level : Level = level_of c.args.walk.now.level in
     let outer = map level_of (reverse c.args.walk.now.outer.items) in
     let others = left_in_scope level.kept context in
@@ -39,14 +41,15 @@ returns-in-None-leave-clause-next c config limit context is plain =
       λ in_text. leads_end config in_text limit level outer context none others [] (subst (λ o. Ends config in_text limit o others others []) (sym last) refl),
     )
 
-pub returns-in-Some-Leaf-clause-next : goal.returns-in-Some-Leaf-clause-next
-returns-in-Some-Leaf-clause-next c config limit context is plain =
+pub returns-in_ok-pass_leaf-in-Some-Leaf-clause-next : goal.returns-in_ok-pass_leaf-in-Some-Leaf-clause-next
+returns-in_ok-pass_leaf-in-Some-Leaf-clause-next c limit context is plain =
+    let config = config_of c.args.config.now in
     let level : Level = level_of c.args.walk.now.level in
     let outer = map level_of (reverse c.args.walk.now.outer.items) in
     let it = c.in-Some-Leaf.leaf in
     let first : IsFirstElement level.rest (Some (element.Leaf it)) = search rules in
     let begins : level.rest ≡ leaf it (after_tree level.rest) = leaf_first level.rest it first in
-    let now : level_of c.pass_leaf.new.self ≡ past_leaf it level = c.pass_leaf.ensures in (
+    let now : level_of c.pass_leaf.new.self ≡ past_leaf c.args.config.now.cfg.now it level = c.in_ok-pass_leaf-in-Some-Leaf.ensures in (
       context,
       is,
       λ in_text. subst (λ l. IsNext config in_text limit (level ∷ outer) context (event.Leaf it) (l ∷ outer) context) (sym now)
@@ -54,7 +57,8 @@ returns-in-Some-Leaf-clause-next c config limit context is plain =
     )
 
 pub returns-in_ok-enter-in-Some-Subtree-clause-next : goal.returns-in_ok-enter-in-Some-Subtree-clause-next
-returns-in_ok-enter-in-Some-Subtree-clause-next c config limit context is plain =
+returns-in_ok-enter-in-Some-Subtree-clause-next c limit context is plain =
+    let config = config_of c.args.config.now in
     let level : Level = level_of c.args.walk.now.level in
     let outer = map level_of (reverse c.args.walk.now.outer.items) in
     let header = c.in-Some-Subtree.header in
@@ -77,14 +81,14 @@ returns-in-Some-clause-steps c =
     let left : IsLeft c.args.walk.now (Some c.in-Some.close) c.leave-in-None.new.self = c.in-Some.ensures in
     subst (Steps (level ∷ outer) (event.Closes c.in-Some.close)) left.1 (ap (λ s. s ∷ closes_of outer) left.0, omega arith)
 
-pub returns-in-Some-Leaf-clause-steps : goal.returns-in-Some-Leaf-clause-steps
-returns-in-Some-Leaf-clause-steps c =
+pub returns-in_ok-pass_leaf-in-Some-Leaf-clause-steps : goal.returns-in_ok-pass_leaf-in-Some-Leaf-clause-steps
+returns-in_ok-pass_leaf-in-Some-Leaf-clause-steps c =
     let level : Level = level_of c.args.walk.now.level in
     let outer = map level_of (reverse c.args.walk.now.outer.items) in
     let it = c.in-Some-Leaf.leaf in
     let first : IsFirstElement level.rest (Some (element.Leaf it)) = search rules in
     let begins : level.rest ≡ leaf it (after_tree level.rest) = leaf_first level.rest it first in
-    let now : level_of c.pass_leaf.new.self ≡ past_leaf it level = c.pass_leaf.ensures in
+    let now : level_of c.pass_leaf.new.self ≡ past_leaf c.args.config.now.cfg.now it level = c.in_ok-pass_leaf-in-Some-Leaf.ensures in
     subst (λ l. Steps (level ∷ outer) (event.Leaf it) (l ∷ outer)) (sym now) (refl, omega (arith, ap size begins))
 
 pub returns-in_ok-enter-in-Some-Subtree-clause-steps : goal.returns-in_ok-enter-in-Some-Subtree-clause-steps

@@ -11,6 +11,7 @@ returns-in-Some c context is =
           subst (λ k. AreReady (kept_of k context.macros) c.leave.new.self.macros.items) (sym which)
           (subst (AreReady (take c.in-Some.len context.macros)) (sym c.leave.ensures)
           (ready_front c.in-Some.len context.macros c.args.self.now.scope.macros.items is.macros));
+      exported = is.exported;
       findings = is.findings;
       is_over = is.is_over;
     }
