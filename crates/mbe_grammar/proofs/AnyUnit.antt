@@ -13,18 +13,18 @@ use Rattle.mbe_grammar.specs.Kinds.{kind_of, kind_of_word, kind_of_char, kind_or
 use Rattle.mbe_grammar.specs.Known.{begins}
 use Rattle.mbe_grammar.specs.Tests.{passes}
 use Rattle.mbe_grammar.proofs.EachWord.{of_each}
-use Rattle.mbe_grammar.proofs.KindsTold.{IsOf}
+use Rattle.mbe_grammar.proofs.KindsOfWordsAndPuncts.{IsOf}
 use Rattle.mbe_grammar.proofs.Marks.{left_true, right_true}
 
 -- the kind is not the end's
 abbrev is_some : (kind : ℕ) → Bool
 is_some kind = bit_at (begins test.Any) (kind % 64) == 1
 
-some_told : (kind : ℕ) → is_some kind ≡ true → IsOf (begins test.Any) kind
-some_told kind e = eqb-true (bit_at (begins test.Any) (kind % 64)) 1 e
+some_is_of : (kind : ℕ) → is_some kind ≡ true → IsOf (begins test.Any) kind
+some_is_of kind e = eqb-true (bit_at (begins test.Any) (kind % 64)) 1 e
 
 word_is_some : (it : Word) → IsOf (begins test.Any) (kind_of_word it)
-word_is_some it = some_told (kind_of_word it) (of_each (λ w. is_some (kind_of_word w)) refl it)
+word_is_some it = some_is_of (kind_of_word it) (of_each (λ w. is_some (kind_of_word w)) refl it)
 
 abbrev are_some : List ℕ → Bool
 are_some [] = true
@@ -32,26 +32,26 @@ are_some (kind ∷ kinds) = is_some kind && are_some kinds
 
 some_in : (kinds : List ℕ) (at : ℕ) → are_some kinds ≡ true → IsOf (begins test.Any) (kind_or_other (slice_get kinds at))
 some_in [] at e = refl
-some_in (kind ∷ kinds) zero e = some_told kind (left_true (is_some kind) (are_some kinds) e)
+some_in (kind ∷ kinds) zero e = some_is_of kind (left_true (is_some kind) (are_some kinds) e)
 some_in (kind ∷ kinds) (suc at) e = some_in kinds at (right_true (is_some kind) (are_some kinds) e)
 
 char_is_some : (char : ℕ) → IsOf (begins test.Any) (kind_of_char char)
 char_is_some char = some_in KINDS_OF_CHARS char refl
 
 -- What passes has such a kind.
-pub any_told : (it : Unit) → passes test.Any it ≡ true → IsOf (begins test.Any) (kind_of it)
-any_told unit.End e = absurd (cc e)
-any_told (unit.Word it) e = word_is_some it
-any_told unit.Lifetime e = refl
-any_told (unit.Literal kind) e = refl
-any_told (unit.Punct one) e = char_is_some one
-any_told (unit.TwoPuncts one two) e = char_is_some one
-any_told (unit.ThreePuncts one two three) e = char_is_some one
-any_told (unit.Subtree delimiter.Parenthesis) e = refl
-any_told (unit.Subtree delimiter.Brace) e = refl
-any_told (unit.Subtree delimiter.Bracket) e = refl
-any_told (unit.Subtree delimiter.Invisible) e = refl
-any_told (unit.Subtree delimiter.InvisibleOpaque) e = refl
+pub any_is_of : (it : Unit) → passes test.Any it ≡ true → IsOf (begins test.Any) (kind_of it)
+any_is_of unit.End e = absurd (cc e)
+any_is_of (unit.Word it) e = word_is_some it
+any_is_of unit.Lifetime e = refl
+any_is_of (unit.Literal kind) e = refl
+any_is_of (unit.Punct one) e = char_is_some one
+any_is_of (unit.TwoPuncts one two) e = char_is_some one
+any_is_of (unit.ThreePuncts one two three) e = char_is_some one
+any_is_of (unit.Subtree delimiter.Parenthesis) e = refl
+any_is_of (unit.Subtree delimiter.Brace) e = refl
+any_is_of (unit.Subtree delimiter.Bracket) e = refl
+any_is_of (unit.Subtree delimiter.Invisible) e = refl
+any_is_of (unit.Subtree delimiter.InvisibleOpaque) e = refl
 
 -- What has such a kind passes.
 pub any_of_kind : (it : Unit) → IsOf (begins test.Any) (kind_of it) → passes test.Any it ≡ true

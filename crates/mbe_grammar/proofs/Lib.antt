@@ -1,7 +1,6 @@
 pub mod Agreeing
 pub mod Ahead
 pub mod AnyUnit
-pub mod BeginsTold
 pub mod Behind
 pub mod Bits
 pub mod Closing
@@ -10,7 +9,8 @@ pub mod DeepReading
 pub mod Deriving
 pub mod EachWord
 pub mod FragmentAnswers
-pub mod KindsTold
+pub mod KindsOfTests
+pub mod KindsOfWordsAndPuncts
 pub mod Laid
 pub mod Listing
 pub mod Log

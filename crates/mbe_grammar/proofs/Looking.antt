@@ -22,9 +22,9 @@ use Rattle.mbe_grammar.specs.Tests.{passes}
 use Rattle.mbe_grammar.specs.Units.{first_unit}
 use Rattle.mbe_grammar.proofs.Agreeing.{Agrees, UnitsTaken, units_taken}
 use Rattle.mbe_grammar.proofs.AnyUnit.{any_of_kind}
-use Rattle.mbe_grammar.proofs.BeginsTold.{begins_told}
+use Rattle.mbe_grammar.proofs.KindsOfTests.{begins_is_of}
 use Rattle.mbe_grammar.proofs.Bits.{of_both, of_one, of_outer, of_nothing, of_apart}
-use Rattle.mbe_grammar.proofs.KindsTold.{IsOf, segment_of_kind}
+use Rattle.mbe_grammar.proofs.KindsOfWordsAndPuncts.{IsOf, segment_of_kind}
 use Rattle.mbe_grammar.proofs.Notes.{noted_rest, closed_opened}
 use Rattle.mbe_grammar.proofs.Marks.{left_true, right_true}
 
@@ -53,31 +53,31 @@ no_bit : (kind : ℕ) → IsOf 0 kind → ⊥
 no_bit kind e = absurd (cc (sym (bit_at-zero (kind % 64)) ∙ e))
 
 -- the tests that all units of these kinds pass
-always_told : (it : Option Rule) (from : Position) → IsOf (always_passes it) (kind_of (first_unit from.rest))
+always_is_of : (it : Option Rule) (from : Position) → IsOf (always_passes it) (kind_of (first_unit from.rest))
     → (wanted : Test) × (it ≡ Some (rule.Unit wanted)) × (passes wanted (first_unit from.rest) ≡ true)
-always_told None from e = absurd (no_bit (kind_of (first_unit from.rest)) e)
-always_told (Some rule.Empty) from e = absurd (no_bit (kind_of (first_unit from.rest)) e)
-always_told (Some (rule.Name other)) from e = absurd (no_bit (kind_of (first_unit from.rest)) e)
-always_told (Some (rule.Sequence first second)) from e = absurd (no_bit (kind_of (first_unit from.rest)) e)
-always_told (Some (rule.Choice first other)) from e = absurd (no_bit (kind_of (first_unit from.rest)) e)
-always_told (Some (rule.ZeroOrMore part)) from e = absurd (no_bit (kind_of (first_unit from.rest)) e)
-always_told (Some (rule.Not part)) from e = absurd (no_bit (kind_of (first_unit from.rest)) e)
-always_told (Some (rule.Unit test.PathSegment)) from e = (test.PathSegment, refl, segment_of_kind (first_unit from.rest) e)
-always_told (Some (rule.Unit test.Any)) from e = (test.Any, refl, any_of_kind (first_unit from.rest) e)
-always_told (Some (rule.Unit (test.Is it))) from e = absurd (no_bit (kind_of (first_unit from.rest)) e)
-always_told (Some (rule.Unit (test.Front char))) from e = absurd (no_bit (kind_of (first_unit from.rest)) e)
-always_told (Some (rule.Unit test.Name)) from e = absurd (no_bit (kind_of (first_unit from.rest)) e)
-always_told (Some (rule.Unit test.TruthValue)) from e = absurd (no_bit (kind_of (first_unit from.rest)) e)
-always_told (Some (rule.Unit test.Literal)) from e = absurd (no_bit (kind_of (first_unit from.rest)) e)
-always_told (Some (rule.Unit test.Text)) from e = absurd (no_bit (kind_of (first_unit from.rest)) e)
-always_told (Some (rule.Unit test.Number)) from e = absurd (no_bit (kind_of (first_unit from.rest)) e)
-always_told (Some (rule.Unit test.Delimited)) from e = absurd (no_bit (kind_of (first_unit from.rest)) e)
-always_told (Some (rule.Unit test.Opaque)) from e = absurd (no_bit (kind_of (first_unit from.rest)) e)
-always_told (Some (rule.Unit (test.Holding kind name))) from e = absurd (no_bit (kind_of (first_unit from.rest)) e)
-always_told (Some (rule.Unit (test.OpaqueHolding name))) from e = absurd (no_bit (kind_of (first_unit from.rest)) e)
-always_told (Some (rule.Unit test.BinaryOperator)) from e = absurd (no_bit (kind_of (first_unit from.rest)) e)
-always_told (Some (rule.Unit test.AssignmentOperator)) from e = absurd (no_bit (kind_of (first_unit from.rest)) e)
-always_told (Some (rule.Unit test.BeginsExpression)) from e = absurd (no_bit (kind_of (first_unit from.rest)) e)
+always_is_of None from e = absurd (no_bit (kind_of (first_unit from.rest)) e)
+always_is_of (Some rule.Empty) from e = absurd (no_bit (kind_of (first_unit from.rest)) e)
+always_is_of (Some (rule.Name other)) from e = absurd (no_bit (kind_of (first_unit from.rest)) e)
+always_is_of (Some (rule.Sequence first second)) from e = absurd (no_bit (kind_of (first_unit from.rest)) e)
+always_is_of (Some (rule.Choice first other)) from e = absurd (no_bit (kind_of (first_unit from.rest)) e)
+always_is_of (Some (rule.ZeroOrMore part)) from e = absurd (no_bit (kind_of (first_unit from.rest)) e)
+always_is_of (Some (rule.Not part)) from e = absurd (no_bit (kind_of (first_unit from.rest)) e)
+always_is_of (Some (rule.Unit test.PathSegment)) from e = (test.PathSegment, refl, segment_of_kind (first_unit from.rest) e)
+always_is_of (Some (rule.Unit test.Any)) from e = (test.Any, refl, any_of_kind (first_unit from.rest) e)
+always_is_of (Some (rule.Unit (test.Is it))) from e = absurd (no_bit (kind_of (first_unit from.rest)) e)
+always_is_of (Some (rule.Unit (test.Front char))) from e = absurd (no_bit (kind_of (first_unit from.rest)) e)
+always_is_of (Some (rule.Unit test.Name)) from e = absurd (no_bit (kind_of (first_unit from.rest)) e)
+always_is_of (Some (rule.Unit test.TruthValue)) from e = absurd (no_bit (kind_of (first_unit from.rest)) e)
+always_is_of (Some (rule.Unit test.Literal)) from e = absurd (no_bit (kind_of (first_unit from.rest)) e)
+always_is_of (Some (rule.Unit test.Text)) from e = absurd (no_bit (kind_of (first_unit from.rest)) e)
+always_is_of (Some (rule.Unit test.Number)) from e = absurd (no_bit (kind_of (first_unit from.rest)) e)
+always_is_of (Some (rule.Unit test.Delimited)) from e = absurd (no_bit (kind_of (first_unit from.rest)) e)
+always_is_of (Some (rule.Unit test.Opaque)) from e = absurd (no_bit (kind_of (first_unit from.rest)) e)
+always_is_of (Some (rule.Unit (test.Holding kind name))) from e = absurd (no_bit (kind_of (first_unit from.rest)) e)
+always_is_of (Some (rule.Unit (test.OpaqueHolding name))) from e = absurd (no_bit (kind_of (first_unit from.rest)) e)
+always_is_of (Some (rule.Unit test.BinaryOperator)) from e = absurd (no_bit (kind_of (first_unit from.rest)) e)
+always_is_of (Some (rule.Unit test.AssignmentOperator)) from e = absurd (no_bit (kind_of (first_unit from.rest)) e)
+always_is_of (Some (rule.Unit test.BeginsExpression)) from e = absurd (no_bit (kind_of (first_unit from.rest)) e)
 
 -- what passes a test is taken, and what does not pass is not
 taken_of : (noting : Bool) (wanted : Test) (from : Position) (b : Bool) → passes wanted (first_unit from.rest) ≡ b → takes noting wanted from ≡ cond b (Some (taken noting wanted from)) None
@@ -112,7 +112,7 @@ module _ (noting : Bool) (known : List Known) (rules : List Rule) (right : are_r
   unit_fails wanted from fails g f = by (passes wanted (first_unit from.rest)) refl
     where
       by : (b : Bool) → passes wanted (first_unit from.rest) ≡ b → takes noting wanted from ≡ None
-      by true e = absurd (of_apart fails (begins wanted) (kind_of (first_unit from.rest) % 64) g f (begins_told wanted (first_unit from.rest) e))
+      by true e = absurd (of_apart fails (begins wanted) (kind_of (first_unit from.rest) % 64) g f (begins_is_of wanted (first_unit from.rest) e))
       by false e = taken_of noting wanted from false e
 
   -- the same place after a part that takes nothing
@@ -159,7 +159,7 @@ module _ (noting : Bool) (known : List Known) (rules : List Rule) (right : are_r
   not_fails P f u part from answer (inr h) how = h.2
   not_fails P f u part from answer (inl h) (inl k) = absurd (cc ((f part from None h.0).1 k))
   not_fails P f u part from answer (inl h) (inr k) =
-      let it = always_told (slice_get rules part) from k in
+      let it = always_is_of (slice_get rules part) from k in
       absurd (cc (u part from None it.0 it.1 h.0 ∙ taken_of noting it.0 from true it.2))
 
   not_idles : (P : Answering) → TellsOf P → (part : ℕ) (from : Position) (answer : Option Position)

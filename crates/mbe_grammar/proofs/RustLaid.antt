@@ -20,408 +20,413 @@ are_laid more_type_path_segments =
     one 8 refl (both 9 11 refl (one 10 refl (both 3 17 refl refl refl)) (one 12 refl (both 3 13 refl refl (one 14 refl (both 15 16 refl refl refl)))))
 are_laid type_path_segment =
     one 18 refl (both 19 20 refl refl (both 21 22 refl (both 2 44 refl (both 3 4 refl refl refl) refl) (both 23 30 refl (both 2 24 refl (both 3 4 refl refl
-    refl) (both 25 29 refl (both 26 27 refl refl (both 28 168 refl refl refl)) refl)) (one 34 refl refl))))
-are_laid inputs = one 32 refl (both 33 190 refl refl refl)
+    refl) (both 25 29 refl (both 26 27 refl refl (both 28 172 refl refl refl)) refl)) (one 34 refl refl))))
+are_laid inputs = one 32 refl (both 33 194 refl refl refl)
 are_laid less = one 35 refl (both 36 37 refl refl (both 38 43 refl (one 39 refl (one 40 refl (both 41 42 refl refl refl))) refl))
 are_laid generic_arguments =
     one 45 refl (both 34 46 refl refl (both 47 54 refl (both 48 4 refl (both 55 49 refl refl (both 50 53 refl (one 51 refl (both 52 55 refl refl refl))
     (both 52 4 refl refl refl))) refl) refl))
 are_laid generic_argument =
-    one 56 refl (both 57 61 refl (both 58 59 refl refl (one 60 refl (one 74 refl refl))) (both 62 59 refl (both 63 71 refl (both 17 64 refl refl (both 65 67
-    refl (both 66 76 refl refl refl) (both 68 70 refl (both 69 295 refl refl refl) (both 7 160 refl refl refl)))) (both 72 79 refl (both 73 128 refl (one 19
-    refl refl) refl) refl)) (one 60 refl (one 74 refl refl))))
-are_laid generic_argument_end = one 75 refl (both 52 54 refl refl refl)
-are_laid generic_argument_value = one 77 refl (both 78 79 refl (both 128 59 refl refl (one 60 refl (one 74 refl refl))) refl)
+    one 56 refl (both 57 61 refl (both 58 59 refl refl (one 60 refl (one 76 refl refl))) (both 62 59 refl (both 63 71 refl (both 17 64 refl refl (both 65 67
+    refl (both 66 78 refl refl refl) (both 68 70 refl (both 69 299 refl refl refl) (both 7 164 refl refl refl)))) (both 72 73 refl refl (both 74 81 refl
+    (both 75 132 refl (one 19 refl refl) refl) refl))) (one 60 refl (one 76 refl refl))))
+are_laid generic_argument_end = one 77 refl (both 52 54 refl refl refl)
+are_laid generic_argument_value = one 79 refl (both 72 80 refl refl (both 132 81 refl refl refl))
 are_laid const_argument =
-    one 80 refl (both 81 85 refl (both 82 84 refl (both 83 4 refl refl refl) refl) (both 86 90 refl (both 87 89 refl (both 88 4 refl refl refl) refl) refl))
+    one 82 refl (both 83 87 refl (both 84 86 refl (both 85 4 refl refl refl) refl) (both 88 92 refl (both 89 91 refl (both 90 4 refl refl refl) refl) (both
+    93 94 refl refl refl)))
 are_laid qualified_self =
-    one 92 refl (both 34 93 refl refl (both 120 94 refl refl (both 95 98 refl (both 96 4 refl (both 97 0 refl refl refl) refl) (both 54 3 refl refl refl))))
-are_laid expression_path = one 100 refl (both 101 102 refl (both 91 103 refl refl refl) (both 2 103 refl (both 3 4 refl refl refl) refl))
-are_laid expression_path_segments = one 104 refl (both 109 105 refl refl (both 106 108 refl (one 107 refl (both 3 109 refl refl refl)) (one 3 refl refl)))
+    one 96 refl (both 34 97 refl refl (both 124 98 refl refl (both 99 102 refl (both 100 4 refl (both 101 0 refl refl refl) refl) (both 54 3 refl refl
+    refl))))
+are_laid expression_path = one 104 refl (both 105 106 refl (both 95 107 refl refl refl) (both 2 107 refl (both 3 4 refl refl refl) refl))
+are_laid expression_path_segments = one 108 refl (both 113 109 refl refl (both 110 112 refl (one 111 refl (both 3 113 refl refl refl)) (one 3 refl refl)))
 are_laid expression_path_segment =
-    one 110 refl (both 19 111 refl refl (both 112 4 refl (both 113 114 refl (both 3 44 refl refl refl) (both 3 24 refl refl (both 25 29 refl (both 26 27
-    refl refl (both 28 168 refl refl refl)) refl))) refl))
-are_laid simple_path = one 116 refl (both 2 117 refl (both 3 4 refl refl refl) (both 19 118 refl refl (one 119 refl (both 3 19 refl refl refl))))
+    one 114 refl (both 19 115 refl refl (both 116 4 refl (both 117 118 refl (both 3 44 refl refl refl) (both 3 24 refl refl (both 25 29 refl (both 26 27
+    refl refl (both 28 172 refl refl refl)) refl))) refl))
+are_laid simple_path = one 120 refl (both 2 121 refl (both 3 4 refl refl refl) (both 19 122 refl refl (one 123 refl (both 3 19 refl refl refl))))
 are_laid any_type =
-    one 121 refl (both 122 124 refl (both 123 196 refl (both 210 317 refl refl refl) refl) (both 125 128 refl (both 264 126 refl refl (one 127 refl refl))
+    one 125 refl (both 126 128 refl (both 127 200 refl (both 214 321 refl refl refl) refl) (both 129 132 refl (both 268 130 refl refl (one 131 refl refl))
     refl))
 are_laid type =
-    one 129 refl (both 130 131 refl (both 0 160 refl refl refl) (both 132 139 refl (both 133 136 refl (both 134 135 refl refl refl) (both 297 137 refl refl
-    (both 138 126 refl (one 328 refl refl) (one 127 refl refl)))) (both 140 143 refl (both 58 141 refl refl (both 142 196 refl (one 126 refl (one 127 refl
-    refl)) refl)) (both 144 148 refl (both 145 196 refl (both 146 26 refl (both 147 142 refl refl (one 126 refl (one 127 refl refl))) refl) refl) (both 149
-    152 refl (both 150 151 refl refl (both 0 196 refl refl refl)) (both 153 156 refl (both 345 154 refl refl (both 155 151 refl (both 250 126 refl refl (one
-    127 refl refl)) (both 0 196 refl refl refl))) (both 157 159 refl (both 91 158 refl refl (both 5 126 refl refl (one 127 refl refl))) (both 219 126 refl
-    refl (one 127 refl refl)))))))))
+    one 133 refl (both 134 135 refl (both 0 164 refl refl refl) (both 136 143 refl (both 137 140 refl (both 138 139 refl refl refl) (both 301 141 refl refl
+    (both 142 130 refl (one 332 refl refl) (one 131 refl refl)))) (both 144 147 refl (both 58 145 refl refl (both 146 200 refl (one 130 refl (one 131 refl
+    refl)) refl)) (both 148 152 refl (both 149 200 refl (both 150 26 refl (both 151 146 refl refl (one 130 refl (one 131 refl refl))) refl) refl) (both 153
+    156 refl (both 154 155 refl refl (both 0 200 refl refl refl)) (both 157 160 refl (both 349 158 refl refl (both 159 155 refl (both 254 130 refl refl (one
+    131 refl refl)) (both 0 200 refl refl refl))) (both 161 163 refl (both 95 162 refl refl (both 5 130 refl refl (one 131 refl refl))) (both 223 130 refl
+    refl (one 131 refl refl)))))))))
 are_laid behind_type_path =
-    one 161 refl (both 162 166 refl (both 163 164 refl refl (both 165 126 refl refl (one 127 refl refl))) (both 167 196 refl (one 163 refl refl) refl))
+    one 165 refl (both 166 170 refl (both 167 168 refl refl (both 169 130 refl refl (one 131 refl refl))) (both 171 200 refl (one 167 refl refl) refl))
 are_laid type_no_bounds =
-    one 169 refl (both 170 173 refl (both 0 171 refl refl (both 172 167 refl (both 163 165 refl refl refl) (one 163 refl refl))) (both 219 174 refl refl
-    (both 26 175 refl refl (both 176 179 refl (both 133 177 refl (both 134 135 refl refl refl) (both 178 138 refl (both 299 126 refl refl (one 127 refl
-    refl)) (one 328 refl refl))) (both 180 181 refl (both 91 5 refl refl refl) (both 182 184 refl (both 345 183 refl refl (both 250 0 refl refl refl)) (both
-    185 186 refl (both 150 0 refl refl refl) (both 210 187 refl refl (both 317 188 refl refl (both 264 189 refl refl (both 58 142 refl refl (one 126 refl
-    (one 127 refl refl)))))))))))))
-are_laid types = one 191 refl (one 192 refl (both 120 193 refl refl (both 52 194 refl refl (one 195 refl refl))))
+    one 173 refl (both 174 177 refl (both 0 175 refl refl (both 176 171 refl (both 167 169 refl refl refl) (one 167 refl refl))) (both 223 178 refl refl
+    (both 26 179 refl refl (both 180 183 refl (both 137 181 refl (both 138 139 refl refl refl) (both 182 142 refl (both 303 130 refl refl (one 131 refl
+    refl)) (one 332 refl refl))) (both 184 185 refl (both 95 5 refl refl refl) (both 186 188 refl (both 349 187 refl refl (both 254 0 refl refl refl)) (both
+    189 190 refl (both 154 0 refl refl refl) (both 214 191 refl refl (both 321 192 refl refl (both 268 193 refl refl (both 58 146 refl refl (one 130 refl
+    (one 131 refl refl)))))))))))))
+are_laid types = one 195 refl (one 196 refl (both 124 197 refl refl (both 52 198 refl refl (one 199 refl refl))))
 are_laid more_bounds =
-    one 197 refl (both 198 200 refl (one 199 refl (both 127 299 refl refl refl)) (both 201 126 refl (both 127 4 refl refl refl) (one 127 refl refl)))
+    one 201 refl (both 202 204 refl (one 203 refl (both 131 303 refl refl refl)) (both 205 130 refl (both 131 4 refl refl refl) (one 131 refl refl)))
 are_laid bare_bound =
-    one 203 refl (both 204 207 refl (both 205 0 refl (both 206 4 refl (both 345 150 refl refl refl) refl) refl) (both 210 208 refl refl (both 317 209 refl
+    one 207 refl (both 208 211 refl (both 209 0 refl (both 210 4 refl (both 349 154 refl refl refl) refl) refl) (both 214 212 refl refl (both 321 213 refl
     refl refl)))
 are_laid modified_path =
-    one 211 refl (both 212 0 refl (both 213 218 refl (both 214 215 refl refl (both 83 216 refl refl (both 217 4 refl refl refl))) (both 83 217 refl refl
+    one 215 refl (both 216 0 refl (both 217 222 refl (both 218 219 refl refl (both 85 220 refl refl (both 221 4 refl refl refl))) (both 85 221 refl refl
     refl)) refl)
 are_laid plain_type =
-    one 220 refl (both 163 221 refl refl (both 229 222 refl refl (both 223 224 refl refl (both 225 226 refl refl (both 239 227 refl refl (both 246 228 refl
-    refl (both 250 209 refl refl refl)))))))
-are_laid pointer_type = one 230 refl (both 16 231 refl refl (both 232 168 refl (both 83 233 refl refl refl) refl))
-are_laid array_type = one 235 refl (both 120 236 refl refl (both 237 4 refl (both 238 518 refl refl refl) refl))
+    one 224 refl (both 167 225 refl refl (both 233 226 refl refl (both 227 228 refl refl (both 229 230 refl refl (both 243 231 refl refl (both 250 232 refl
+    refl (both 254 213 refl refl refl)))))))
+are_laid pointer_type = one 234 refl (both 16 235 refl refl (both 236 172 refl (both 85 237 refl refl refl) refl))
+are_laid array_type = one 239 refl (both 124 240 refl refl (both 241 4 refl (both 242 531 refl refl refl) refl))
 are_laid reference_type =
-    one 240 refl (both 241 242 refl refl (both 243 244 refl (both 58 4 refl refl refl) (both 245 168 refl (both 233 4 refl refl refl) refl)))
-are_laid binder_type = one 247 refl (both 248 249 refl refl (both 1293 120 refl refl refl))
+    one 244 refl (both 245 246 refl refl (both 247 248 refl (both 58 4 refl refl refl) (both 249 172 refl (both 237 4 refl refl refl) refl)))
+are_laid binder_type = one 251 refl (both 252 253 refl refl (both 1306 124 refl refl refl))
 are_laid function_type =
-    one 251 refl (both 252 253 refl (both 248 4 refl refl refl) (both 254 259 refl (both 255 4 refl (both 256 257 refl refl (both 258 4 refl refl refl))
-    refl) (both 260 261 refl refl (both 262 263 refl refl (both 27 4 refl (both 28 168 refl refl refl) refl)))))
-are_laid generator_type = one 265 refl (both 216 266 refl (both 217 4 refl refl refl) (both 267 250 refl refl refl))
+    one 255 refl (both 256 257 refl (both 252 4 refl refl refl) (both 258 263 refl (both 259 4 refl (both 260 261 refl refl (both 262 4 refl refl refl))
+    refl) (both 264 265 refl refl (both 266 267 refl refl (both 27 4 refl (both 28 172 refl refl refl) refl)))))
+are_laid generator_type = one 269 refl (both 220 270 refl (both 221 4 refl refl refl) (both 271 254 refl refl refl))
 are_laid maybe_named_parameters =
-    one 269 refl (both 270 274 refl (both 271 4 refl (both 272 273 refl (one 947 refl refl) (both 1126 193 refl refl (both 52 194 refl refl (one 195 refl
-    refl)))) refl) (one 275 refl (both 276 193 refl refl (both 52 194 refl refl (one 195 refl refl)))))
+    one 273 refl (both 274 278 refl (both 275 4 refl (both 276 277 refl (one 960 refl refl) (both 1139 197 refl refl (both 52 198 refl refl (one 199 refl
+    refl)))) refl) (one 279 refl (both 280 197 refl refl (both 52 198 refl refl (one 199 refl refl)))))
 are_laid maybe_named_parameter =
-    one 277 refl (both 272 278 refl (one 947 refl refl) (both 279 280 refl (one 1126 refl refl) (both 281 293 refl (both 282 4 refl (both 283 69 refl (both
-    284 286 refl (both 233 285 refl refl refl) (both 287 291 refl (both 288 4 refl (both 289 290 refl refl refl) refl) (both 19 292 refl refl (both 90 225
-    refl refl refl)))) refl) refl) (both 294 120 refl refl refl))))
-are_laid bounds = one 296 refl (both 297 4 refl refl refl)
+    one 281 refl (both 276 282 refl (one 960 refl refl) (both 283 284 refl (one 1139 refl refl) (both 285 297 refl (both 286 4 refl (both 287 69 refl (both
+    288 290 refl (both 237 289 refl refl refl) (both 291 295 refl (both 292 4 refl (both 293 294 refl refl refl) refl) (both 19 296 refl refl (both 93 229
+    refl refl refl)))) refl) refl) (both 298 124 refl refl refl))))
+are_laid bounds = one 300 refl (both 301 4 refl refl refl)
 are_laid some_bounds =
-    one 298 refl (both 299 197 refl refl (both 198 200 refl (one 199 refl (both 127 299 refl refl refl)) (both 201 126 refl (both 127 4 refl refl refl) (one
-    127 refl refl))))
-are_laid bound = one 300 refl (both 58 301 refl refl (both 302 303 refl refl (both 317 304 refl refl refl)))
+    one 302 refl (both 303 201 refl refl (both 202 204 refl (one 203 refl (both 131 303 refl refl refl)) (both 205 130 refl (both 131 4 refl refl refl) (one
+    131 refl refl))))
+are_laid bound = one 304 refl (both 58 305 refl refl (both 306 307 refl refl (both 321 308 refl refl refl)))
 are_laid trait_bound =
-    one 305 refl (both 306 308 refl (both 307 0 refl (both 150 163 refl refl refl) refl) (both 309 310 refl (both 345 4 refl refl refl) (both 311 316 refl
-    (both 312 4 refl (both 313 314 refl (both 214 83 refl refl refl) (both 315 83 refl refl refl)) refl) (both 216 0 refl (both 217 4 refl refl refl)
+    one 309 refl (both 310 312 refl (both 311 0 refl (both 154 167 refl refl refl) refl) (both 313 314 refl (both 349 4 refl refl refl) (both 315 320 refl
+    (both 316 4 refl (both 317 318 refl (both 218 85 refl refl refl) (both 319 85 refl refl refl)) refl) (both 220 0 refl (both 221 4 refl refl refl)
     refl))))
 are_laid use_bound =
-    one 318 refl (both 319 320 refl refl (both 43 321 refl refl (both 322 54 refl (both 323 4 refl (both 354 324 refl refl (both 325 53 refl (one 326 refl
-    (both 52 354 refl refl refl)) (both 52 4 refl refl refl))) refl) refl)))
-are_laid maybe_const = one 83 refl refl
+    one 322 refl (both 323 324 refl refl (both 43 325 refl refl (both 326 54 refl (both 327 4 refl (both 358 328 refl refl (both 329 53 refl (one 330 refl
+    (both 52 358 refl refl refl)) (both 52 4 refl refl refl))) refl) refl)))
+are_laid maybe_const = one 85 refl refl
 are_laid begins_bound =
-    one 329 refl (both 58 330 refl refl (both 331 332 refl refl (both 333 334 refl refl (both 319 335 refl refl (both 336 337 refl refl (both 214 338 refl
-    refl (both 83 339 refl refl (both 217 340 refl refl (both 150 341 refl refl (both 163 342 refl refl (both 19 343 refl refl (both 3 344 refl refl (both
+    one 333 refl (both 58 334 refl refl (both 335 336 refl refl (both 337 338 refl refl (both 323 339 refl refl (both 340 341 refl refl (both 218 342 refl
+    refl (both 85 343 refl refl (both 221 344 refl refl (both 154 345 refl refl (both 167 346 refl refl (both 19 347 refl refl (both 3 348 refl refl (both
     36 41 refl refl refl)))))))))))))
-are_laid for_lifetimes = one 346 refl (both 336 1293 refl refl refl)
+are_laid for_lifetimes = one 350 refl (both 340 1306 refl refl refl)
 are_laid lifetime_parameter =
-    one 348 refl (both 58 349 refl refl (both 350 4 refl (both 69 351 refl refl (both 352 243 refl (one 353 refl (both 58 127 refl refl refl)) (both 58 4
+    one 352 refl (both 58 353 refl refl (both 354 4 refl (both 69 355 refl refl (both 356 247 refl (one 357 refl (both 58 131 refl refl refl)) (both 58 4
     refl refl refl))) refl))
-are_laid use_argument = one 355 refl (both 58 356 refl refl (both 285 357 refl refl refl))
-are_laid pattern_fragment = one 359 refl (both 360 365 refl (one 361 refl (both 362 163 refl refl refl)) refl)
-are_laid pattern_param_fragment = one 364 refl (both 360 381 refl (one 361 refl (both 362 163 refl refl refl)) refl)
+are_laid use_argument = one 359 refl (both 58 360 refl refl (both 289 361 refl refl refl))
+are_laid pattern_fragment = one 363 refl (both 364 369 refl (one 365 refl (both 366 167 refl refl refl)) refl)
+are_laid pattern_param_fragment = one 368 refl (both 364 385 refl (one 365 refl (both 366 167 refl refl refl)) refl)
 are_laid pattern =
-    one 366 refl (both 367 369 refl (both 368 4 refl refl refl) (both 381 370 refl refl (both 371 375 refl (one 372 refl (both 368 373 refl refl (both 374
-    381 refl (one 368 refl refl) refl))) (one 376 refl (both 377 378 refl refl (both 379 380 refl refl refl))))))
+    one 370 refl (both 371 373 refl (both 372 4 refl refl refl) (both 385 374 refl refl (both 375 379 refl (one 376 refl (both 372 377 refl refl (both 378
+    385 refl (one 372 refl refl) refl))) (one 380 refl (both 381 382 refl refl (both 383 384 refl refl refl))))))
 are_laid pattern_no_top_alt =
-    one 382 refl (both 383 384 refl (both 362 459 refl refl refl) (both 385 387 refl (both 33 386 refl refl (both 459 4 refl refl refl)) (both 388 392 refl
-    (both 87 389 refl (both 88 4 refl refl refl) (both 390 391 refl (both 89 90 refl refl refl) (both 448 4 refl refl refl))) (both 488 393 refl refl (both
-    225 394 refl refl (both 163 395 refl refl (both 491 396 refl refl (both 397 398 refl refl (both 399 400 refl refl (both 401 402 refl refl (both 403 405
-    refl (both 404 412 refl refl refl) (both 406 409 refl (both 91 407 refl refl (both 103 408 refl refl (both 448 462 refl refl refl))) (both 2 410 refl
-    (both 3 4 refl refl refl) (both 103 411 refl refl (both 172 408 refl (both 163 165 refl refl refl) (both 448 462 refl refl refl))))))))))))))))
+    one 386 refl (both 387 388 refl (both 366 471 refl refl refl) (both 389 391 refl (both 33 390 refl refl (both 471 4 refl refl refl)) (both 392 396 refl
+    (both 89 393 refl (both 90 4 refl refl refl) (both 394 395 refl (both 91 93 refl refl refl) (both 462 4 refl refl refl))) (both 501 397 refl refl (both
+    229 398 refl refl (both 167 399 refl refl (both 504 400 refl refl (both 401 402 refl refl (both 403 404 refl refl (both 405 407 refl (both 406 462 refl
+    refl refl) (both 408 409 refl refl (both 410 412 refl (both 411 419 refl refl refl) (both 413 416 refl (both 95 414 refl refl (both 107 415 refl refl
+    (both 462 475 refl refl refl))) (both 2 417 refl (both 3 4 refl refl refl) (both 107 418 refl refl (both 176 415 refl (both 167 169 refl refl refl)
+    (both 462 475 refl refl refl)))))))))))))))))
 are_laid pattern_without_range =
-    one 413 refl (both 414 416 refl (both 87 415 refl (both 88 4 refl refl refl) (both 390 452 refl (both 89 90 refl refl refl) refl)) (both 488 417 refl
-    refl (both 225 418 refl refl (both 163 419 refl refl (both 491 420 refl refl (both 397 421 refl refl (both 399 422 refl refl (both 401 423 refl refl
-    (both 403 424 refl (both 404 412 refl refl refl) (both 425 430 refl (both 91 426 refl refl (both 103 427 refl refl (both 397 428 refl refl (both 429 452
-    refl refl refl)))) (both 431 434 refl (both 2 432 refl (both 3 4 refl refl refl) (both 103 433 refl refl (both 172 427 refl (both 163 165 refl refl
-    refl) (both 397 428 refl refl (both 429 452 refl refl refl))))) (both 33 435 refl refl (one 436 refl (both 88 437 refl refl (both 89 438 refl refl (both
-    285 439 refl refl (both 36 440 refl refl (both 41 3 refl refl refl))))))))))))))))))
+    one 420 refl (both 421 423 refl (both 89 422 refl (both 90 4 refl refl refl) (both 394 466 refl (both 91 93 refl refl refl) refl)) (both 501 424 refl
+    refl (both 229 425 refl refl (both 167 426 refl refl (both 504 427 refl refl (both 401 428 refl refl (both 403 429 refl refl (both 430 432 refl (both
+    406 431 refl refl (both 298 471 refl refl refl)) (both 433 435 refl (both 408 434 refl refl (one 468 refl refl)) (both 410 436 refl (both 411 419 refl
+    refl refl) (both 437 442 refl (both 95 438 refl refl (both 107 439 refl refl (both 401 440 refl refl (both 441 466 refl refl refl)))) (both 443 446 refl
+    (both 2 444 refl (both 3 4 refl refl refl) (both 107 445 refl refl (both 176 439 refl (both 167 169 refl refl refl) (both 401 440 refl refl (both 441
+    466 refl refl refl))))) (both 33 447 refl refl (one 448 refl (both 90 449 refl refl (both 91 450 refl refl (both 451 452 refl refl (both 289 453 refl
+    refl (both 36 454 refl refl (both 41 3 refl refl refl))))))))))))))))))))
 are_laid patterns =
-    one 442 refl (one 443 refl (both 365 444 refl refl (both 445 193 refl (both 446 4 refl (both 447 518 refl refl refl) refl) (both 52 194 refl refl (one
-    195 refl refl)))))
+    one 456 refl (one 457 refl (both 369 458 refl refl (both 459 197 refl (both 460 4 refl (both 461 531 refl refl refl) refl) (both 52 198 refl refl (one
+    199 refl refl)))))
 are_laid range_tail =
-    one 449 refl (both 450 385 refl (both 451 459 refl (both 362 294 refl refl refl) refl) (both 33 386 refl refl (both 459 4 refl refl refl)))
-are_laid old_range_tail = one 453 refl (both 454 455 refl (both 294 459 refl refl refl) (one 456 refl refl))
-are_laid range_operator = one 457 refl (both 362 458 refl refl (both 294 33 refl refl refl))
-are_laid range_end = one 460 refl (both 461 99 refl (both 87 390 refl (both 88 4 refl refl refl) (both 89 90 refl refl refl)) refl)
-are_laid fields = one 463 refl (both 464 4 refl (both 397 429 refl refl refl) refl)
+    one 463 refl (both 464 389 refl (both 465 471 refl (both 366 298 refl refl refl) refl) (both 33 390 refl refl (both 471 4 refl refl refl)))
+are_laid old_range_tail = one 467 refl (both 431 434 refl (both 298 471 refl refl refl) (one 468 refl refl))
+are_laid range_operator = one 469 refl (both 366 470 refl refl (both 298 33 refl refl refl))
+are_laid range_end =
+    one 472 refl (both 473 474 refl (both 89 394 refl (both 90 4 refl refl refl) (both 91 93 refl refl refl)) (both 103 406 refl refl refl))
+are_laid fields = one 476 refl (both 477 4 refl (both 401 441 refl refl refl) refl)
 are_laid struct_pattern_elements =
-    one 466 refl (both 467 469 refl (one 468 refl (both 471 193 refl refl (both 52 194 refl refl (one 195 refl refl)))) (both 470 4 refl (both 272 33 refl
-    (one 947 refl refl) refl) refl))
+    one 479 refl (both 480 482 refl (one 481 refl (both 484 197 refl refl (both 52 198 refl refl (one 199 refl refl)))) (both 483 4 refl (both 276 33 refl
+    (one 960 refl refl) refl) refl))
 are_laid struct_pattern_field =
-    one 472 refl (both 272 473 refl (one 947 refl refl) (both 474 477 refl (both 487 475 refl refl (both 69 476 refl refl (both 365 445 refl refl (both 446
-    4 refl (both 447 518 refl refl refl) refl)))) refl))
+    one 485 refl (both 276 486 refl (one 960 refl refl) (both 487 490 refl (both 500 488 refl refl (both 69 489 refl refl (both 369 459 refl refl (both 460
+    4 refl (both 461 531 refl refl refl) refl)))) refl))
 are_laid field_pattern =
-    one 478 refl (both 479 480 refl (both 404 4 refl refl refl) (both 245 481 refl (both 233 4 refl refl refl) (both 482 485 refl (both 483 4 refl (both 484
-    245 refl refl (both 233 4 refl refl refl)) refl) (both 285 486 refl refl refl))))
-are_laid field_name = one 485 refl (both 285 486 refl refl refl)
-are_laid reference_pattern = one 489 refl (both 241 490 refl refl (both 245 412 refl (both 233 4 refl refl refl) refl))
+    one 491 refl (both 492 493 refl (both 411 4 refl refl refl) (both 249 494 refl (both 237 4 refl refl refl) (both 495 498 refl (both 496 4 refl (both 497
+    249 refl refl (both 237 4 refl refl refl)) refl) (both 289 499 refl refl refl))))
+are_laid field_name = one 498 refl (both 289 499 refl refl refl)
+are_laid reference_pattern = one 502 refl (both 245 503 refl refl (both 249 419 refl (both 237 4 refl refl refl) refl))
 are_laid identifier_pattern =
-    one 492 refl (both 493 497 refl (both 484 494 refl refl (both 245 495 refl (both 233 4 refl refl refl) (both 285 496 refl refl (both 512 4 refl refl
-    refl)))) (both 498 505 refl (both 233 499 refl refl (both 482 500 refl (both 483 4 refl (both 484 245 refl refl (both 233 4 refl refl refl)) refl) (both
-    285 501 refl refl (both 502 496 refl (one 503 refl (both 3 504 refl refl (both 331 15 refl refl refl))) (both 512 4 refl refl refl))))) (both 285 506
-    refl refl (both 507 496 refl (one 508 refl (both 3 509 refl refl (both 172 510 refl (both 163 165 refl refl refl) (both 331 511 refl refl (both 15 456
-    refl refl refl))))) (both 512 4 refl refl refl)))))
-are_laid binding = one 513 refl (both 380 381 refl refl refl)
-are_laid expression_2021_fragment = one 515 refl (both 516 518 refl (one 517 refl (both 225 83 refl refl refl)) refl)
-are_laid expression = one 519 refl (both 538 520 refl refl (both 562 524 refl refl refl))
-are_laid expression_before_block = one 522 refl (both 549 523 refl refl (both 574 532 refl refl refl))
+    one 505 refl (both 506 510 refl (both 497 507 refl refl (both 249 508 refl (both 237 4 refl refl refl) (both 289 509 refl refl (both 525 4 refl refl
+    refl)))) (both 511 518 refl (both 237 512 refl refl (both 495 513 refl (both 496 4 refl (both 497 249 refl refl (both 237 4 refl refl refl)) refl) (both
+    289 514 refl refl (both 515 509 refl (one 516 refl (both 3 517 refl refl (both 335 15 refl refl refl))) (both 525 4 refl refl refl))))) (both 289 519
+    refl refl (both 520 509 refl (one 521 refl (both 3 522 refl refl (both 176 523 refl (both 167 169 refl refl refl) (both 335 524 refl refl (both 15 468
+    refl refl refl))))) (both 525 4 refl refl refl)))))
+are_laid binding = one 526 refl (both 384 385 refl refl refl)
+are_laid expression_2021_fragment = one 528 refl (both 529 531 refl (one 530 refl (both 229 85 refl refl refl)) refl)
+are_laid expression = one 532 refl (both 551 533 refl refl (both 575 537 refl refl refl))
+are_laid expression_before_block = one 535 refl (both 562 536 refl refl (both 587 545 refl refl refl))
 are_laid behind_operation =
-    one 525 refl (both 526 529 refl (one 527 refl (both 528 518 refl refl refl)) (both 530 531 refl (one 528 refl refl) (both 538 455 refl refl (one 456
+    one 538 refl (both 539 542 refl (one 540 refl (both 541 531 refl refl refl)) (both 543 544 refl (one 541 refl refl) (both 551 434 refl refl (one 468
     refl refl))))
 are_laid behind_operation_before_block =
-    one 533 refl (both 534 536 refl (one 535 refl (both 528 521 refl refl refl)) (both 530 537 refl (one 528 refl refl) (both 549 455 refl refl (one 456
+    one 546 refl (both 547 549 refl (one 548 refl (both 541 534 refl refl refl)) (both 543 550 refl (one 541 refl refl) (both 562 434 refl refl (one 468
     refl refl))))
 are_laid range =
-    one 539 refl (both 540 544 refl (both 362 541 refl refl (both 542 543 refl (one 225 refl refl) (both 538 562 refl refl refl))) (both 33 545 refl refl
-    (both 546 548 refl (both 547 543 refl (one 548 refl (one 940 refl refl)) (both 538 562 refl refl refl)) (one 940 refl refl))))
+    one 552 refl (both 553 557 refl (both 366 554 refl refl (both 555 556 refl (one 229 refl refl) (both 551 575 refl refl refl))) (both 33 558 refl refl
+    (both 559 561 refl (both 560 556 refl (one 561 refl (one 953 refl refl)) (both 551 575 refl refl refl)) (one 953 refl refl))))
 are_laid range_before_block =
-    one 550 refl (both 551 556 refl (both 362 552 refl refl (both 553 555 refl (one 554 refl (both 15 225 refl refl refl)) (both 549 574 refl refl refl)))
-    (both 33 557 refl refl (both 558 560 refl (both 559 555 refl (one 560 refl (one 561 refl refl)) (both 549 574 refl refl refl)) (one 561 refl refl))))
+    one 563 refl (both 564 569 refl (both 366 565 refl refl (both 566 568 refl (one 567 refl (both 15 229 refl refl refl)) (both 562 587 refl refl refl)))
+    (both 33 570 refl refl (both 571 573 refl (both 572 568 refl (one 573 refl (one 574 refl refl)) (both 562 587 refl refl refl)) (one 574 refl refl))))
 are_laid operation =
-    one 563 refl (both 272 564 refl (one 947 refl refl) (both 587 565 refl refl (both 566 571 refl (one 567 refl (both 568 570 refl (both 569 581 refl refl
-    refl) (both 97 168 refl refl refl))) (both 572 573 refl (one 569 refl refl) (one 97 refl refl)))))
+    one 576 refl (both 276 577 refl (one 960 refl refl) (both 600 578 refl refl (both 579 584 refl (one 580 refl (both 581 583 refl (both 582 594 refl refl
+    refl) (both 101 172 refl refl refl))) (both 585 586 refl (one 582 refl refl) (one 101 refl refl)))))
 are_laid operation_before_block =
-    one 575 refl (both 272 576 refl (one 947 refl refl) (both 601 577 refl refl (both 578 571 refl (one 579 refl (both 580 570 refl (both 569 584 refl refl
-    refl) (both 97 168 refl refl refl))) (both 572 573 refl (one 569 refl refl) (one 97 refl refl)))))
-are_laid operand = one 582 refl (both 538 583 refl refl (both 272 587 refl (one 947 refl refl) refl))
-are_laid operand_before_block = one 585 refl (both 549 586 refl refl (both 272 601 refl (one 947 refl refl) refl))
+    one 588 refl (both 276 589 refl (one 960 refl refl) (both 614 590 refl refl (both 591 584 refl (one 592 refl (both 593 583 refl (both 582 597 refl refl
+    refl) (both 101 172 refl refl refl))) (both 585 586 refl (one 582 refl refl) (one 101 refl refl)))))
+are_laid operand = one 595 refl (both 551 596 refl refl (both 276 600 refl (one 960 refl refl) refl))
+are_laid operand_before_block = one 598 refl (both 562 599 refl refl (both 276 614 refl (one 960 refl refl) refl))
 are_laid unary =
-    one 588 refl (both 589 595 refl (both 590 591 refl (one 73 refl (one 19 refl refl)) (both 718 592 refl refl (both 593 594 refl (one 620 refl refl) (one
-    648 refl refl)))) (both 73 596 refl (one 19 refl refl) (both 597 598 refl (both 611 582 refl refl (both 538 583 refl refl (both 272 587 refl (one 947
-    refl refl) refl))) (both 599 592 refl (both 650 600 refl refl (both 692 718 refl refl refl)) (both 593 594 refl (one 620 refl refl) (one 648 refl
+    one 601 refl (both 602 608 refl (both 603 604 refl (one 75 refl (one 19 refl refl)) (both 731 605 refl refl (both 606 607 refl (one 633 refl refl) (one
+    661 refl refl)))) (both 75 609 refl (one 19 refl refl) (both 610 611 refl (both 624 595 refl refl (both 551 596 refl refl (both 276 600 refl (one 960
+    refl refl) refl))) (both 612 605 refl (both 663 613 refl refl (both 705 731 refl refl refl)) (both 606 607 refl (one 633 refl refl) (one 661 refl
     refl))))))
 are_laid unary_before_block =
-    one 602 refl (both 603 605 refl (both 590 604 refl (one 73 refl (one 19 refl refl)) (both 730 592 refl refl (both 593 594 refl (one 620 refl refl) (one
-    648 refl refl)))) (both 73 606 refl (one 19 refl refl) (both 607 608 refl (both 611 585 refl refl (both 549 586 refl refl (both 272 601 refl (one 947
-    refl refl) refl))) (both 609 592 refl (both 658 610 refl refl (both 708 730 refl refl refl)) (both 593 594 refl (one 620 refl refl) (one 648 refl
+    one 615 refl (both 616 618 refl (both 603 617 refl (one 75 refl (one 19 refl refl)) (both 743 605 refl refl (both 606 607 refl (one 633 refl refl) (one
+    661 refl refl)))) (both 75 619 refl (one 19 refl refl) (both 620 621 refl (both 624 598 refl refl (both 562 599 refl refl (both 276 614 refl (one 960
+    refl refl) refl))) (both 622 605 refl (both 671 623 refl refl (both 721 743 refl refl refl)) (both 606 607 refl (one 633 refl refl) (one 661 refl
     refl))))))
 are_laid unary_operator =
-    one 612 refl (both 88 613 refl refl (both 163 614 refl refl (both 16 615 refl refl (both 241 616 refl refl (both 617 4 refl (both 618 233 refl (both 619
-    232 refl refl (both 83 233 refl refl refl)) refl) refl)))))
+    one 625 refl (both 90 626 refl refl (both 167 627 refl refl (both 16 628 refl refl (both 245 629 refl refl (both 630 4 refl (both 631 237 refl (both 632
+    236 refl refl (both 85 237 refl refl refl)) refl) refl)))))
 are_laid postfix =
-    one 621 refl (both 150 622 refl refl (both 623 624 refl refl (both 625 626 refl refl (both 627 628 refl refl (both 629 634 refl (both 630 632 refl (both
-    631 319 refl refl refl) (both 633 4 refl refl refl)) (both 635 636 refl refl (both 637 640 refl (both 638 639 refl refl refl) (both 641 486 refl (both
-    19 642 refl refl (both 643 645 refl (both 3 644 refl refl (both 44 623 refl refl refl)) (one 646 refl (both 3 647 refl refl (both 34 331 refl refl
+    one 634 refl (both 154 635 refl refl (both 636 637 refl refl (both 638 639 refl refl (both 640 641 refl refl (both 642 647 refl (both 643 645 refl (both
+    644 323 refl refl refl) (both 646 4 refl refl refl)) (both 648 649 refl refl (both 650 653 refl (both 651 652 refl refl refl) (both 654 499 refl (both
+    19 655 refl refl (both 656 658 refl (both 3 657 refl refl (both 44 636 refl refl refl)) (one 659 refl (both 3 660 refl refl (both 34 335 refl refl
     refl))))) refl))))))))
-are_laid bad_postfix = one 649 refl (both 627 42 refl refl refl)
+are_laid bad_postfix = one 662 refl (both 640 42 refl refl refl)
 are_laid closure =
-    one 651 refl (both 662 652 refl refl (both 653 656 refl (both 28 654 refl refl (both 168 655 refl refl refl)) (both 657 518 refl (one 28 refl refl)
+    one 664 refl (both 675 665 refl refl (both 666 669 refl (both 28 667 refl refl (both 172 668 refl refl refl)) (both 670 531 refl (one 28 refl refl)
     refl)))
 are_laid closure_before_block =
-    one 659 refl (both 662 660 refl refl (both 653 661 refl (both 28 654 refl refl (both 168 655 refl refl refl)) (both 657 521 refl (one 28 refl refl)
+    one 672 refl (both 675 673 refl refl (both 666 674 refl (both 28 667 refl refl (both 172 668 refl refl refl)) (both 670 534 refl (one 28 refl refl)
     refl)))
 are_laid closure_head =
-    one 663 refl (both 309 664 refl (both 345 4 refl refl refl) (both 665 674 refl (both 666 4 refl (both 83 667 refl refl (one 668 refl (one 669 refl (both
-    670 671 refl refl (both 672 673 refl refl (both 379 368 refl refl refl)))))) refl) (both 675 676 refl (both 670 4 refl refl refl) (both 216 677 refl
-    (both 217 4 refl refl refl) (both 678 679 refl (both 672 4 refl refl refl) (both 379 680 refl refl (both 368 681 refl refl (both 682 368 refl (both 683
-    4 refl (both 687 684 refl refl (both 685 53 refl (one 686 refl (both 52 687 refl refl refl)) (both 52 4 refl refl refl))) refl) refl))))))))
+    one 676 refl (both 313 677 refl (both 349 4 refl refl refl) (both 678 687 refl (both 679 4 refl (both 85 680 refl refl (one 681 refl (one 682 refl (both
+    683 684 refl refl (both 685 686 refl refl (both 383 372 refl refl refl)))))) refl) (both 688 689 refl (both 683 4 refl refl refl) (both 220 690 refl
+    (both 221 4 refl refl refl) (both 691 692 refl (both 685 4 refl refl refl) (both 383 693 refl refl (both 372 694 refl refl (both 695 372 refl (both 696
+    4 refl (both 700 697 refl refl (both 698 53 refl (one 699 refl (both 52 700 refl refl refl)) (both 52 4 refl refl refl))) refl) refl))))))))
 are_laid closure_parameter =
-    one 688 refl (both 272 689 refl (one 947 refl refl) (both 381 690 refl refl (both 691 4 refl (both 69 120 refl refl refl) refl)))
+    one 701 refl (both 276 702 refl (one 960 refl refl) (both 385 703 refl refl (both 704 4 refl (both 69 124 refl refl refl) refl)))
 are_laid jump =
-    one 693 refl (both 694 706 refl (both 695 704 refl (both 696 697 refl refl (both 635 698 refl refl (both 699 702 refl (both 700 701 refl refl refl)
-    (both 703 243 refl refl (both 58 4 refl refl refl))))) (both 705 548 refl (both 547 518 refl (one 548 refl (one 940 refl refl)) refl) (one 940 refl
-    refl))) (both 707 243 refl refl (both 58 4 refl refl refl)))
+    one 706 refl (both 707 719 refl (both 708 717 refl (both 709 710 refl refl (both 648 711 refl refl (both 712 715 refl (both 713 714 refl refl refl)
+    (both 716 247 refl refl (both 58 4 refl refl refl))))) (both 718 561 refl (both 560 531 refl (one 561 refl (one 953 refl refl)) refl) (one 953 refl
+    refl))) (both 720 247 refl refl (both 58 4 refl refl refl)))
 are_laid jump_before_block =
-    one 709 refl (both 710 713 refl (both 711 704 refl (both 696 712 refl refl (both 635 699 refl refl (both 700 701 refl refl refl))) (both 705 548 refl
-    (both 547 518 refl (one 548 refl (one 940 refl refl)) refl) (one 940 refl refl))) (both 714 706 refl (both 703 715 refl refl (both 243 716 refl (both 58
-    4 refl refl refl) (both 717 560 refl (both 559 518 refl (one 560 refl (one 561 refl refl)) refl) (one 561 refl refl)))) (both 707 243 refl refl (both 58
+    one 722 refl (both 723 726 refl (both 724 717 refl (both 709 725 refl refl (both 648 712 refl refl (both 713 714 refl refl refl))) (both 718 561 refl
+    (both 560 531 refl (one 561 refl (one 953 refl refl)) refl) (one 953 refl refl))) (both 727 719 refl (both 716 728 refl refl (both 247 729 refl (both 58
+    4 refl refl refl) (both 730 573 refl (both 572 531 refl (one 573 refl (one 574 refl refl)) refl) (one 574 refl refl)))) (both 720 247 refl refl (both 58
     4 refl refl refl))))
 are_laid primary =
-    one 719 refl (both 738 720 refl refl (both 721 727 refl (both 2 722 refl (both 3 4 refl refl refl) (both 103 723 refl refl (both 172 724 refl (both 163
-    165 refl refl refl) (both 167 725 refl (one 163 refl refl) (both 726 4 refl refl refl))))) (both 772 728 refl refl (both 91 729 refl refl (both 103 724
-    refl refl (both 167 725 refl (one 163 refl refl) (both 726 4 refl refl refl)))))))
+    one 732 refl (both 751 733 refl refl (both 734 740 refl (both 2 735 refl (both 3 4 refl refl refl) (both 107 736 refl refl (both 176 737 refl (both 167
+    169 refl refl refl) (both 171 738 refl (one 167 refl refl) (both 739 4 refl refl refl))))) (both 785 741 refl refl (both 95 742 refl refl (both 107 737
+    refl refl (both 171 738 refl (one 167 refl refl) (both 739 4 refl refl refl)))))))
 are_laid primary_before_block =
-    one 731 refl (both 743 732 refl refl (both 733 735 refl (both 2 734 refl (both 3 4 refl refl refl) (both 103 171 refl refl (both 172 167 refl (both 163
-    165 refl refl refl) (one 163 refl refl)))) (both 772 736 refl refl (both 91 737 refl refl (both 103 167 refl refl (one 163 refl refl))))))
-are_laid variable = one 739 refl (both 19 740 refl refl (one 741 refl (both 3 742 refl refl (both 163 15 refl refl refl))))
-are_laid variable_before_block = one 744 refl (both 19 745 refl refl (one 746 refl (both 3 163 refl refl refl)))
-are_laid expressions = one 748 refl (one 749 refl (both 518 193 refl refl (both 52 194 refl refl (one 195 refl refl))))
-are_laid some_expressions = one 751 refl (both 752 747 refl (one 194 refl (one 195 refl refl)) refl)
+    one 744 refl (both 756 745 refl refl (both 746 748 refl (both 2 747 refl (both 3 4 refl refl refl) (both 107 175 refl refl (both 176 171 refl (both 167
+    169 refl refl refl) (one 167 refl refl)))) (both 785 749 refl refl (both 95 750 refl refl (both 107 171 refl refl (one 167 refl refl))))))
+are_laid variable = one 752 refl (both 19 753 refl refl (one 754 refl (both 3 755 refl refl (both 167 15 refl refl refl))))
+are_laid variable_before_block = one 757 refl (both 19 758 refl refl (one 759 refl (both 3 167 refl refl refl)))
+are_laid expressions = one 761 refl (one 762 refl (both 531 197 refl refl (both 52 198 refl refl (one 199 refl refl))))
+are_laid some_expressions = one 764 refl (both 765 760 refl (one 198 refl (one 199 refl refl)) refl)
 are_laid array_elements =
-    one 754 refl (both 755 4 refl (both 518 756 refl refl (both 237 757 refl (both 238 518 refl refl refl) (both 758 194 refl (both 52 747 refl refl refl)
-    (one 195 refl refl)))) refl)
+    one 767 refl (both 768 4 refl (both 531 769 refl refl (both 241 770 refl (both 242 531 refl refl refl) (both 771 198 refl (both 52 760 refl refl refl)
+    (one 199 refl refl)))) refl)
 are_laid struct_expression_fields =
-    one 760 refl (both 761 763 refl (one 762 refl (both 766 193 refl refl (both 52 194 refl refl (one 195 refl refl)))) (both 764 4 refl (both 33 765 refl
-    refl (both 518 4 refl refl refl)) refl))
+    one 773 refl (both 774 776 refl (one 775 refl (both 779 197 refl refl (both 52 198 refl refl (one 199 refl refl)))) (both 777 4 refl (both 33 778 refl
+    refl (both 531 4 refl refl refl)) refl))
 are_laid struct_expression_field =
-    one 767 refl (both 272 768 refl (one 947 refl refl) (both 769 771 refl (both 487 770 refl refl (both 69 518 refl refl refl)) refl))
-are_laid field_value = one 285 refl refl
+    one 780 refl (both 276 781 refl (one 960 refl refl) (both 782 784 refl (both 500 783 refl refl (both 69 531 refl refl refl)) refl))
+are_laid field_value = one 289 refl refl
 are_laid basic =
-    one 773 refl (both 89 774 refl refl (both 90 775 refl refl (both 623 776 refl refl (both 777 778 refl refl (both 84 779 refl refl (both 780 781 refl
-    refl (both 225 782 refl refl refl)))))))
+    one 786 refl (both 91 787 refl refl (both 93 788 refl refl (both 636 789 refl refl (both 790 791 refl refl (both 86 792 refl refl (both 793 794 refl
+    refl (both 229 795 refl refl refl)))))))
 are_laid block_like =
-    one 783 refl (both 784 786 refl (both 785 84 refl refl refl) (both 787 799 refl (both 447 788 refl refl (both 831 789 refl refl (both 655 790 refl refl
-    (both 791 798 refl (both 792 4 refl (both 793 794 refl refl (both 655 795 refl refl (both 796 782 refl (one 797 refl (one 447 refl refl)) refl))) refl)
-    (one 793 refl refl))))) (both 800 802 refl (both 638 801 refl refl (both 521 639 refl refl refl)) (both 803 804 refl (both 248 84 refl refl refl) (both
-    805 809 refl (both 806 808 refl (both 807 217 refl (both 216 267 refl (both 217 4 refl refl refl) refl) refl) (both 678 84 refl (both 672 4 refl refl
-    refl) refl)) (both 810 811 refl (both 83 84 refl refl refl) (both 816 812 refl refl (both 814 813 refl refl (both 816 84 refl refl refl)))))))))
-are_laid label = one 815 refl (both 58 69 refl refl refl)
+    one 796 refl (both 797 799 refl (both 798 86 refl refl refl) (both 800 812 refl (both 461 801 refl refl (both 844 802 refl refl (both 668 803 refl refl
+    (both 804 811 refl (both 805 4 refl (both 806 807 refl refl (both 668 808 refl refl (both 809 795 refl (one 810 refl (one 461 refl refl)) refl))) refl)
+    (one 806 refl refl))))) (both 813 815 refl (both 651 814 refl refl (both 534 652 refl refl refl)) (both 816 817 refl (both 252 86 refl refl refl) (both
+    818 822 refl (both 819 821 refl (both 820 221 refl (both 220 271 refl (both 221 4 refl refl refl) refl) refl) (both 691 86 refl (both 685 4 refl refl
+    refl) refl)) (both 823 824 refl (both 85 86 refl refl refl) (both 829 825 refl refl (both 827 826 refl refl (both 829 86 refl refl refl)))))))))
+are_laid label = one 828 refl (both 58 69 refl refl refl)
 are_laid loop =
-    one 817 refl (both 818 820 refl (both 819 84 refl refl refl) (both 821 824 refl (both 822 823 refl refl (both 831 84 refl refl refl)) (both 336 825 refl
-    refl (both 826 827 refl (both 631 4 refl refl refl) (both 365 828 refl refl (both 829 830 refl refl (both 521 84 refl refl refl)))))))
+    one 830 refl (both 831 833 refl (both 832 86 refl refl refl) (both 834 837 refl (both 835 836 refl refl (both 844 86 refl refl refl)) (both 340 838 refl
+    refl (both 839 840 refl (both 644 4 refl refl refl) (both 369 841 refl refl (both 842 843 refl refl (both 534 86 refl refl refl)))))))
 are_laid conditions =
-    one 832 refl (both 549 833 refl refl (both 853 834 refl refl (both 272 835 refl (one 947 refl refl) (both 601 836 refl refl (both 837 845 refl (one 838
-    refl (both 839 570 refl (both 840 841 refl (one 379 refl refl) (both 569 842 refl refl (both 843 584 refl (one 844 refl refl) refl))) (both 97 168 refl
-    refl refl))) (both 846 847 refl (both 290 853 refl refl refl) (both 848 851 refl (both 849 4 refl (both 379 850 refl refl (both 584 578 refl refl (one
-    579 refl (both 580 570 refl (both 569 584 refl refl refl) (both 97 168 refl refl refl))))) refl) (both 572 852 refl (one 569 refl refl) (both 573 532
-    refl (one 97 refl refl) refl)))))))))
+    one 845 refl (both 562 846 refl refl (both 866 847 refl refl (both 276 848 refl (one 960 refl refl) (both 614 849 refl refl (both 850 858 refl (one 851
+    refl (both 852 583 refl (both 853 854 refl (one 383 refl refl) (both 582 855 refl refl (both 856 597 refl (one 857 refl refl) refl))) (both 101 172 refl
+    refl refl))) (both 859 860 refl (both 294 866 refl refl refl) (both 861 864 refl (both 862 4 refl (both 383 863 refl refl (both 597 591 refl refl (one
+    592 refl (both 593 583 refl (both 582 597 refl refl refl) (both 101 172 refl refl refl))))) refl) (both 585 865 refl (one 582 refl refl) (both 586 545
+    refl (one 101 refl refl) refl)))))))))
 are_laid let_chain =
-    one 854 refl (both 860 855 refl refl (both 856 859 refl (one 857 refl (both 290 858 refl refl (both 860 864 refl refl refl))) (one 938 refl refl)))
-are_laid let_condition = one 861 refl (both 844 862 refl refl (both 365 863 refl refl (both 66 864 refl refl refl)))
+    one 867 refl (both 873 868 refl refl (both 869 872 refl (one 870 refl (both 294 871 refl refl (both 873 877 refl refl refl))) (one 951 refl refl)))
+are_laid let_condition = one 874 refl (both 857 875 refl refl (both 369 876 refl refl (both 66 877 refl refl refl)))
 are_laid let_value =
-    one 865 refl (both 549 866 refl refl (both 272 867 refl (one 947 refl refl) (both 601 868 refl refl (both 869 872 refl (one 870 refl (both 871 570 refl
-    (both 859 580 refl (one 938 refl refl) (both 569 584 refl refl refl)) (both 97 168 refl refl refl))) (both 873 573 refl (one 874 refl (both 859 569 refl
-    (one 938 refl refl) refl)) (one 97 refl refl))))))
-are_laid match_arms = one 876 refl (both 877 878 refl (one 942 refl refl) (one 879 refl refl))
+    one 878 refl (both 562 879 refl refl (both 276 880 refl (one 960 refl refl) (both 614 881 refl refl (both 882 885 refl (one 883 refl (both 884 583 refl
+    (both 872 593 refl (one 951 refl refl) (both 582 597 refl refl refl)) (both 101 172 refl refl refl))) (both 886 586 refl (one 887 refl (both 872 582
+    refl (one 951 refl refl) refl)) (one 101 refl refl))))))
+are_laid match_arms = one 889 refl (both 890 891 refl (one 955 refl refl) (one 892 refl refl))
 are_laid match_arm =
-    one 880 refl (both 272 881 refl (one 947 refl refl) (both 365 882 refl refl (both 883 886 refl (both 447 884 refl refl (both 893 885 refl refl (both 887
-    193 refl refl (both 52 194 refl refl (one 195 refl refl))))) (both 887 194 refl refl (one 195 refl refl)))))
+    one 893 refl (both 276 894 refl (one 960 refl refl) (both 369 895 refl refl (both 896 899 refl (both 461 897 refl refl (both 906 898 refl refl (both 900
+    197 refl refl (both 52 198 refl refl (one 199 refl refl))))) (both 900 198 refl refl (one 199 refl refl)))))
 are_laid arm_body =
-    one 888 refl (both 889 890 refl refl (both 891 749 refl (both 272 892 refl (one 947 refl refl) (both 930 53 refl refl (both 52 4 refl refl refl))) (both
-    518 193 refl refl (both 52 194 refl refl (one 195 refl refl)))))
+    one 901 refl (both 902 903 refl refl (both 904 762 refl (both 276 905 refl (one 960 refl refl) (both 943 53 refl refl (both 52 4 refl refl refl))) (both
+    531 197 refl refl (both 52 198 refl refl (one 199 refl refl)))))
 are_laid guard =
-    one 894 refl (both 538 895 refl refl (both 912 896 refl refl (both 272 897 refl (one 947 refl refl) (both 587 898 refl refl (both 899 904 refl (one 900
-    refl (both 901 570 refl (both 840 902 refl (one 379 refl refl) (both 569 903 refl refl (both 843 581 refl (one 844 refl refl) refl))) (both 97 168 refl
-    refl refl))) (both 905 906 refl (both 290 912 refl refl refl) (both 907 910 refl (both 908 4 refl (both 379 909 refl refl (both 581 566 refl refl (one
-    567 refl (both 568 570 refl (both 569 581 refl refl refl) (both 97 168 refl refl refl))))) refl) (both 572 911 refl (one 569 refl refl) (both 573 524
-    refl (one 97 refl refl) refl)))))))))
+    one 907 refl (both 551 908 refl refl (both 925 909 refl refl (both 276 910 refl (one 960 refl refl) (both 600 911 refl refl (both 912 917 refl (one 913
+    refl (both 914 583 refl (both 853 915 refl (one 383 refl refl) (both 582 916 refl refl (both 856 594 refl (one 857 refl refl) refl))) (both 101 172 refl
+    refl refl))) (both 918 919 refl (both 294 925 refl refl refl) (both 920 923 refl (both 921 4 refl (both 383 922 refl refl (both 594 579 refl refl (one
+    580 refl (both 581 583 refl (both 582 594 refl refl refl) (both 101 172 refl refl refl))))) refl) (both 585 924 refl (one 582 refl refl) (both 586 537
+    refl (one 101 refl refl) refl)))))))))
 are_laid guard_chain =
-    one 913 refl (both 918 914 refl refl (both 915 859 refl (one 916 refl (both 290 917 refl refl (both 918 922 refl refl refl))) (one 938 refl refl)))
-are_laid guard_condition = one 919 refl (both 844 920 refl refl (both 365 921 refl refl (both 66 922 refl refl refl)))
+    one 926 refl (both 931 927 refl refl (both 928 872 refl (one 929 refl (both 294 930 refl refl (both 931 935 refl refl refl))) (one 951 refl refl)))
+are_laid guard_condition = one 932 refl (both 857 933 refl refl (both 369 934 refl refl (both 66 935 refl refl refl)))
 are_laid guard_value =
-    one 923 refl (both 538 924 refl refl (both 272 925 refl (one 947 refl refl) (both 587 926 refl refl (both 927 872 refl (one 928 refl (both 929 570 refl
-    (both 859 568 refl (one 938 refl refl) (both 569 581 refl refl refl)) (both 97 168 refl refl refl))) (both 873 573 refl (one 874 refl (both 859 569 refl
-    (one 938 refl refl) refl)) (one 97 refl refl))))))
+    one 936 refl (both 551 937 refl refl (both 276 938 refl (one 960 refl refl) (both 600 939 refl refl (both 940 885 refl (one 941 refl (both 942 583 refl
+    (both 872 581 refl (one 951 refl refl) (both 582 594 refl refl refl)) (both 101 172 refl refl refl))) (both 886 586 refl (one 887 refl (both 872 582
+    refl (one 951 refl refl) refl)) (one 101 refl refl))))))
 are_laid expression_with_block =
-    one 931 refl (both 932 936 refl (both 84 933 refl refl (both 934 782 refl (one 935 refl (both 217 267 refl refl refl)) refl)) (one 937 refl (both 627
-    150 refl refl refl)))
-are_laid lazy_operator = one 939 refl (both 290 379 refl refl refl)
-are_laid begins = one 941 refl (both 15 561 refl refl refl)
-are_laid inner_attribute = one 943 refl (both 944 945 refl refl (both 163 946 refl refl refl))
-are_laid attribute = one 948 refl (both 944 946 refl refl refl)
-are_laid meta = one 950 refl (both 951 953 refl (both 248 952 refl refl refl) refl)
-are_laid plain_meta = one 954 refl (both 115 955 refl refl (both 956 4 refl (both 165 957 refl refl (both 66 518 refl refl refl)) refl))
-are_laid visibility = one 959 refl (both 960 4 refl (both 961 962 refl refl (both 963 4 refl refl refl)) refl)
-are_laid visibility_place = one 965 refl (both 966 967 refl refl (both 968 969 refl refl (both 970 971 refl refl (both 829 115 refl refl refl))))
-are_laid block = one 973 refl (both 877 974 refl (one 942 refl refl) refl)
+    one 944 refl (both 945 949 refl (both 86 946 refl refl (both 947 795 refl (one 948 refl (both 221 271 refl refl refl)) refl)) (one 950 refl (both 640
+    154 refl refl refl)))
+are_laid lazy_operator = one 952 refl (both 294 383 refl refl refl)
+are_laid begins = one 954 refl (both 15 574 refl refl refl)
+are_laid inner_attribute = one 956 refl (both 957 958 refl refl (both 167 959 refl refl refl))
+are_laid attribute = one 961 refl (both 957 959 refl refl refl)
+are_laid meta = one 963 refl (both 964 966 refl (both 252 965 refl refl refl) refl)
+are_laid plain_meta = one 967 refl (both 119 968 refl refl (both 969 4 refl (both 169 970 refl refl (both 66 531 refl refl refl)) refl))
+are_laid visibility = one 972 refl (both 973 4 refl (both 974 975 refl refl (both 976 4 refl refl refl)) refl)
+are_laid visibility_place = one 978 refl (both 979 980 refl refl (both 981 982 refl refl (both 983 984 refl refl (both 842 119 refl refl refl))))
+are_laid block = one 986 refl (both 890 987 refl (one 955 refl refl) refl)
 are_laid statements =
-    one 975 refl (one 976 refl (both 238 977 refl refl (both 978 981 refl (both 272 979 refl (one 947 refl refl) (both 980 1000 refl (both 988 238 refl refl
-    refl) refl)) (both 518 982 refl refl (both 238 194 refl refl (one 195 refl refl))))))
-are_laid statement = one 984 refl (both 238 985 refl refl (both 986 518 refl (both 272 987 refl (one 947 refl refl) (both 988 1000 refl refl refl)) refl))
+    one 988 refl (one 989 refl (both 242 990 refl refl (both 991 994 refl (both 276 992 refl (one 960 refl refl) (both 993 1013 refl (both 1001 242 refl
+    refl refl) refl)) (both 531 995 refl refl (both 242 198 refl refl (one 199 refl refl))))))
+are_laid statement = one 997 refl (both 242 998 refl refl (both 999 531 refl (both 276 1000 refl (one 960 refl refl) (both 1001 1013 refl refl refl)) refl))
 are_laid let_statement =
-    one 989 refl (both 990 991 refl (both 970 4 refl refl refl) (both 844 992 refl refl (both 381 993 refl refl (both 375 994 refl (one 376 refl (both 377
-    378 refl refl (both 379 380 refl refl refl))) (both 690 995 refl (both 691 4 refl (both 69 120 refl refl refl) refl) (both 996 4 refl (both 66 997 refl
-    refl (both 518 998 refl refl (both 999 4 refl (both 793 655 refl refl refl) refl))) refl))))))
+    one 1002 refl (both 1003 1004 refl (both 983 4 refl refl refl) (both 857 1005 refl refl (both 385 1006 refl refl (both 379 1007 refl (one 380 refl (both
+    381 382 refl refl (both 383 384 refl refl refl))) (both 703 1008 refl (both 704 4 refl (both 69 124 refl refl refl) refl) (both 1009 4 refl (both 66
+    1010 refl refl (both 531 1011 refl refl (both 1012 4 refl (both 806 668 refl refl refl) refl))) refl))))))
 are_laid closed_statement =
-    one 1001 refl (both 1002 1007 refl (both 1003 1021 refl (one 1004 refl (both 1005 1006 refl refl refl)) refl) (both 930 1008 refl refl (both 2 1009 refl
-    (both 3 4 refl refl refl) (both 103 1010 refl refl (both 163 1011 refl refl (both 15 936 refl refl (one 937 refl (both 627 150 refl refl refl))))))))
-are_laid items = one 1013 refl (both 877 1014 refl (one 942 refl refl) (one 1015 refl refl))
+    one 1014 refl (both 1015 1020 refl (both 1016 1034 refl (one 1017 refl (both 1018 1019 refl refl refl)) refl) (both 943 1021 refl refl (both 2 1022 refl
+    (both 3 4 refl refl refl) (both 107 1023 refl refl (both 167 1024 refl refl (both 15 949 refl refl (one 950 refl (both 640 154 refl refl refl))))))))
+are_laid items = one 1026 refl (both 890 1027 refl (one 955 refl refl) (one 1028 refl refl))
 are_laid item =
-    one 1016 refl (both 272 1017 refl (one 947 refl refl) (both 1021 1018 refl refl (both 1043 1019 refl refl (both 958 1020 refl refl (both 83 655 refl
+    one 1029 refl (both 276 1030 refl (one 960 refl refl) (both 1034 1031 refl refl (both 1056 1032 refl refl (both 971 1033 refl refl (both 85 668 refl
     refl refl)))))
 are_laid declaration =
-    one 1022 refl (both 1048 1023 refl refl (both 958 1024 refl refl (both 1025 1029 refl (both 1005 1026 refl refl (both 1110 1027 refl refl (both 1097
-    1028 refl refl (both 1167 1269 refl refl refl)))) refl)))
+    one 1035 refl (both 1061 1036 refl refl (both 971 1037 refl refl (both 1038 1042 refl (both 1018 1039 refl refl (both 1123 1040 refl refl (both 1110
+    1041 refl refl (both 1180 1282 refl refl refl)))) refl)))
 are_laid item_kind =
-    one 1030 refl (both 1110 1031 refl refl (both 1059 1032 refl refl (both 1076 1033 refl refl (both 1086 1034 refl refl (both 1097 1035 refl refl (both
-    1146 1036 refl refl (both 1153 1037 refl refl (both 1167 1038 refl refl (both 1178 1039 refl refl (both 1223 1040 refl refl (both 1240 1041 refl refl
-    (both 1246 1042 refl refl (both 1262 1053 refl refl refl)))))))))))))
-are_laid macro_item = one 1044 refl (both 115 1045 refl refl (both 163 1046 refl refl (both 15 1047 refl refl (both 165 238 refl refl refl))))
+    one 1043 refl (both 1123 1044 refl refl (both 1072 1045 refl refl (both 1089 1046 refl refl (both 1099 1047 refl refl (both 1110 1048 refl refl (both
+    1159 1049 refl refl (both 1166 1050 refl refl (both 1180 1051 refl refl (both 1191 1052 refl refl (both 1236 1053 refl refl (both 1253 1054 refl refl
+    (both 1259 1055 refl refl (both 1275 1066 refl refl refl)))))))))))))
+are_laid macro_item = one 1057 refl (both 119 1058 refl refl (both 167 1059 refl refl (both 15 1060 refl refl (both 169 242 refl refl refl))))
 are_laid macro_rules =
-    one 1049 refl (both 1050 1051 refl refl (both 163 1052 refl refl (both 285 1046 refl refl (both 15 1047 refl refl (both 165 238 refl refl refl)))))
-are_laid macro_definition = one 1054 refl (both 1055 1056 refl refl (both 285 1057 refl refl (both 1058 15 refl (both 331 4 refl refl refl) refl)))
-are_laid use_declaration = one 1060 refl (both 319 1061 refl refl (both 1065 238 refl refl refl))
-are_laid use_trees = one 1063 refl (one 1064 refl (both 1065 193 refl refl (both 52 194 refl refl (one 195 refl refl))))
+    one 1062 refl (both 1063 1064 refl refl (both 167 1065 refl refl (both 289 1059 refl refl (both 15 1060 refl refl (both 169 242 refl refl refl)))))
+are_laid macro_definition = one 1067 refl (both 1068 1069 refl refl (both 289 1070 refl refl (both 1071 15 refl (both 335 4 refl refl refl) refl)))
+are_laid use_declaration = one 1073 refl (both 323 1074 refl refl (both 1078 242 refl refl refl))
+are_laid use_trees = one 1076 refl (one 1077 refl (both 1078 197 refl refl (both 52 198 refl refl (one 199 refl refl))))
 are_laid use_tree =
-    one 1066 refl (both 2 1067 refl (both 3 4 refl refl refl) (both 1068 1069 refl refl (both 16 1070 refl refl (both 19 1071 refl refl (both 118 1072 refl
-    (one 119 refl (both 3 19 refl refl refl)) (both 1073 4 refl (both 1074 1083 refl (both 3 1075 refl refl (both 1068 16 refl refl refl)) refl) refl))))))
+    one 1079 refl (both 2 1080 refl (both 3 4 refl refl refl) (both 1081 1082 refl refl (both 16 1083 refl refl (both 19 1084 refl refl (both 122 1085 refl
+    (one 123 refl (both 3 19 refl refl refl)) (both 1086 4 refl (both 1087 1096 refl (both 3 1088 refl refl (both 1081 16 refl refl refl)) refl) refl))))))
 are_laid extern_crate =
-    one 1077 refl (both 256 1078 refl refl (both 966 1079 refl refl (both 1080 1081 refl (both 285 968 refl refl refl) (both 1082 238 refl (both 1083 4 refl
+    one 1090 refl (both 260 1091 refl refl (both 979 1092 refl refl (both 1093 1094 refl (both 289 981 refl refl refl) (both 1095 242 refl (both 1096 4 refl
     refl refl) refl))))
-are_laid rename = one 1084 refl (both 97 1085 refl refl (both 285 225 refl refl refl))
+are_laid rename = one 1097 refl (both 101 1098 refl refl (both 289 229 refl refl refl))
 are_laid static_item =
-    one 1087 refl (both 1088 1090 refl (both 1089 4 refl (both 248 1006 refl refl refl) refl) (both 670 1091 refl refl (both 245 1092 refl (both 233 4 refl
-    refl refl) (both 285 1093 refl refl (both 69 1094 refl refl (both 120 1095 refl refl (both 1096 238 refl (both 957 4 refl (both 66 518 refl refl refl)
+    one 1100 refl (both 1101 1103 refl (both 1102 4 refl (both 252 1019 refl refl refl) refl) (both 683 1104 refl refl (both 249 1105 refl (both 237 4 refl
+    refl refl) (both 289 1106 refl refl (both 69 1107 refl refl (both 124 1108 refl refl (both 1109 242 refl (both 970 4 refl (both 66 531 refl refl refl)
     refl) refl)))))))
 are_laid constant_item =
-    one 1098 refl (both 1099 1101 refl (both 1100 4 refl refl refl) (both 83 1102 refl refl (both 1085 1103 refl (both 285 225 refl refl refl) (both 1104
-    1105 refl (both 1293 4 refl refl refl) (both 69 1106 refl refl (both 120 1107 refl refl (both 1096 1108 refl (both 957 4 refl (both 66 518 refl refl
-    refl) refl) (both 1109 238 refl (both 1316 4 refl refl refl) refl))))))))
+    one 1111 refl (both 1112 1114 refl (both 1113 4 refl refl refl) (both 85 1115 refl refl (both 1098 1116 refl (both 289 229 refl refl refl) (both 1117
+    1118 refl (both 1306 4 refl refl refl) (both 69 1119 refl refl (both 124 1120 refl refl (both 1109 1121 refl (both 970 4 refl (both 66 531 refl refl
+    refl) refl) (both 1122 242 refl (both 1329 4 refl refl refl) refl))))))))
 are_laid function =
-    one 1111 refl (both 1140 1112 refl refl (both 260 1113 refl refl (both 285 1114 refl refl (both 1104 1115 refl (both 1293 4 refl refl refl) (both 1116
-    1117 refl refl (both 1118 1120 refl (both 1119 4 refl (both 28 120 refl refl refl) refl) (both 1109 1121 refl (both 1316 4 refl refl refl) (both 84 238
+    one 1124 refl (both 1153 1125 refl refl (both 264 1126 refl refl (both 289 1127 refl refl (both 1117 1128 refl (both 1306 4 refl refl refl) (both 1129
+    1130 refl refl (both 1131 1133 refl (both 1132 4 refl (both 28 124 refl refl refl) refl) (both 1122 1134 refl (both 1329 4 refl refl refl) (both 86 242
     refl refl refl))))))))
 are_laid function_parameters =
-    one 1123 refl (both 270 1124 refl (both 271 4 refl (both 272 273 refl (one 947 refl refl) (both 1126 193 refl refl (both 52 194 refl refl (one 195 refl
-    refl)))) refl) (one 1125 refl (both 1134 193 refl refl (both 52 194 refl refl (one 195 refl refl)))))
+    one 1136 refl (both 274 1137 refl (both 275 4 refl (both 276 277 refl (one 960 refl refl) (both 1139 197 refl refl (both 52 198 refl refl (one 199 refl
+    refl)))) refl) (one 1138 refl (both 1147 197 refl refl (both 52 198 refl refl (one 199 refl refl)))))
 are_laid self_parameter =
-    one 1127 refl (both 1128 108 refl (both 1129 1132 refl (both 241 1130 refl refl (both 243 1131 refl (both 58 4 refl refl refl) (both 245 968 refl (both
-    233 4 refl refl refl) refl))) (both 245 1133 refl (both 233 4 refl refl refl) (both 968 690 refl refl (both 691 4 refl (both 69 120 refl refl refl)
+    one 1140 refl (both 1141 112 refl (both 1142 1145 refl (both 245 1143 refl refl (both 247 1144 refl (both 58 4 refl refl refl) (both 249 981 refl (both
+    237 4 refl refl refl) refl))) (both 249 1146 refl (both 237 4 refl refl refl) (both 981 703 refl refl (both 704 4 refl (both 69 124 refl refl refl)
     refl)))) (one 3 refl refl))
 are_laid function_parameter =
-    one 1135 refl (both 272 1136 refl (one 947 refl refl) (both 294 1137 refl refl (both 279 1138 refl (one 1126 refl refl) (both 381 1139 refl refl (both
-    69 293 refl refl (both 294 120 refl refl refl))))))
+    one 1148 refl (both 276 1149 refl (one 960 refl refl) (both 298 1150 refl refl (both 283 1151 refl (one 1139 refl refl) (both 385 1152 refl refl (both
+    69 297 refl refl (both 298 124 refl refl refl))))))
 are_laid function_qualifiers =
-    one 1141 refl (both 82 1142 refl (both 83 4 refl refl refl) (both 216 1143 refl (both 217 4 refl refl refl) (both 1144 1145 refl (both 267 4 refl refl
-    refl) (both 1088 254 refl (both 1089 4 refl (both 248 1006 refl refl refl) refl) (both 255 4 refl (both 256 257 refl refl (both 258 4 refl refl refl))
+    one 1154 refl (both 84 1155 refl (both 85 4 refl refl refl) (both 220 1156 refl (both 221 4 refl refl refl) (both 1157 1158 refl (both 271 4 refl refl
+    refl) (both 1101 258 refl (both 1102 4 refl (both 252 1019 refl refl refl) refl) (both 259 4 refl (both 260 261 refl refl (both 262 4 refl refl refl))
     refl)))))
 are_laid module_item =
-    one 1147 refl (both 252 1148 refl (both 248 4 refl refl refl) (both 1149 1150 refl refl (both 285 1151 refl refl (both 1152 238 refl refl refl))))
+    one 1160 refl (both 256 1161 refl (both 252 4 refl refl refl) (both 1162 1163 refl refl (both 289 1164 refl refl (both 1165 242 refl refl refl))))
 are_laid extern_block =
-    one 1154 refl (both 252 1155 refl (both 248 4 refl refl refl) (both 256 1156 refl refl (both 257 1157 refl (both 258 4 refl refl refl) refl)))
-are_laid external_items = one 1159 refl (both 877 1160 refl (one 942 refl refl) (one 1161 refl refl))
+    one 1167 refl (both 256 1168 refl (both 252 4 refl refl refl) (both 260 1169 refl refl (both 261 1170 refl (both 262 4 refl refl refl) refl)))
+are_laid external_items = one 1172 refl (both 890 1173 refl (one 955 refl refl) (one 1174 refl refl))
 are_laid external_item =
-    one 1162 refl (both 272 1163 refl (one 947 refl refl) (both 1164 1043 refl (both 958 1165 refl refl (both 1110 1166 refl refl (both 1086 1167 refl refl
+    one 1175 refl (both 276 1176 refl (one 960 refl refl) (both 1177 1056 refl (both 971 1178 refl refl (both 1123 1179 refl refl (both 1099 1180 refl refl
     refl))) refl))
 are_laid type_alias =
-    one 1168 refl (both 1100 1169 refl refl (both 285 1170 refl refl (both 1104 1171 refl (both 1293 4 refl refl refl) (both 1172 1173 refl (both 68 4 refl
-    (both 69 295 refl refl refl) refl) (both 1109 1174 refl (both 1316 4 refl refl refl) (both 1175 238 refl (both 1176 4 refl (both 66 1177 refl refl (both
-    120 1109 refl refl (both 1316 4 refl refl refl))) refl) refl))))))
+    one 1181 refl (both 1113 1182 refl refl (both 289 1183 refl refl (both 1117 1184 refl (both 1306 4 refl refl refl) (both 1185 1186 refl (both 68 4 refl
+    (both 69 299 refl refl refl) refl) (both 1122 1187 refl (both 1329 4 refl refl refl) (both 1188 242 refl (both 1189 4 refl (both 66 1190 refl refl (both
+    124 1122 refl refl (both 1329 4 refl refl refl))) refl) refl))))))
 are_laid structure =
-    one 1179 refl (both 1180 1181 refl refl (both 285 1182 refl refl (both 1104 1183 refl (both 1293 4 refl refl refl) (both 1184 1186 refl (both 1185 1108
-    refl refl (both 1109 238 refl (both 1316 4 refl refl refl) refl)) (both 1109 1187 refl (both 1316 4 refl refl refl) (both 1188 238 refl refl refl))))))
-are_laid struct_fields = one 1190 refl (one 1191 refl (both 1192 193 refl refl (both 52 194 refl refl (one 195 refl refl))))
+    one 1192 refl (both 1193 1194 refl refl (both 289 1195 refl refl (both 1117 1196 refl (both 1306 4 refl refl refl) (both 1197 1199 refl (both 1198 1121
+    refl refl (both 1122 242 refl (both 1329 4 refl refl refl) refl)) (both 1122 1200 refl (both 1329 4 refl refl refl) (both 1201 242 refl refl refl))))))
+are_laid struct_fields = one 1203 refl (one 1204 refl (both 1205 197 refl refl (both 52 198 refl refl (one 199 refl refl))))
 are_laid struct_field =
-    one 1193 refl (both 272 1194 refl (one 947 refl refl) (both 958 1195 refl refl (both 252 1196 refl (both 248 4 refl refl refl) (both 285 1197 refl refl
-    (both 69 1198 refl refl (both 120 1096 refl refl (both 957 4 refl (both 66 518 refl refl refl) refl)))))))
-are_laid tuple_fields = one 1200 refl (one 1201 refl (both 1202 193 refl refl (both 52 194 refl refl (one 195 refl refl))))
+    one 1206 refl (both 276 1207 refl (one 960 refl refl) (both 971 1208 refl refl (both 256 1209 refl (both 252 4 refl refl refl) (both 289 1210 refl refl
+    (both 69 1211 refl refl (both 124 1109 refl refl (both 970 4 refl (both 66 531 refl refl refl) refl)))))))
+are_laid tuple_fields = one 1213 refl (one 1214 refl (both 1215 197 refl refl (both 52 198 refl refl (one 199 refl refl))))
 are_laid tuple_field =
-    one 1203 refl (both 272 1204 refl (one 947 refl refl) (both 1205 1096 refl (both 1206 120 refl (both 961 1207 refl refl (both 1208 1214 refl (both 963
-    1209 refl refl (both 1210 120 refl (one 1211 refl (both 52 1212 refl refl (both 127 1213 refl refl (both 66 194 refl refl (one 195 refl refl))))) refl))
-    (both 1215 120 refl (both 1216 126 refl refl (one 127 refl refl)) refl))) refl) (both 957 4 refl (both 66 518 refl refl refl) refl)))
+    one 1216 refl (both 276 1217 refl (one 960 refl refl) (both 1218 1109 refl (both 1219 124 refl (both 974 1220 refl refl (both 1221 1227 refl (both 976
+    1222 refl refl (both 1223 124 refl (one 1224 refl (both 52 1225 refl refl (both 131 1226 refl refl (both 66 198 refl refl (one 199 refl refl))))) refl))
+    (both 1228 124 refl (both 1229 130 refl refl (one 131 refl refl)) refl))) refl) (both 970 4 refl (both 66 531 refl refl refl) refl)))
 are_laid types_behind_pub =
-    one 1218 refl (both 1219 190 refl (one 1220 refl (both 1221 194 refl (both 966 1222 refl refl (both 968 970 refl refl refl)) (one 195 refl refl))) refl)
+    one 1231 refl (both 1232 194 refl (one 1233 refl (both 1234 198 refl (both 979 1235 refl refl (both 981 983 refl refl refl)) (one 199 refl refl))) refl)
 are_laid enumeration =
-    one 1224 refl (both 1225 1226 refl refl (both 285 1227 refl refl (both 1104 1228 refl (both 1293 4 refl refl refl) (both 1109 1229 refl (both 1316 4
+    one 1237 refl (both 1238 1239 refl refl (both 289 1240 refl refl (both 1117 1241 refl (both 1306 4 refl refl refl) (both 1122 1242 refl (both 1329 4
     refl refl refl) refl))))
-are_laid enum_variants = one 1231 refl (one 1232 refl (both 1233 193 refl refl (both 52 194 refl refl (one 195 refl refl))))
+are_laid enum_variants = one 1244 refl (one 1245 refl (both 1246 197 refl refl (both 52 198 refl refl (one 199 refl refl))))
 are_laid enum_variant =
-    one 1234 refl (both 272 1235 refl (one 947 refl refl) (both 958 1236 refl refl (both 285 1237 refl refl (both 1238 1096 refl (both 1239 4 refl (both
-    1185 1188 refl refl refl) refl) (both 957 4 refl (both 66 518 refl refl refl) refl)))))
+    one 1247 refl (both 276 1248 refl (one 960 refl refl) (both 971 1249 refl refl (both 289 1250 refl refl (both 1251 1109 refl (both 1252 4 refl (both
+    1198 1201 refl refl refl) refl) (both 970 4 refl (both 66 531 refl refl refl) refl)))))
 are_laid union =
-    one 1241 refl (both 1242 1243 refl refl (both 285 1244 refl refl (both 1104 1245 refl (both 1293 4 refl refl refl) (both 1109 1188 refl (both 1316 4
+    one 1254 refl (both 1255 1256 refl refl (both 289 1257 refl refl (both 1117 1258 refl (both 1306 4 refl refl refl) (both 1122 1201 refl (both 1329 4
     refl refl refl) refl))))
 are_laid trait =
-    one 1247 refl (both 82 1248 refl (both 83 4 refl refl refl) (both 252 1249 refl (both 248 4 refl refl refl) (both 1250 1252 refl (both 1251 4 refl refl
-    refl) (both 1253 1254 refl refl (both 285 1255 refl refl (both 1104 1256 refl (both 1293 4 refl refl refl) (both 1257 1260 refl (both 1172 1258 refl
-    (both 68 4 refl (both 69 295 refl refl refl) refl) (both 1109 1259 refl (both 1316 4 refl refl refl) refl)) (both 66 1261 refl refl (both 295 1108 refl
-    refl (both 1109 238 refl (both 1316 4 refl refl refl) refl))))))))))
+    one 1260 refl (both 84 1261 refl (both 85 4 refl refl refl) (both 256 1262 refl (both 252 4 refl refl refl) (both 1263 1265 refl (both 1264 4 refl refl
+    refl) (both 1266 1267 refl refl (both 289 1268 refl refl (both 1117 1269 refl (both 1306 4 refl refl refl) (both 1270 1273 refl (both 1185 1271 refl
+    (both 68 4 refl (both 69 299 refl refl refl) refl) (both 1122 1272 refl (both 1329 4 refl refl refl) refl)) (both 66 1274 refl refl (both 299 1121 refl
+    refl (both 1122 242 refl (both 1329 4 refl refl refl) refl))))))))))
 are_laid implementation =
-    one 1263 refl (both 1269 1264 refl refl (both 82 1265 refl (both 83 4 refl refl refl) (both 135 1266 refl refl (both 1104 1267 refl (both 1293 4 refl
-    refl refl) (both 82 1268 refl (both 83 4 refl refl refl) (both 128 1258 refl refl (both 1109 1259 refl (both 1316 4 refl refl refl) refl)))))))
+    one 1276 refl (both 1282 1277 refl refl (both 84 1278 refl (both 85 4 refl refl refl) (both 139 1279 refl refl (both 1117 1280 refl (both 1306 4 refl
+    refl refl) (both 84 1281 refl (both 85 4 refl refl refl) (both 132 1271 refl refl (both 1122 1272 refl (both 1329 4 refl refl refl) refl)))))))
 are_laid trait_implementation =
-    one 1270 refl (both 1271 1273 refl (both 1272 4 refl (both 83 248 refl refl refl) refl) (both 135 1274 refl refl (both 1104 1275 refl (both 1293 4 refl
-    refl refl) (both 82 1276 refl (both 83 4 refl refl refl) (both 1277 1278 refl (both 163 4 refl refl refl) (both 0 1279 refl refl (both 336 1280 refl
-    refl (both 1281 1258 refl (both 33 120 refl refl refl) (both 1109 1259 refl (both 1316 4 refl refl refl) refl)))))))))
-are_laid associated_items = one 1283 refl (both 877 1284 refl (one 942 refl refl) (one 1285 refl refl))
+    one 1283 refl (both 1284 1286 refl (both 1285 4 refl (both 85 252 refl refl refl) refl) (both 139 1287 refl refl (both 1117 1288 refl (both 1306 4 refl
+    refl refl) (both 84 1289 refl (both 85 4 refl refl refl) (both 1290 1291 refl (both 167 4 refl refl refl) (both 0 1292 refl refl (both 340 1293 refl
+    refl (both 1294 1271 refl (both 33 124 refl refl refl) (both 1122 1272 refl (both 1329 4 refl refl refl) refl)))))))))
+are_laid associated_items = one 1296 refl (both 890 1297 refl (one 955 refl refl) (one 1298 refl refl))
 are_laid associated_item =
-    one 1286 refl (both 272 1287 refl (one 947 refl refl) (both 1288 1043 refl (both 958 1289 refl refl (both 1290 1291 refl (both 1005 4 refl refl refl)
-    (both 1110 1292 refl refl (both 1097 1167 refl refl refl)))) refl))
+    one 1299 refl (both 276 1300 refl (one 960 refl refl) (both 1301 1056 refl (both 971 1302 refl refl (both 1303 1304 refl (both 1018 4 refl refl refl)
+    (both 1123 1305 refl refl (both 1110 1180 refl refl refl)))) refl))
 are_laid generic_parameters =
-    one 1294 refl (both 36 1295 refl refl (both 1296 54 refl (both 1297 4 refl (both 1301 1298 refl refl (both 1299 53 refl (one 1300 refl (both 52 1301
+    one 1307 refl (both 36 1308 refl refl (both 1309 54 refl (both 1310 4 refl (both 1314 1311 refl refl (both 1312 53 refl (one 1313 refl (both 52 1314
     refl refl refl)) (both 52 4 refl refl refl))) refl) refl))
 are_laid generic_parameter =
-    one 1302 refl (both 272 1303 refl (one 947 refl refl) (both 347 1304 refl refl (both 1305 1312 refl (both 83 1306 refl refl (both 285 1307 refl refl
-    (both 69 1308 refl refl (both 120 1309 refl refl (both 1310 4 refl (both 66 1311 refl refl (both 79 285 refl refl refl)) refl))))) (both 285 1313 refl
-    refl (both 1172 1314 refl (both 68 4 refl (both 69 295 refl refl refl) refl) (both 1315 4 refl (both 66 120 refl refl refl) refl))))))
+    one 1315 refl (both 276 1316 refl (one 960 refl refl) (both 351 1317 refl refl (both 1318 1325 refl (both 85 1319 refl refl (both 289 1320 refl refl
+    (both 69 1321 refl refl (both 124 1322 refl refl (both 1323 4 refl (both 66 1324 refl refl (both 81 289 refl refl refl)) refl))))) (both 289 1326 refl
+    refl (both 1185 1327 refl (both 68 4 refl (both 69 299 refl refl refl) refl) (both 1328 4 refl (both 66 124 refl refl refl) refl))))))
 are_laid where_clause =
-    one 1317 refl (both 1318 1319 refl refl (both 1320 1323 refl (one 1321 refl (both 34 1322 refl refl (both 356 54 refl (both 285 357 refl refl refl)
-    refl))) (both 1324 4 refl (both 1328 1325 refl refl (both 1326 53 refl (one 1327 refl (both 52 1328 refl refl refl)) (both 52 4 refl refl refl)))
+    one 1330 refl (both 1331 1332 refl refl (both 1333 1336 refl (one 1334 refl (both 34 1335 refl refl (both 360 54 refl (both 289 361 refl refl refl)
+    refl))) (both 1337 4 refl (both 1341 1338 refl refl (both 1339 53 refl (one 1340 refl (both 52 1341 refl refl refl)) (both 52 4 refl refl refl)))
     refl)))
 are_laid where_predicate =
-    one 1329 refl (both 1330 1331 refl (both 58 350 refl refl (both 69 351 refl refl (both 352 243 refl (one 353 refl (both 58 127 refl refl refl)) (both 58
-    4 refl refl refl)))) (both 309 1332 refl (both 345 4 refl refl refl) (both 128 1333 refl refl (both 68 1334 refl (both 69 295 refl refl refl) (both 1335
-    120 refl (both 66 1336 refl refl refl) refl)))))
+    one 1342 refl (both 1343 1344 refl (both 58 354 refl refl (both 69 355 refl refl (both 356 247 refl (one 357 refl (both 58 131 refl refl refl)) (both 58
+    4 refl refl refl)))) (both 313 1345 refl (both 349 4 refl refl refl) (both 132 1346 refl refl (both 68 1347 refl (both 69 299 refl refl refl) (both 1348
+    124 refl (both 66 1349 refl refl refl) refl)))))

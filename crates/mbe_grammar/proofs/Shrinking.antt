@@ -51,29 +51,29 @@ taken_full test.AssignmentOperator of = unit_full of
 taken_full test.BeginsExpression of = unit_full of
 
 -- the unit of puncts has as many trees as there are puncts
-abbrev IsTold : List Punct → Type 0
-IsTold puncts = size_of_unit (unit_of_puncts puncts) ≡ length puncts
+abbrev IsCounted : List Punct → Type 0
+IsCounted puncts = size_of_unit (unit_of_puncts puncts) ≡ length puncts
 
-told_either : (b : Bool) (xs ys : List Punct) → IsTold xs → IsTold ys → IsTold (cond b xs ys)
-told_either true xs ys one other = one
-told_either false xs ys one other = other
+counted_either : (b : Bool) (xs ys : List Punct) → IsCounted xs → IsCounted ys → IsCounted (cond b xs ys)
+counted_either true xs ys one other = one
+counted_either false xs ys one other = other
 
-told_two : (p q : Punct) → IsTold (glued_two p q)
-told_two p q = told_either (is_one_of twos (p.char ∷ q.char ∷ [])) (p ∷ q ∷ []) (p ∷ []) refl refl
+counted_two : (p q : Punct) → IsCounted (glued_two p q)
+counted_two p q = counted_either (is_one_of twos (p.char ∷ q.char ∷ [])) (p ∷ q ∷ []) (p ∷ []) refl refl
 
-told_three : (p q : Punct) (r : Option Punct) → IsTold (glued_three p q r)
-told_three p q None = told_two p q
-told_three p q (Some r) = told_either (is_one_of threes (p.char ∷ q.char ∷ r.char ∷ [])) (p ∷ q ∷ r ∷ []) (glued_two p q) refl (told_two p q)
+counted_three : (p q : Punct) (r : Option Punct) → IsCounted (glued_three p q r)
+counted_three p q None = counted_two p q
+counted_three p q (Some r) = counted_either (is_one_of threes (p.char ∷ q.char ∷ r.char ∷ [])) (p ∷ q ∷ r ∷ []) (glued_two p q) refl (counted_two p q)
 
-told_behind : (p : Punct) (q : Option Punct) (behind : Forest) → IsTold (glued_behind p q behind)
-told_behind p None behind = refl
-told_behind p (Some q) behind =
-    told_either (is_joint q.spacing) (glued_three p q (first_punct behind)) (glued_two p q) (told_three p q (first_punct behind)) (told_two p q)
+counted_behind : (p : Punct) (q : Option Punct) (behind : Forest) → IsCounted (glued_behind p q behind)
+counted_behind p None behind = refl
+counted_behind p (Some q) behind =
+    counted_either (is_joint q.spacing) (glued_three p q (first_punct behind)) (glued_two p q) (counted_three p q (first_punct behind)) (counted_two p q)
 
-told : (p : Punct) (behind : Forest) → IsTold (glued_from p behind)
-told p behind =
-    told_either (is_alone p.spacing) (p ∷ []) (glued_behind p (first_punct behind) (after_tree behind)) refl
-    (told_behind p (first_punct behind) (after_tree behind))
+counted : (p : Punct) (behind : Forest) → IsCounted (glued_from p behind)
+counted p behind =
+    counted_either (is_alone p.spacing) (p ∷ []) (glued_behind p (first_punct behind) (after_tree behind)) refl
+    (counted_behind p (first_punct behind) (after_tree behind))
 
 -- A `'` is glued to nothing.
 quote_two : (p q : Punct) → p.char ≡ quote → length (glued_two p q) ≡ 1
@@ -109,8 +109,8 @@ punct_told : (it : Punct) (rest : Forest) (b c : Bool) → (it.char == quote) �
     → size_of_unit (cond (((it.char == quote) || false) && is_at_ident rest) unit.Lifetime (unit_of_puncts (glued_from it rest)))
     ≡ cond (it.char == quote) (cond (is_at_ident rest) 2 1) (length (glued_from it rest))
 punct_told it rest true true e f = rw (e, f)
-punct_told it rest true false e f = rw (e, f, told it rest, quote_alone it rest (is_quote it e))
-punct_told it rest false c e f = rw (e, told it rest)
+punct_told it rest true false e f = rw (e, f, counted it rest, quote_alone it rest (is_quote it e))
+punct_told it rest false c e f = rw (e, counted it rest)
 
 -- A first unit has as many trees as `unit_size` says.
 pub unit_size_told : (trees : Forest) → size_of_unit (first_unit trees) ≡ unit_size trees

@@ -25,12 +25,13 @@ stands generic_arguments =
 stands generic_argument =
     one_of (all_of (lifetime ∷ ahead (name generic_argument_end) ∷ []) ∷ all_of (one_of (all_of (name type_path_segment ∷ one_of (all_of (sign (codes "=") ∷
     name generic_argument_value ∷ []) ∷ all_of (sign (codes ":") ∷ name bounds ∷ []) ∷ all_of (name more_type_path_segments ∷ name behind_type_path ∷ []) ∷
-    []) ∷ []) ∷ all_of (never (unit test.PathSegment) ∷ name type ∷ []) ∷ name const_argument ∷ []) ∷ ahead (name generic_argument_end) ∷ []) ∷ [])
+    []) ∷ []) ∷ opaque_holding generic_argument_value ∷ all_of (never (unit test.PathSegment) ∷ name type ∷ []) ∷ name const_argument ∷ []) ∷ ahead (name
+    generic_argument_end) ∷ []) ∷ [])
 stands generic_argument_end = one_of (sign (codes ",") ∷ front (codes ">") ∷ [])
-stands generic_argument_value = one_of (all_of (name type ∷ ahead (name generic_argument_end) ∷ []) ∷ name const_argument ∷ [])
+stands generic_argument_value = one_of (opaque_holding generic_argument_value ∷ name type ∷ name const_argument ∷ [])
 stands const_argument =
     one_of (all_of (maybe (word it.Const) ∷ holding Brace block ∷ []) ∷ all_of (maybe (sign (codes "-")) ∷ unit test.Literal ∷ []) ∷ unit test.TruthValue ∷
-    [])
+    opaque_holding const_argument ∷ [])
 stands qualified_self = all_of (name less ∷ name any_type ∷ maybe (all_of (word it.As ∷ name type_path ∷ [])) ∷ front (codes ">") ∷ sign (codes "::") ∷ [])
 stands expression_path =
     one_of (all_of (name qualified_self ∷ name expression_path_segments ∷ []) ∷ all_of (maybe (sign (codes "::")) ∷ name expression_path_segments ∷ []) ∷
@@ -110,25 +111,28 @@ stands pattern =
 stands pattern_no_top_alt =
     one_of (all_of (sign (codes "..=") ∷ name range_end ∷ []) ∷ all_of (sign (codes "..") ∷ maybe (name range_end) ∷ []) ∷ all_of (maybe (sign (codes "-"))
     ∷ one_of (unit test.Literal ∷ unit test.TruthValue ∷ []) ∷ maybe (name range_tail) ∷ []) ∷ name reference_pattern ∷ word it.Underscore ∷ sign (codes
-    "!") ∷ name identifier_pattern ∷ holding Parenthesis patterns ∷ holding Bracket patterns ∷ opaque_holding pattern ∷ all_of (word it.Box ∷ name
-    pattern_without_range ∷ []) ∷ all_of (name qualified_self ∷ name expression_path_segments ∷ one_of (name range_tail ∷ name fields ∷ []) ∷ []) ∷ all_of
-    (maybe (sign (codes "::")) ∷ name expression_path_segments ∷ one_of (all_of (sign (codes "!") ∷ unit test.Delimited ∷ []) ∷ name range_tail ∷ name
-    fields ∷ []) ∷ []) ∷ [])
+    "!") ∷ name identifier_pattern ∷ holding Parenthesis patterns ∷ holding Bracket patterns ∷ all_of (opaque_holding range_end ∷ name range_tail ∷ []) ∷
+    opaque_holding pattern ∷ all_of (word it.Box ∷ name pattern_without_range ∷ []) ∷ all_of (name qualified_self ∷ name expression_path_segments ∷ one_of
+    (name range_tail ∷ name fields ∷ []) ∷ []) ∷ all_of (maybe (sign (codes "::")) ∷ name expression_path_segments ∷ one_of (all_of (sign (codes "!") ∷ unit
+    test.Delimited ∷ []) ∷ name range_tail ∷ name fields ∷ []) ∷ []) ∷ [])
 stands pattern_without_range =
     one_of (all_of (maybe (sign (codes "-")) ∷ one_of (unit test.Literal ∷ unit test.TruthValue ∷ []) ∷ name old_range_tail ∷ []) ∷ name reference_pattern ∷
-    word it.Underscore ∷ sign (codes "!") ∷ name identifier_pattern ∷ holding Parenthesis patterns ∷ holding Bracket patterns ∷ opaque_holding pattern ∷
-    all_of (word it.Box ∷ name pattern_without_range ∷ []) ∷ all_of (name qualified_self ∷ name expression_path_segments ∷ one_of (holding Parenthesis
-    patterns ∷ holding Brace struct_pattern_elements ∷ name old_range_tail ∷ []) ∷ []) ∷ all_of (maybe (sign (codes "::")) ∷ name expression_path_segments ∷
-    one_of (all_of (sign (codes "!") ∷ unit test.Delimited ∷ []) ∷ holding Parenthesis patterns ∷ holding Brace struct_pattern_elements ∷ name
-    old_range_tail ∷ []) ∷ []) ∷ all_of (sign (codes "..") ∷ never (one_of (sign (codes "-") ∷ unit test.Literal ∷ unit test.Name ∷ sign (codes "<") ∷ sign
-    (codes "<<") ∷ sign (codes "::") ∷ [])) ∷ []) ∷ [])
+    word it.Underscore ∷ sign (codes "!") ∷ name identifier_pattern ∷ holding Parenthesis patterns ∷ holding Bracket patterns ∷ all_of (opaque_holding
+    range_end ∷ sign (codes "...") ∷ name range_end ∷ []) ∷ all_of (opaque_holding pattern ∷ never (name range_operator) ∷ []) ∷ all_of (word it.Box ∷ name
+    pattern_without_range ∷ []) ∷ all_of (name qualified_self ∷ name expression_path_segments ∷ one_of (holding Parenthesis patterns ∷ holding Brace
+    struct_pattern_elements ∷ name old_range_tail ∷ []) ∷ []) ∷ all_of (maybe (sign (codes "::")) ∷ name expression_path_segments ∷ one_of (all_of (sign
+    (codes "!") ∷ unit test.Delimited ∷ []) ∷ holding Parenthesis patterns ∷ holding Brace struct_pattern_elements ∷ name old_range_tail ∷ []) ∷ []) ∷
+    all_of (sign (codes "..") ∷ never (one_of (sign (codes "-") ∷ unit test.Literal ∷ unit test.Opaque ∷ unit test.Name ∷ sign (codes "<") ∷ sign (codes
+    "<<") ∷ sign (codes "::") ∷ [])) ∷ []) ∷ [])
 stands patterns = many (all_of (name pattern ∷ maybe (all_of (word it.If ∷ name expression ∷ [])) ∷ one_of (sign (codes ",") ∷ at_end ∷ []) ∷ []))
 stands range_tail =
     one_of (all_of (one_of (sign (codes "..=") ∷ sign (codes "...") ∷ []) ∷ name range_end ∷ []) ∷ all_of (sign (codes "..") ∷ maybe (name range_end) ∷ [])
     ∷ [])
 stands old_range_tail = one_of (all_of (sign (codes "...") ∷ name range_end ∷ []) ∷ never (name range_operator) ∷ [])
 stands range_operator = one_of (sign (codes "..=") ∷ sign (codes "...") ∷ sign (codes "..") ∷ [])
-stands range_end = one_of (all_of (maybe (sign (codes "-")) ∷ one_of (unit test.Literal ∷ unit test.TruthValue ∷ []) ∷ []) ∷ name expression_path ∷ [])
+stands range_end =
+    one_of (all_of (maybe (sign (codes "-")) ∷ one_of (unit test.Literal ∷ unit test.TruthValue ∷ []) ∷ []) ∷ name expression_path ∷ opaque_holding
+    range_end ∷ [])
 stands fields = maybe (one_of (holding Parenthesis patterns ∷ holding Brace struct_pattern_elements ∷ []))
 stands struct_pattern_elements =
     all_of (many (all_of (name struct_pattern_field ∷ one_of (sign (codes ",") ∷ at_end ∷ []) ∷ [])) ∷ maybe (all_of (many (name attribute) ∷ sign (codes

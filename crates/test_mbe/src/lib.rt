@@ -4,6 +4,8 @@
 #[cfg(test)]
 mod fragments;
 #[cfg(test)]
+mod handed_on;
+#[cfg(test)]
 mod macros;
 #[cfg(test)]
 mod pattern_faults;

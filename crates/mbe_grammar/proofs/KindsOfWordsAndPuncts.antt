@@ -1,4 +1,4 @@
--- A unit that passes a test has a kind that belongs to the test.
+-- An ident or puncts that pass a test have a kind that belongs to the test.
 use Rattle.std.proofs.Common.{rules, ◌≡◌, ℕ, suc, zero, Bool, true, false, List, [], ◌∷◌, Option, Some, refl, sym, subst}
 use Rattle.std.proofs.lemmas.Bool.{eqb-true}
 use Rattle.std.specs.Int.{bit_at}
@@ -43,11 +43,11 @@ truth_fact it = not (is_truth_value it) || is_of (begins test.TruthValue) (kind_
 abbrev first_fact : Word → Bool
 first_fact it = not (begins_expression it) || is_of (begins test.BeginsExpression) (kind_of_word it)
 
-abbrev told_fact : Word → Bool
-told_fact it = not (is_of (begins test.PathSegment) (kind_of_word it)) || is_path_segment it
+abbrev back_fact : Word → Bool
+back_fact it = not (is_of (begins test.PathSegment) (kind_of_word it)) || is_path_segment it
 
 abbrev word_fact : Word → Bool
-word_fact it = name_fact it && (segment_fact it && (truth_fact it && (first_fact it && told_fact it)))
+word_fact it = name_fact it && (segment_fact it && (truth_fact it && (first_fact it && back_fact it)))
 
 then_so : (a b : Bool) → (not a || b) ≡ true → a ≡ true → b ≡ true
 then_so true b e f = e
@@ -66,23 +66,23 @@ all_so true false a b c e = absurd (cc e)
 all_so false a b c d e = absurd (cc e)
 
 -- the five facts, one by one
-facts : (it : Word) → (name_fact it ≡ true) × (segment_fact it ≡ true) × (truth_fact it ≡ true) × (first_fact it ≡ true) × (told_fact it ≡ true)
-facts it = all_so (name_fact it) (segment_fact it) (truth_fact it) (first_fact it) (told_fact it) (of_each word_fact refl it)
+facts : (it : Word) → (name_fact it ≡ true) × (segment_fact it ≡ true) × (truth_fact it ≡ true) × (first_fact it ≡ true) × (back_fact it ≡ true)
+facts it = all_so (name_fact it) (segment_fact it) (truth_fact it) (first_fact it) (back_fact it) (of_each word_fact refl it)
 
-pub name_told : (it : Word) → not (is_reserved it) ≡ true → IsOf (begins test.Name) (kind_of_word it)
-name_told it e = from_test (begins test.Name) (kind_of_word it) (else_so (is_reserved it) (is_of (begins test.Name) (kind_of_word it)) (facts it).0 e)
+pub name_is_of : (it : Word) → not (is_reserved it) ≡ true → IsOf (begins test.Name) (kind_of_word it)
+name_is_of it e = from_test (begins test.Name) (kind_of_word it) (else_so (is_reserved it) (is_of (begins test.Name) (kind_of_word it)) (facts it).0 e)
 
-pub segment_told : (it : Word) → is_path_segment it ≡ true → IsOf (begins test.PathSegment) (kind_of_word it)
-segment_told it e = from_test (begins test.PathSegment) (kind_of_word it) (then_so (is_path_segment it) (is_of (begins test.PathSegment) (kind_of_word it)) (facts it).1 e)
+pub segment_is_of : (it : Word) → is_path_segment it ≡ true → IsOf (begins test.PathSegment) (kind_of_word it)
+segment_is_of it e = from_test (begins test.PathSegment) (kind_of_word it) (then_so (is_path_segment it) (is_of (begins test.PathSegment) (kind_of_word it)) (facts it).1 e)
 
-pub truth_told : (it : Word) → is_truth_value it ≡ true → IsOf (begins test.TruthValue) (kind_of_word it)
-truth_told it e = from_test (begins test.TruthValue) (kind_of_word it) (then_so (is_truth_value it) (is_of (begins test.TruthValue) (kind_of_word it)) (facts it).2 e)
+pub truth_is_of : (it : Word) → is_truth_value it ≡ true → IsOf (begins test.TruthValue) (kind_of_word it)
+truth_is_of it e = from_test (begins test.TruthValue) (kind_of_word it) (then_so (is_truth_value it) (is_of (begins test.TruthValue) (kind_of_word it)) (facts it).2 e)
 
-pub first_told : (it : Word) → begins_expression it ≡ true → IsOf (begins test.BeginsExpression) (kind_of_word it)
-first_told it e = from_test (begins test.BeginsExpression) (kind_of_word it) (then_so (begins_expression it) (is_of (begins test.BeginsExpression) (kind_of_word it)) (facts it).3 e)
+pub first_is_of : (it : Word) → begins_expression it ≡ true → IsOf (begins test.BeginsExpression) (kind_of_word it)
+first_is_of it e = from_test (begins test.BeginsExpression) (kind_of_word it) (then_so (begins_expression it) (is_of (begins test.BeginsExpression) (kind_of_word it)) (facts it).3 e)
 
-told_segment : (it : Word) → IsOf (begins test.PathSegment) (kind_of_word it) → is_path_segment it ≡ true
-told_segment it e = then_so (is_of (begins test.PathSegment) (kind_of_word it)) (is_path_segment it) (facts it).4 (to_test (begins test.PathSegment) (kind_of_word it) e)
+segment_back : (it : Word) → IsOf (begins test.PathSegment) (kind_of_word it) → is_path_segment it ≡ true
+segment_back it e = then_so (is_of (begins test.PathSegment) (kind_of_word it)) (is_path_segment it) (facts it).4 (to_test (begins test.PathSegment) (kind_of_word it) e)
 
 -- no punct has a kind of a path's segments
 abbrev is_apart : Option ℕ → Bool
@@ -107,7 +107,7 @@ punct_apart char e = not_both (is_of (begins test.PathSegment) (kind_of_char cha
 -- a unit of these kinds is a path's segment
 pub segment_of_kind : (it : Unit) → IsOf (begins test.PathSegment) (kind_of it) → passes test.PathSegment it ≡ true
 segment_of_kind unit.End e = absurd (cc e)
-segment_of_kind (unit.Word it) e = told_segment it e
+segment_of_kind (unit.Word it) e = segment_back it e
 segment_of_kind unit.Lifetime e = absurd (cc e)
 segment_of_kind (unit.Literal kind) e = absurd (cc e)
 segment_of_kind (unit.Punct one) e = absurd (punct_apart one e)
@@ -158,13 +158,13 @@ first_of_them [] kinds one others all e = absurd (cc e)
 first_of_them (it ∷ its) kinds one others all e = first_by it its kinds one others all (first_of_them its kinds one others) (bytes_eq it (one ∷ others)) refl e
 
 -- a unit from these lists has one of those kinds
-pub among_told : (ones : List ℕ) (twos threes : List (List ℕ)) (kinds : ℕ) → begin_all ones kinds ≡ true → all_begin_with twos kinds ≡ true → all_begin_with threes kinds ≡ true
+pub among_is_of : (ones : List ℕ) (twos threes : List (List ℕ)) (kinds : ℕ) → begin_all ones kinds ≡ true → all_begin_with twos kinds ≡ true → all_begin_with threes kinds ≡ true
     → (it : Unit) → is_among ones twos threes it ≡ true → IsOf kinds (kind_of it)
-among_told ones twos threes kinds a b c unit.End e = absurd (cc e)
-among_told ones twos threes kinds a b c (unit.Word it) e = absurd (cc e)
-among_told ones twos threes kinds a b c unit.Lifetime e = absurd (cc e)
-among_told ones twos threes kinds a b c (unit.Literal kind) e = absurd (cc e)
-among_told ones twos threes kinds a b c (unit.Punct one) e = one_of_them ones kinds one a e
-among_told ones twos threes kinds a b c (unit.TwoPuncts one two) e = first_of_them twos kinds one (two ∷ []) b e
-among_told ones twos threes kinds a b c (unit.ThreePuncts one two three) e = first_of_them threes kinds one (two ∷ three ∷ []) c e
-among_told ones twos threes kinds a b c (unit.Subtree kind) e = absurd (cc e)
+among_is_of ones twos threes kinds a b c unit.End e = absurd (cc e)
+among_is_of ones twos threes kinds a b c (unit.Word it) e = absurd (cc e)
+among_is_of ones twos threes kinds a b c unit.Lifetime e = absurd (cc e)
+among_is_of ones twos threes kinds a b c (unit.Literal kind) e = absurd (cc e)
+among_is_of ones twos threes kinds a b c (unit.Punct one) e = one_of_them ones kinds one a e
+among_is_of ones twos threes kinds a b c (unit.TwoPuncts one two) e = first_of_them twos kinds one (two ∷ []) b e
+among_is_of ones twos threes kinds a b c (unit.ThreePuncts one two three) e = first_of_them threes kinds one (two ∷ three ∷ []) c e
+among_is_of ones twos threes kinds a b c (unit.Subtree kind) e = absurd (cc e)
