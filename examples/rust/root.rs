@@ -1,3 +1,4 @@
+#[macro_export]
 macro_rules! log {
     ($text:literal) => { $crate::write(1, $text) };
     ($level:ident: $text:literal) => { $crate::write($crate::Level::$level, $text) };

@@ -3,13 +3,15 @@ use Rattle.std.specs.Prelude.{◌≡◌, ◌⊎◌, ℕ, false, List, None, IsUt
 use Rattle.app_c.specs.Failures.{expand_text_failure}
 use Rattle.app_c.specs.Texts.{IsNoText}
 use Rattle.app_c.specs.declared.failure.Failure.{Failure}
+use Rattle.expand_items.specs.Cfg.{known_of, unknown}
 use Rattle.expand_text.specs.Expansion.{IsExpanded, IsExpandTextError, first_fault}
 use Rattle.expand_text.specs.declared.fault.ExpandTextError.{ExpandTextError}
 use Rattle.expand_text.specs.declared.options.ExpandOptions.{ExpandOptions}
 use Rattle.expand_text.specs.declared.text.Expanded.{Expanded}
 
--- all macros are expanded, at most 128 nested; `$crate` becomes `crate`, and other calls stay as they are
+-- all macros are expanded, at most 128 nested, and no condition is known; `$crate` becomes `crate`, and other calls stay as they are
 pub record IsUsual (options : ExpandOptions) : Type 0 where
+  pub cfg : known_of options.cfg.now ≡ unknown
   pub limit : options.limit ≡ 128
   pub root : options.root.now ≡ codes "crate"
   pub others : options.everywhere ≡ false

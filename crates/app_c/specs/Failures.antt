@@ -161,6 +161,8 @@ abbrev pub macro_fault : MacroFault → Fault
 macro_fault (found.Definition error) = arm_fault error.fault
 macro_fault found.Left = answer.Left
 macro_fault found.SeveralDefinitions = answer.Left
+macro_fault found.NotExported = answer.Left
+macro_fault (found.Captured binding) = answer.Left
 macro_fault found.Conditional = answer.Left
 macro_fault found.NoMatch = answer.NoMatch
 macro_fault (found.Ambiguous _) = answer.Ambiguous

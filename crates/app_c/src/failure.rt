@@ -227,7 +227,11 @@ fn macro_fault(fault: MacroFault) -> Fault
 {
     match fault {
         MacroFault::Definition(error) => arm_fault(error.fault),
-        MacroFault::Left | MacroFault::SeveralDefinitions | MacroFault::Conditional => Fault::Left,
+        MacroFault::Left
+        | MacroFault::SeveralDefinitions
+        | MacroFault::NotExported
+        | MacroFault::Captured(_)
+        | MacroFault::Conditional => Fault::Left,
         MacroFault::NoMatch => Fault::NoMatch,
         MacroFault::Ambiguous(_) => Fault::Ambiguous,
         MacroFault::Expansion(error) => transcribe_fault(error.fault),

@@ -71,6 +71,8 @@ message name (wrong.Definition error) = definition_message name error
 message name wrong.Left = about (codes "this call of ") name (codes " is left as it is")
 message name wrong.SeveralDefinitions =
     about (codes "this call of ") name (codes " is left as it is: which of its definitions holds depends on `#[cfg(..)]`")
+message name wrong.NotExported = about (codes "this call of ") name (codes " is left as it is: no macro of this name has `#[macro_export]`")
+message name (wrong.Captured binding) = about [] name (codes " binds this name too, and the expansion does not keep the two apart")
 message name wrong.Conditional =
     about (codes "this call of ") name (codes " is left as it is: its attributes cannot apply to its expansion")
 message name wrong.NoMatch = about (codes "no rule of ") name (codes " matches this")

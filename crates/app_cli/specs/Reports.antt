@@ -28,6 +28,8 @@ abbrev pub notes_on : (limit : ℕ) → MacroFault → List (List ℕ)
 notes_on limit (wrong.Definition why) = []
 notes_on limit wrong.Left = []
 notes_on limit wrong.SeveralDefinitions = []
+notes_on limit wrong.NotExported = []
+notes_on limit (wrong.Captured binding) = []
 notes_on limit wrong.Conditional = []
 notes_on limit wrong.NoMatch = []
 notes_on limit (wrong.Ambiguous arm) = []
@@ -36,6 +38,19 @@ notes_on limit wrong.TooDeep = (codes "the limit is " ++ decimal limit ++ codes 
 notes_on limit wrong.NotWritable = []
 notes_on limit wrong.TooLong = []
 notes_on limit (wrong.TooLarge why) = []
+
+-- the place that a diagnostic shows beside its own: where the macro binds a captured name, or else its definition
+abbrev pub other_byte : Finding → Option ℕ
+other_byte finding = byte_by finding.fault
+  where
+    byte_by : MacroFault → Option ℕ
+    byte_by (wrong.Captured binding) = Some binding
+    byte_by fault = finding.defined_at
+
+-- what is there
+abbrev pub other_message : (name : List ℕ) → MacroFault → List ℕ
+other_message name (wrong.Captured binding) = about [] name (codes " binds it here")
+other_message name fault = about [] name (codes " is defined here")
 
 -- the place of a byte in a text of that name
 pub record IsSpot (name text : List ℕ) (at : ℕ) (spot : Spot) : Type 0 where
@@ -54,7 +69,7 @@ pub record IsDiagnosticOf (file text : List ℕ) (limit : ℕ) (finding : Findin
   pub message : it.message.now ≡ message finding.name finding.fault
   pub spot : MatchOption it.spot ⊥ (IsSpot file text finding.at)
   pub notes : map string_bytes it.notes.items ≡ notes_on limit finding.fault
-  pub defined : IsNoteAt file text (about [] finding.name (codes " is defined here")) finding.defined_at it.placed_note
+  pub other : IsNoteAt file text (other_message finding.name finding.fault) (other_byte finding) it.placed_note
 
 -- its text
 abbrev pub IsDiagnosticText : Style → (file text : List ℕ) (limit : ℕ) → Finding → List ℕ → Type 0

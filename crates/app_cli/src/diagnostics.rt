@@ -1,6 +1,6 @@
 //! The diagnostics of findings in the macros of a text.
 ghost use Rattle.std.specs.Prelude.{◌≡◌, ◌++◌, map, IfOk, string_bytes};
-ghost use Rattle.app_cli.specs.Reports.{AreDiagnosticTexts, IsDiagnosticText, IsNoteAt, level_of_fault, notes_on};
+ghost use Rattle.app_cli.specs.Reports.{AreDiagnosticTexts, IsDiagnosticText, IsNoteAt, level_of_fault, notes_on, other_byte, other_message};
 
 use crate::messages::{about, message};
 use expand_text::{Finding, MacroFault};
@@ -32,6 +32,26 @@ fn notes_of(alloc: Global, limit: usize, fault: MacroFault) -> Result<Vec<String
     Ok(notes)
 }
 
+// Returns the place that a diagnostic shows beside its own.
+fn other_byte(finding: &Finding) -> Option<u32>
+    ensures { result ≡ other_byte finding.now }
+{
+    match finding.fault {
+        MacroFault::Captured(binding) => Some(binding),
+        _ => finding.defined_at,
+    }
+}
+
+// Returns what is at that place.
+fn other_message(alloc: Global, name: &str, fault: MacroFault) -> Result<String, AllocError>
+    ensures { IfOk result (λ text. string_bytes text ≡ other_message name.now fault) }
+{
+    match fault {
+        MacroFault::Captured(_) => about(alloc, "", name, " binds it here"),
+        _ => about(alloc, "", name, " is defined here"),
+    }
+}
+
 // Returns a note at a byte, if there is one.
 fn note_at<'x>(source: &SourceFile<'x>, message: &'x str, at: Option<u32>) -> Option<PlacedNote<'x>>
     ensures { IsNoteAt source.now.name.now source.now.text.now message.entry.now at result }
@@ -52,8 +72,8 @@ fn one_diagnostic(
 {
     let name = finding.name.as_str();
     let message = message(alloc, name, finding.fault)?;
-    let defined = about(alloc, "", name, " is defined here")?;
-    let placed_note = note_at(source, defined.as_str(), finding.defined_at);
+    let other = other_message(alloc, name, finding.fault)?;
+    let placed_note = note_at(source, other.as_str(), other_byte(finding));
     let diagnostic = Diagnostic {
         level: level_of(&finding.fault),
         message: message.as_str(),

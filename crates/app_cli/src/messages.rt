@@ -126,6 +126,18 @@ pub fn message(alloc: Global, name: &str, fault: MacroFault) -> Result<String, A
             name,
             " is left as it is: which of its definitions holds depends on `#[cfg(..)]`",
         ),
+        MacroFault::NotExported => about(
+            alloc,
+            "this call of ",
+            name,
+            " is left as it is: no macro of this name has `#[macro_export]`",
+        ),
+        MacroFault::Captured(_) => about(
+            alloc,
+            "",
+            name,
+            " binds this name too, and the expansion does not keep the two apart",
+        ),
         MacroFault::Conditional => about(
             alloc,
             "this call of ",

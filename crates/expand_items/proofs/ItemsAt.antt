@@ -1,14 +1,23 @@
 -- What comes first at a position, if some of it may be under a false condition.
-use Rattle.std.proofs.Common.{◌≡◌, ◌<◌, ◌∙◌, ℕ, zero, suc, Bool, true, false, List, length, Option, None, Some, inl, inr, refl, ap, ap₂, sym, subst, cond, arith, true≢false}
+use Rattle.std.proofs.Common.{◌≡◌, ◌<◌, ◌∙◌, ℕ, zero, suc, Bool, true, false, List, length, Option, None, Some, inl, inr, refl, ap, sym, cond, arith, true≢false}
+use Rattle.std.specs.Prelude.{◌==◌, ◌&&◌, ◌||◌, not, option_map, codes}
 use Rattle.tt.specs.Forest.{Forest, end, leaf, node, size}
 use Rattle.tt.specs.Gluing.{after_trees}
-use Rattle.expand_items.specs.Attributes.{item_at, item_behind, begins_attributes, attributes_len}
+use Rattle.tt.specs.Siblings.{list_of}
+use Rattle.tt.specs.Types.Leaf.TheVariants as leaf_of
+use Rattle.expand_items.proofs.Lengths.{less_behind}
+use Rattle.expand_items.proofs.OnePart.{one_part}
+use Rattle.expand_items.specs.Attributes.{item_at, item_behind, begins_attributes, attributes_len, is_at_attribute, with_attributes}
 use Rattle.expand_items.specs.Cfg.{Known}
 use Rattle.expand_items.specs.Inactive.{IsInactive, IsItemAt, elsewhere, active, rest, part, begins_sign, is_part_inactive, is_rest_inactive, item_unless}
-use Rattle.expand_items.specs.Items.{Item, Definition, Call, defines, calls, inactive, other, item_in}
-use Rattle.expand_items.specs.Parts.{IsPart}
+use Rattle.expand_items.specs.Conditions.{attributes_say, brackets_say, is_false}
+use Rattle.expand_items.specs.Items.{Item, Definition, Call, defines, calls, inactive, other, call_in, definition_in, item_from, item_in}
+use Rattle.expand_items.specs.Parts.{IsPart, item, no_item, statement, no_statement, statement_len}
+use Rattle.expand_items.specs.Positions.{is_at_brackets, is_at_inner, is_statement}
 use Rattle.expand_items.specs.declared.part.Part.{Part}
 use Rattle.expand_items.specs.declared.position.Position.{Position}
+use Rattle.expand_items.specs.declared.position.Siblings.{Siblings}
+use Rattle.mbe_pattern.specs.Units.{is_at_punct}
 
 -- A definition or a call that comes first is one without regard to conditions.
 defines_unless : (len : Option ℕ) (item : Item) (it : Definition) → defines it ≡ item_unless len item → item ≡ defines it
@@ -28,3 +37,153 @@ pub calls_at : {known : Known} {root : List ℕ} {position : Position} {trees : 
     → item_at root position trees ≡ calls it
 calls_at (inl (verbatim, is)) = sym is
 calls_at {root = root} {position = position} {trees = trees} {it = it} (inr (free, len, inactive, is)) = calls_unless len (item_at root position trees) it is
+
+-- Without regard to conditions nothing is under a false one.
+found_active : (definition : Option Definition) (call : Option Call) (len : ℕ) → item_from definition call ≡ inactive len → ⊥
+found_active (Some it) call len e = cc e
+found_active None (Some it) len e = cc e
+found_active None None len e = cc e
+
+behind_active : (position : Position) (attributes : ℕ) (trees : Forest) (found : Item) (len : ℕ) → item_behind position attributes trees found ≡ inactive len → ⊥
+behind_active position attributes trees (defines it) len e = cc e
+behind_active position attributes trees (inactive n) len e = cc e
+behind_active position attributes trees other len e = cc e
+behind_active position attributes trees (calls it) len e = by (is_statement attributes it.delimiter.kind (after_trees it.len trees) position) e
+  where
+    by : (b : Bool) → cond b (calls (with_attributes attributes it)) other ≡ inactive len → ⊥
+    by true e = cc e
+    by false e = cc e
+
+item_active : (root : List ℕ) (position : Position) (trees : Forest) (len : ℕ) → item_at root position trees ≡ inactive len → ⊥
+item_active root position trees len = by position.is_verbatim (begins_attributes position trees)
+  where
+    behind : Forest
+    behind = after_trees (attributes_len trees) trees
+
+    by : (verbatim b : Bool) → cond verbatim other (cond b (item_behind position (attributes_len trees) behind (item_in root behind)) (item_in root trees)) ≡ inactive len → ⊥
+    by true b e = cc e
+    by false true e = behind_active position (attributes_len trees) behind (item_in root behind) len e
+    by false false e = found_active (definition_in trees) (call_in root trees) len e
+
+-- No attribute begins at the end.
+sign_end : (position : Position) → begins_sign position end ≡ false
+sign_end position = by position.is_start position.is_attributed
+  where
+    by : (a b : Bool) → (a && (not b && false)) ≡ false
+    by true true = refl
+    by true false = refl
+    by false b = refl
+
+-- At the end nothing comes first.
+item_end : (root : List ℕ) (position : Position) → item_at root position end ≡ other
+item_end root position = by position.is_verbatim (begins_attributes position end)
+  where
+    by : (verbatim b : Bool) → cond verbatim other (cond b (item_behind position (attributes_len end) (after_trees (attributes_len end) end) (item_in root (after_trees (attributes_len end) end))) (item_in root end)) ≡ other
+    by true b = refl
+    by false true = refl
+    by false false = refl
+
+pub end_other : (known : Known) (root : List ℕ) (position : Position) → IsItemAt known root position end other
+end_other known root position = by position.is_verbatim refl
+  where
+    by : (verbatim : Bool) → position.is_verbatim ≡ verbatim → IsItemAt known root position end other
+    by true e = inl (e, sym (item_end root position))
+    by false e = inr (e, None, elsewhere (sign_end position), sym (item_end root position))
+
+-- An inner attribute is none before a statement or an item.
+never_both : (trees : Forest) → is_at_inner trees ≡ true → is_at_attribute trees ≡ true → ⊥
+never_both end inner outer = true≢false (sym inner)
+never_both (node delimiter children rest) inner outer = true≢false (sym inner)
+never_both (leaf (leaf_of.Ident it) rest) inner outer = true≢false (sym outer)
+never_both (leaf (leaf_of.Literal it) rest) inner outer = true≢false (sym outer)
+never_both (leaf (leaf_of.Punct it) end) inner outer = true≢false (sym (right (it.char == 35) false outer))
+  where
+    right : (a b : Bool) → (a && b) ≡ true → b ≡ true
+    right true b e = e
+    right false b e = absurd (cc e)
+never_both (leaf (leaf_of.Punct it) (leaf next rest)) inner outer = true≢false (sym (right (it.char == 35) false outer))
+  where
+    right : (a b : Bool) → (a && b) ≡ true → b ≡ true
+    right true b e = e
+    right false b e = absurd (cc e)
+never_both (leaf (leaf_of.Punct it) (node delimiter children rest)) inner outer = true≢false (sym (both ((it.char == 35) || false) inner))
+  where
+    both : (a : Bool) → (a && (false && is_at_brackets rest)) ≡ true → false ≡ true
+    both true e = e
+    both false e = e
+
+-- One number of trees is under a false condition.
+left_true : (a b : Bool) → (a && b) ≡ true → a ≡ true
+left_true true b e = refl
+left_true false b e = absurd (cc e)
+
+one_inactive : {known : Known} {position : Position} {trees : Forest} {a b : Option ℕ} → IsInactive known position trees a → IsInactive known position trees b → a ≡ b
+one_inactive (elsewhere none) (elsewhere no) = refl
+one_inactive (elsewhere none) (active a b) = refl
+one_inactive (elsewhere none) (rest some is) = absurd (true≢false (sym some ∙ none))
+one_inactive (elsewhere none) (part some is found) = absurd (true≢false (sym some ∙ none))
+one_inactive (active a b) (elsewhere no) = refl
+one_inactive (active a b) (active c d) = refl
+one_inactive (active a b) (rest some is) = absurd (true≢false (sym is ∙ a))
+one_inactive (active a b) (part some is found) = absurd (true≢false (sym is ∙ b))
+one_inactive (rest some is) (elsewhere no) = absurd (true≢false (sym some ∙ no))
+one_inactive (rest some is) (active a b) = absurd (true≢false (sym is ∙ a))
+one_inactive (rest some is) (rest more was) = refl
+one_inactive {known = known} {trees = trees} (rest some is) (part more was found) =
+    absurd (never_both trees (left_true (is_at_inner trees) (is_false (brackets_say known (after_trees 2 trees))) is) (left_true (is_at_attribute trees) (is_false (attributes_say known trees)) was))
+one_inactive (part some is found) (elsewhere no) = absurd (true≢false (sym some ∙ no))
+one_inactive (part some is found) (active a b) = absurd (true≢false (sym is ∙ b))
+one_inactive {known = known} {trees = trees} (part some is found) (rest more was) =
+    absurd (never_both trees (left_true (is_at_inner trees) (is_false (brackets_say known (after_trees 2 trees))) was) (left_true (is_at_attribute trees) (is_false (attributes_say known trees)) is))
+one_inactive (part some is found) (part more was other) = ap (option_map (λ it. it.len)) (one_part found other)
+
+-- One thing comes first.
+pub one_item : {known : Known} {root : List ℕ} {position : Position} {trees : Forest} {a b : Item} → IsItemAt known root position trees a → IsItemAt known root position trees b → a ≡ b
+one_item (inl (verbatim, is)) (inl (also, was)) = is ∙ sym was
+one_item (inl (verbatim, is)) (inr (free, len, inactive_there, was)) = absurd (true≢false (sym verbatim ∙ free))
+one_item (inr (free, len, inactive_there, is)) (inl (verbatim, was)) = absurd (true≢false (sym verbatim ∙ free))
+one_item {root = root} {position = position} {trees = trees} (inr (free, len, there, is)) (inr (also, other_len, again, was)) =
+    is ∙ ap (λ n. item_unless n (item_at root position trees)) (one_inactive there again) ∙ sym was
+
+-- An item or a statement has at least one tree.
+part_long : {its : Siblings} {trees : Forest} {found : Option Part} → IsPart its trees found → (n : ℕ) → option_map (λ it. it.len) found ≡ Some n → 0 < n
+part_long (item {more = more} takes) n e =
+    let same : suc more ≡ n = cc e in
+    omega (arith, same)
+part_long (no_item are takes) n e = absurd (cc e)
+part_long (statement {trees = trees} {more = more} are is takes) n e =
+    let same : statement_len (suc more) trees ≡ n = cc e in
+    omega (arith, by (is_at_punct (codes ";") (after_trees (suc more) trees)), same)
+  where
+    by : (b : Bool) → 0 < cond b (suc (suc more)) (suc more)
+    by true = omega arith
+    by false = omega arith
+part_long (no_statement are is takes) n e = absurd (cc e)
+
+list_long : (trees : Forest) → (trees ≡ end → ⊥) → 0 < length (list_of trees)
+list_long end some = absurd (some refl)
+list_long (leaf it rest) some = omega arith
+list_long (node delimiter children rest) some = omega arith
+
+-- Trees under a false condition are at least one.
+not_end : (position : Position) (trees : Forest) → begins_sign position trees ≡ true → trees ≡ end → ⊥
+not_end position trees some none = true≢false (sym some ∙ ap (begins_sign position) none ∙ sign_end position)
+
+inactive_long : {known : Known} {position : Position} {trees : Forest} {len : Option ℕ} → IsInactive known position trees len → (n : ℕ) → len ≡ Some n
+    → (0 < n) × (trees ≡ end → ⊥)
+inactive_long (elsewhere none) n e = absurd (cc e)
+inactive_long (active a b) n e = absurd (cc e)
+inactive_long {position = position} {trees = trees} (rest some is) n e =
+    let same : length (list_of trees) ≡ n = cc e in
+    (omega (arith, list_long trees (not_end position trees some), same), not_end position trees some)
+inactive_long {position = position} {trees = trees} (part some is found) n e = (part_long found n e, not_end position trees some)
+
+-- After them fewer tokens are left.
+pub inactive_less : {known : Known} {root : List ℕ} {position : Position} {trees : Forest} {len : ℕ} → IsItemAt known root position trees (inactive len)
+    → size (after_trees len trees) < size trees
+inactive_less {root = root} {position = position} {trees = trees} {len = len} (inl (verbatim, is)) = absurd (item_active root position trees len (sym is))
+inactive_less {root = root} {position = position} {trees = trees} {len = len} (inr (free, None, there, is)) = absurd (item_active root position trees len (sym is))
+inactive_less {root = root} {position = position} {trees = trees} {len = len} (inr (free, Some n, there, is)) =
+    let same : len ≡ n = cc is in
+    let long = inactive_long there n refl in
+    less_behind len trees (omega (arith, long.0, same)) long.1

@@ -1,6 +1,7 @@
 //! The definitions of macros in trees, at all depths.
 ghost use Rattle.std.specs.Prelude.{◌≡◌, IfOk, OnOk, map};
 ghost use Rattle.tt.specs.Iters.{rest_of};
+ghost use Rattle.expand_items.specs.Cfg.{known_of};
 ghost use Rattle.expand_items.specs.Definitions.{defined_of, level_of, past_leaf, past_subtree, AreDefinitions, IsFound, IsInside};
 ghost use Rattle.expand_items.specs.Positions.{begun};
 ghost use Rattle.expand_items.specs.declared.position.Siblings.TheVariants.{Items};
@@ -51,7 +52,7 @@ impl<'a> Level<'a> {
         root: &str,
         found: &mut Vec<Defined<'a>>,
     ) -> Result<(), AllocError>
-        ensures found { OnOk result (IsFound options.now root.now self.old (map defined_of found.old.items) self.new (map defined_of found.new.items)) }
+        ensures found { OnOk result (IsFound (known_of options.now) root.now self.old (map defined_of found.old.items) self.new (map defined_of found.new.items)) }
         ensures level { OnOk result (self.new ≡ record self.old { passed = self.new.passed }) }
     {
         if self.passed > 0 {
@@ -84,7 +85,7 @@ impl<'a> Level<'a> {
         options: &CfgOptions,
         leaf: &Leaf,
     ) -> Result<(), AllocError>
-        ensures { OnOk result (level_of self.new ≡ past_leaf options.now leaf.now (level_of self.old)) }
+        ensures { OnOk result (level_of self.new ≡ past_leaf (known_of options.now) leaf.now (level_of self.old)) }
     {
         self.rest.next();
         self.passed = self.passed.saturating_sub(1);
@@ -119,7 +120,7 @@ pub fn definitions_in<'a>(
     trees: TtIter<'a>,
     root: &str,
 ) -> Result<Vec<Defined<'a>>, AllocError>
-    ensures { IfOk result (λ found. AreDefinitions options.now root.now (begun Items) 0 (rest_of trees.entry) (map defined_of found.items)) }
+    ensures { IfOk result (λ found. AreDefinitions (known_of options.now) root.now (begun Items) 0 (rest_of trees.entry) (map defined_of found.items)) }
 {
     let mut found = Vec::new(alloc);
     let mut level = Level::begun(trees, Position::begun(Siblings::Items));

@@ -3,44 +3,16 @@ use Rattle.std.proofs.Common.{◌≡◌, ℕ, zero, suc, Bool, true, false, List
 use Rattle.tt.specs.Forest.{Forest}
 use Rattle.tt.specs.Gluing.{after_trees}
 use Rattle.tt.specs.Types.Delimiter.{Delimiter}
-use Rattle.expand_items.proofs.OneSize.{taken_size, taken_is}
+use Rattle.expand_items.proofs.OnePart.{one_part}
 use Rattle.expand_items.specs.declared.part.Part.{Part}
 use Rattle.expand_items.specs.declared.position.Siblings.{Siblings}
 use Rattle.expand_items.specs.Attributes.{conditions_of}
 use Rattle.expand_items.specs.Loosening.{loosened, place_of}
-use Rattle.expand_items.specs.Parts.{item_part, statement_part, IsPart, item, no_item, statement, no_statement, AreParts, ends, stops, goes_on}
+use Rattle.expand_items.specs.Parts.{AreParts, ends, stops, goes_on}
 use Rattle.expand_items.specs.Positions.{is_items}
 use Rattle.expand_items.specs.Spreads.{spread_if, AreUnder}
 use Rattle.expand_text.specs.CallSites.{CallSite, IsShown, PutUnder, PutAs, PutIn}
 use Rattle.mbe_pattern.specs.declared.pattern.GrammarFragment.TheVariants as fragment
-
--- the part of so many trees of an item, or else of a statement
-abbrev part_of : (item_len : ℕ) → (are_items : Bool) → (statement_len : ℕ) → Forest → Option Part
-part_of (suc n) are_items m trees = Some (item_part (suc n))
-part_of zero true m trees = None
-part_of zero false zero trees = None
-part_of zero false (suc m) trees = Some (statement_part (suc m) trees)
-
--- the part that comes first
-abbrev part_at : Siblings → Forest → Option Part
-part_at its trees = part_of (taken_size fragment.Item trees) (is_items its) (taken_size fragment.Stmt trees) trees
-
--- What comes first is that part.
-part_is : {its : Siblings} {trees : Forest} {part : Option Part} → IsPart its trees part → part ≡ part_at its trees
-part_is (item {its = its} {trees = trees} {more = more} is) =
-    ap (λ n. part_of n (is_items its) (taken_size fragment.Stmt trees) trees) (taken_is fragment.Item trees (suc more) is)
-part_is (no_item {its = its} {trees = trees} are is) =
-    ap₂ (λ n b. part_of n b (taken_size fragment.Stmt trees) trees) (taken_is fragment.Item trees zero is) (sym are)
-part_is (statement {its = its} {trees = trees} {more = more} are is found) =
-    ap₂ (λ n m. part_of n false m trees) (taken_is fragment.Item trees zero is) (taken_is fragment.Stmt trees (suc more) found)
-    ∙ ap (λ b. part_of (taken_size fragment.Item trees) b (taken_size fragment.Stmt trees) trees) (sym are)
-part_is (no_statement {its = its} {trees = trees} are is none) =
-    ap₂ (λ n m. part_of n false m trees) (taken_is fragment.Item trees zero is) (taken_is fragment.Stmt trees zero none)
-    ∙ ap (λ b. part_of (taken_size fragment.Item trees) b (taken_size fragment.Stmt trees) trees) (sym are)
-
--- So it is one part.
-one_part : {its : Siblings} {trees : Forest} {a b : Option Part} → IsPart its trees a → IsPart its trees b → a ≡ b
-one_part h k = part_is h ∙ sym (part_is k)
 
 -- Trees are split into parts in one way.
 one_split : {its : Siblings} {trees : Forest} {a b : Option (List Part)} → AreParts its trees a → AreParts its trees b → a ≡ b

@@ -1,6 +1,6 @@
 -- What is known in a walk, and its setting.
 use Rattle.std.specs.Prelude.{◌≡◌, ◌++◌, ◌||◌, ℕ, Bool, true, false, List, [], ◌∷◌, Option, None, Some, bytes_eq}
-use Rattle.expand_items.specs.Cfg.{Known}
+use Rattle.expand_items.specs.Cfg.{Known, known_of}
 use Rattle.expand_text.specs.declared.fault.Finding.{Finding}
 use Rattle.expand_text.specs.declared.context.Context as context_in_code
 use Rattle.expand_text.specs.declared.config.Config as config_in_code
@@ -45,7 +45,7 @@ left_in_scope kept context = record context { macros = kept_of kept context.macr
 
 -- what the values of the code mean
 abbrev pub config_of : config_in_code.Config → Config
-config_of it = record { known = it.cfg.now; root = it.root; everywhere = it.everywhere; only = it.only }
+config_of it = record { known = known_of it.cfg.now; root = it.root; everywhere = it.everywhere; only = it.only }
 
 pub record IsContext (context : Context) (it : context_in_code.Context) : Type 0 where
   pub macros : AreReady context.macros it.scope.macros.items

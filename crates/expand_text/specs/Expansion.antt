@@ -22,6 +22,7 @@ use Rattle.expand_text.specs.Contexts.{Config, Context, new_context, with_findin
 use Rattle.expand_text.specs.Exports.{AreExported}
 use Rattle.expand_text.specs.Macros.{MayBePut, IsUnwritten}
 use Rattle.expand_text.specs.Outcomes.{Outcome, nothing, passes, enters, stays, becomes, trees_left}
+use Rattle.expand_items.specs.Cfg.{known_of}
 use Rattle.expand_items.specs.Positions.{begun as begun_among}
 use Rattle.expand_items.specs.declared.position.Siblings.TheVariants.{Items}
 use Rattle.syntax_edit.specs.Places.{text_part}
@@ -111,7 +112,7 @@ pub record IsSourceText (config : Config) (limit : ℕ) (source : List ℕ) (tre
 
 -- the setting of the options
 abbrev pub config_by : ExpandOptions → Config
-config_by it = record { known = it.cfg.now; root = it.root.now; everywhere = it.everywhere; only = option_map (λ name. name.now) it.only }
+config_by it = record { known = known_of it.cfg.now; root = it.root.now; everywhere = it.everywhere; only = option_map (λ name. name.now) it.only }
 
 -- a text reads back as what is left: it has no fault of syntax, and any tree that it is read as spells what is left
 pub record ReadsAs (text : List ℕ) (left : List Sort) : Type 0 where

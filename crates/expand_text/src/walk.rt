@@ -4,6 +4,7 @@ ghost use Rattle.tt.specs.Iters.{rest_of};
 ghost use Rattle.tt.specs.Views.{trees_of};
 ghost use Rattle.expand_text.specs.Meaning.{begin_in, body, named_behind, plain_behind_part, IsPlain};
 ghost use Rattle.syntax_edit.specs.Places.{begin_at};
+ghost use Rattle.expand_items.specs.Cfg.{known_of};
 ghost use Rattle.expand_items.specs.Items.{defines, calls, definition_of, call_of};
 ghost use Rattle.expand_text.specs.Contexts.{config_of};
 ghost use Rattle.expand_text.specs.Passing.{IsPartPassed, IsStay, IsInvoked};
@@ -98,7 +99,7 @@ fn named_behind(leaf: &Leaf, behind: TtIter<'_>) -> usize
 impl<'a> Level<'a> {
     // Passes the first tree, a leaf.
     fn pass_leaf(&mut self, config: &Config<'_>, leaf: &Leaf) -> Result<(), AllocError>
-        ensures { OnOk result (level_of self.new ≡ past_leaf config.now.cfg.now leaf.now (level_of self.old)) }
+        ensures { OnOk result (level_of self.new ≡ past_leaf (known_of config.now.cfg.now) leaf.now (level_of self.old)) }
     {
         self.rest.next();
         let behind = self.rest.remaining();

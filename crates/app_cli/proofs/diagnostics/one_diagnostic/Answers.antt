@@ -1,9 +1,9 @@
-use Rattle.std.proofs.Common.{rules, refl, ◌≡◌, [], Some, codes, subst}
+use Rattle.std.proofs.Common.{rules, ◌≡◌, Some, subst}
 use Rattle.std.proofs.lemmas.Result.{IfOk-weaker}
 use Rattle.std.specs.Prelude.{string_bytes}
 use Rattle.app_cli.proofs.diagnostics.one_diagnostic.Goals as goal
-use Rattle.app_cli.specs.Messages.{about, message}
-use Rattle.app_cli.specs.Reports.{IsDiagnosticOf, IsDiagnosticText, IsNoteAt, IsSpot}
+use Rattle.app_cli.specs.Messages.{message}
+use Rattle.app_cli.specs.Reports.{IsDiagnosticOf, IsDiagnosticText, IsNoteAt, IsSpot, other_byte, other_message}
 use Rattle.syntax_diagnostic.specs.Diagnostic.{diagnostic_text}
 use Rattle.syntax_diagnostic.specs.declared.diagnostic.Diagnostic.{Diagnostic}
 
@@ -20,15 +20,16 @@ returns c =
       placed_note = c.note_at-placed_note.result;
     } in
     let says : c.as_str-2.result.now ≡ message finding.name finding.fault = search rules in
-    let defined : c.as_str.result.now ≡ about [] finding.name (codes " is defined here") = search rules in
+    let other : c.as_str.result.now ≡ other_message finding.name finding.fault = search rules in
     let there : IsSpot file text finding.at c.spot.result = record { file = c.spot.ensures.file; place = c.spot.ensures.place; line = c.spot.ensures.line } in
-    let note : IsNoteAt file text c.as_str.result.now finding.defined_at c.note_at-placed_note.result = c.note_at-placed_note.ensures in
+    let note : IsNoteAt file text c.as_str.result.now (other_byte finding) c.note_at-placed_note.result =
+    subst (λ at. IsNoteAt file text c.as_str.result.now at c.note_at-placed_note.result) c.other_byte.ensures c.note_at-placed_note.ensures in
     let is_diagnostic : IsDiagnosticOf file text c.args.limit finding it = record {
       level = c.level_of.ensures;
       message = says;
       spot = there;
       notes = c.in_ok-notes_of.ensures;
-      defined = subst (λ m. IsNoteAt file text m finding.defined_at c.note_at-placed_note.result) defined note;
+      other = subst (λ m. IsNoteAt file text m (other_byte finding) c.note_at-placed_note.result) other note;
     } in
     IfOk-weaker c.diagnostic_text.result (λ written. string_bytes written ≡ diagnostic_text c.args.style it)
     (λ written. IsDiagnosticText c.args.style file text c.args.limit finding (string_bytes written))

@@ -4,6 +4,7 @@ use Rattle.tt.specs.Iters.{rest_of, IsFirstElement}
 use Rattle.tt.specs.Moves.{after_tree}
 use Rattle.tt.specs.Types.TtElement.TheVariants as element
 use Rattle.expand_text.specs.declared.walk.Event.TheVariants as event
+use Rattle.expand_items.specs.Cfg.{known_of}
 use Rattle.expand_text.specs.Contexts.{config_of, left_in_scope}
 use Rattle.expand_text.specs.Walks.{Level, level_of, levels_of, past_leaf, entered, closes_of, Ends, IsLeft, IsNext, Steps}
 use Rattle.expand_text.proofs.Leading.{leads_leaf, leads_subtree, leads_end}
@@ -49,7 +50,7 @@ returns-in_ok-pass_leaf-in-Some-Leaf-clause-next c limit context is plain =
     let it = c.in-Some-Leaf.leaf in
     let first : IsFirstElement level.rest (Some (element.Leaf it)) = search rules in
     let begins : level.rest ≡ leaf it (after_tree level.rest) = leaf_first level.rest it first in
-    let now : level_of c.pass_leaf.new.self ≡ past_leaf c.args.config.now.cfg.now it level = c.in_ok-pass_leaf-in-Some-Leaf.ensures in (
+    let now : level_of c.pass_leaf.new.self ≡ past_leaf (known_of c.args.config.now.cfg.now) it level = c.in_ok-pass_leaf-in-Some-Leaf.ensures in (
       context,
       is,
       λ in_text. subst (λ l. IsNext config in_text limit (level ∷ outer) context (event.Leaf it) (l ∷ outer) context) (sym now)
@@ -88,7 +89,7 @@ returns-in_ok-pass_leaf-in-Some-Leaf-clause-steps c =
     let it = c.in-Some-Leaf.leaf in
     let first : IsFirstElement level.rest (Some (element.Leaf it)) = search rules in
     let begins : level.rest ≡ leaf it (after_tree level.rest) = leaf_first level.rest it first in
-    let now : level_of c.pass_leaf.new.self ≡ past_leaf c.args.config.now.cfg.now it level = c.in_ok-pass_leaf-in-Some-Leaf.ensures in
+    let now : level_of c.pass_leaf.new.self ≡ past_leaf (known_of c.args.config.now.cfg.now) it level = c.in_ok-pass_leaf-in-Some-Leaf.ensures in
     subst (λ l. Steps (level ∷ outer) (event.Leaf it) (l ∷ outer)) (sym now) (refl, omega (arith, ap size begins))
 
 pub returns-in_ok-enter-in-Some-Subtree-clause-steps : goal.returns-in_ok-enter-in-Some-Subtree-clause-steps
