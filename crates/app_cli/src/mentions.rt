@@ -1,6 +1,7 @@
 //! How often a text defines a macro of a name, and calls one.
 ghost use Rattle.std.specs.Prelude.{◌<◌, ◌^◌, length};
 
+use crate::trivia::is_trivia;
 use syntax_lex::{TokenKind, tokenize};
 
 /// How often a text defines a macro of a name, and calls one outside of the rules of macros.
@@ -25,14 +26,6 @@ enum Front {
     Name,
     // The name and `!`.
     Call,
-}
-
-// Returns whether a token is neither white space nor a comment.
-fn counts(kind: TokenKind) -> bool {
-    !matches!(
-        kind,
-        TokenKind::Whitespace | TokenKind::LineComment { .. } | TokenKind::BlockComment { .. }
-    )
 }
 
 // Returns whether a token opens a bracket.
@@ -122,7 +115,7 @@ impl Mentions {
             let Some((word, behind)) = rest.split_at_checked(token.len as usize) else {
                 return found;
             };
-            if counts(token.kind) {
+            if !is_trivia(token.kind) {
                 front = found.next(front, token.kind, word, name);
             }
             rest = behind;

@@ -6,7 +6,7 @@ use Rattle.tt.specs.Gluing.{after_trees}
 use Rattle.tt.specs.Siblings.{list_of}
 use Rattle.tt.specs.Types.Leaf.TheVariants as leaf_of
 use Rattle.expand_items.proofs.Lengths.{less_behind}
-use Rattle.expand_items.proofs.OnePart.{one_part}
+use Rattle.expand_items.proofs.OnePart.{has_part, one_part}
 use Rattle.expand_items.specs.Attributes.{item_at, item_behind, begins_attributes, attributes_len, is_at_attribute, with_attributes}
 use Rattle.expand_items.specs.Cfg.{Known}
 use Rattle.expand_items.specs.Inactive.{IsInactive, IsItemAt, elsewhere, active, rest, part, begins_sign, is_part_inactive, is_rest_inactive, item_unless}
@@ -144,6 +144,23 @@ one_item (inl (verbatim, is)) (inr (free, len, inactive_there, was)) = absurd (t
 one_item (inr (free, len, inactive_there, is)) (inl (verbatim, was)) = absurd (true≢false (sym verbatim ∙ free))
 one_item {root = root} {position = position} {trees = trees} (inr (free, len, there, is)) (inr (also, other_len, again, was)) =
     is ∙ ap (λ n. item_unless n (item_at root position trees)) (one_inactive there again) ∙ sym was
+
+-- Something comes first.
+has_inactive : (known : Known) (position : Position) (trees : Forest) → (len : Option ℕ) × IsInactive known position trees len
+has_inactive known position trees = by (begins_sign position trees) (is_rest_inactive known trees) (is_part_inactive known trees) refl refl refl
+  where
+    by : (a b c : Bool) → begins_sign position trees ≡ a → is_rest_inactive known trees ≡ b → is_part_inactive known trees ≡ c → (len : Option ℕ) × IsInactive known position trees len
+    by false b c is all one = (None, elsewhere is)
+    by true false false is all one = (None, active all one)
+    by true true c is all one = (Some (length (list_of trees)), rest is all)
+    by true false true is all one = let found = has_part position.siblings trees in (option_map (λ it. it.len) found.0, part is one found.1)
+
+pub has_item : (known : Known) (root : List ℕ) (position : Position) (trees : Forest) → (it : Item) × IsItemAt known root position trees it
+has_item known root position trees = by position.is_verbatim refl
+  where
+    by : (verbatim : Bool) → position.is_verbatim ≡ verbatim → (it : Item) × IsItemAt known root position trees it
+    by true e = (item_at root position trees, inl (e, refl))
+    by false e = let found = has_inactive known position trees in (item_unless found.0 (item_at root position trees), inr (e, found.0, found.1, refl))
 
 -- An item or a statement has at least one tree.
 part_long : {its : Siblings} {trees : Forest} {found : Option Part} → IsPart its trees found → (n : ℕ) → option_map (λ it. it.len) found ≡ Some n → 0 < n

@@ -1,10 +1,10 @@
 -- One item or statement comes first.
-use Rattle.std.proofs.Common.{◌≡◌, ℕ, zero, suc, Bool, true, false, Option, None, Some, ap, ap₂, sym, ◌∙◌}
+use Rattle.std.proofs.Common.{◌≡◌, ℕ, zero, suc, Bool, true, false, Option, None, Some, refl, ap, ap₂, sym, ◌∙◌}
 use Rattle.tt.specs.Forest.{Forest}
-use Rattle.expand_items.proofs.OneSize.{taken_size, taken_is}
+use Rattle.expand_items.proofs.OneSize.{taken_size, taken_is, takes_size}
 use Rattle.expand_items.specs.declared.part.Part.{Part}
 use Rattle.expand_items.specs.declared.position.Siblings.{Siblings}
-use Rattle.expand_items.specs.Parts.{item_part, statement_part, IsPart, item, no_item, statement, no_statement}
+use Rattle.expand_items.specs.Parts.{Takes, item_part, statement_part, IsPart, item, no_item, statement, no_statement}
 use Rattle.expand_items.specs.Positions.{is_items}
 use Rattle.mbe_pattern.specs.declared.pattern.GrammarFragment.TheVariants as fragment
 
@@ -35,3 +35,13 @@ part_is (no_statement {its = its} {trees = trees} are is none) =
 -- So it is one part.
 pub one_part : {its : Siblings} {trees : Forest} {a b : Option Part} → IsPart its trees a → IsPart its trees b → a ≡ b
 one_part h k = part_is h ∙ sym (part_is k)
+
+-- There is an answer.
+pub has_part : (its : Siblings) (trees : Forest) → (found : Option Part) × IsPart its trees found
+has_part its trees = by (taken_size fragment.Item trees) (taken_size fragment.Stmt trees) (is_items its) refl (takes_size fragment.Item trees) (takes_size fragment.Stmt trees)
+  where
+    by : (n m : ℕ) (are_items : Bool) → is_items its ≡ are_items → Takes fragment.Item trees n → Takes fragment.Stmt trees m → (found : Option Part) × IsPart its trees found
+    by (suc n) m are e takes others = (Some (item_part (suc n)), item takes)
+    by zero m true e takes others = (None, no_item e takes)
+    by zero zero false e takes others = (None, no_statement e takes others)
+    by zero (suc m) false e takes others = (Some (statement_part (suc m) trees), statement e takes others)

@@ -1,16 +1,14 @@
 -- A text exports one list of macros.
-use Rattle.std.proofs.Common.{◌≡◌, ◌-◌, ◌∙◌, ◌++◌, ℕ, zero, suc, Bool, true, false, List, [], ◌∷◌, None, inl, inr, refl, ap, ap₂, sym, subst, arith}
-use Rattle.tt.specs.Forest.{Forest, Root, end, leaf, node}
+use Rattle.std.proofs.Common.{◌≡◌, ◌∙◌, ◌++◌, ℕ, Bool, true, false, List, [], ◌∷◌, None, inl, inr, refl, ap, ap₂, sym, subst, arith}
+use Rattle.tt.specs.Forest.{Forest, Root}
 use Rattle.tt.specs.Stored.{IsWithinLimits}
 use Rattle.tt.specs.TreeFault.{under}
 use Rattle.tt.specs.Types.TtFault.{TtFault}
 use Rattle.tt.specs.Types.TtFault.TheVariants as limit
-use Rattle.expand_items.proofs.ItemsAt.{one_item}
-use Rattle.expand_items.specs.Cfg.{Known}
-use Rattle.expand_items.specs.Definitions.{Defined, AreDefinitions, IsItemIf, Unless, defined_by, passed_by}
-use Rattle.expand_items.specs.Items.{Definition, Item}
-use Rattle.expand_items.specs.Positions.{begun, first_in}
-use Rattle.expand_items.specs.declared.position.Position.{Position}
+use Rattle.expand_items.proofs.OneList.{one_list}
+use Rattle.expand_items.specs.Definitions.{Defined}
+use Rattle.expand_items.specs.Items.{Definition}
+use Rattle.expand_items.specs.Positions.{begun}
 use Rattle.expand_items.specs.declared.position.Siblings.TheVariants.{Items}
 use Rattle.expand_text.specs.declared.fault.MacroFault.{MacroFault}
 use Rattle.expand_text.specs.declared.fault.MacroFault.TheVariants as wrong
@@ -65,30 +63,6 @@ module _ (config : Config) where
   all_read [] before other a b same is was = ap (λ c. c.macros) is ∙ same ∙ sym (ap (λ c. c.macros) was)
   all_read (it ∷ its) before other a b same (inside, is, are) (within, was, were) =
       all_read its inside within a b (one_read it before other inside within same it.position.is_exported is was) are were
-
--- Trees have one list of definitions.
-one_first : (known : Known) (root : List ℕ) (position : Position) (passed : ℕ) (trees : Forest) (a b : Item) → IsItemIf known root position passed trees a
-    → IsItemIf known root position passed trees b → a ≡ b
-one_first known root position zero trees a b is was = one_item is was
-one_first known root position (suc passed) trees a b is was = is ∙ sym was
-
-one_list : (known : Known) (root : List ℕ) (position : Position) (passed : ℕ) (trees : Forest) (a b : List Defined) → AreDefinitions known root position passed trees a
-    → AreDefinitions known root position passed trees b → a ≡ b
-one_list known root position passed end a b are were = are ∙ sym were
-one_list known root position passed (leaf it rest) a b (first, others, is, behind, same) (item, more, was, after, also) =
-    let one = one_first known root position passed (leaf it rest) first item is was in
-    let rest_same = one_list known root _ _ rest others more (subst (λ i. AreDefinitions known root _ (passed_then i) rest others) one behind) after in
-    same ∙ ap₂ (λ i its. defined_by position i ++ its) one rest_same ∙ sym also
-  where
-    passed_then : Item → ℕ
-    passed_then i = passed_by passed i - 1
-one_list known root position passed (node delimiter children rest) a b (inside, others, held, behind, same) (within, more, kept, after, also) =
-    same ∙ ap₂ (λ i its. i ++ its) (by passed held kept) (one_list known root _ _ rest others more behind after) ∙ sym also
-  where
-    by : (passed : ℕ) → Unless passed (AreDefinitions known root (first_in delimiter.kind position) 0 children) inside
-        → Unless passed (AreDefinitions known root (first_in delimiter.kind position) 0 children) within → inside ≡ within
-    by zero are were = one_list known root (first_in delimiter.kind position) 0 children inside within are were
-    by (suc passed) none no = none ∙ sym no
 
 -- A text exports one list of macros.
 pub one_export : (config : Config) (trees : Forest) (a b : List Macro) → AreExported config trees a → AreExported config trees b → a ≡ b

@@ -24,13 +24,8 @@ use Rattle.expand_text.specs.Lacking.{Lacks}
 use Rattle.expand_text.specs.Exports.{AreExported, AreRead}
 use Rattle.expand_text.specs.Macros.{called_by, context_behind, left_behind, named_by, unexported_by}
 use Rattle.expand_text.specs.Outcomes.{Outcome}
+use Rattle.expand_text.proofs.Mentioned.{lacks_word}
 use Rattle.expand_text.specs.Scopes.{Macro, last_named}
-
--- The first tree is not the word.
-lacks_first : (word : List ℕ) (trees : Forest) → Lacks word trees → is_at_word word trees ≡ false
-lacks_first word end lacks = refl
-lacks_first word (leaf it rest) lacks = lacks.0
-lacks_first word (node delimiter children rest) lacks = refl
 
 -- The trees after some lack it too.
 lacks_behind : (word : List ℕ) (n : ℕ) (trees : Forest) → Lacks word trees → Lacks word (after_trees n trees)
@@ -56,7 +51,7 @@ no_definition root position trees it lacks is = at position.is_verbatim is
     none : definition_in trees ≡ None
     none =
         ap (λ b. cond b (cond (is_at_punct (codes "!") (after_tree trees)) (definition_behind (after_tree (after_tree trees))) None) None)
-        (lacks_first (codes "macro_rules") trees lacks)
+        (lacks_word (codes "macro_rules") trees lacks)
 
     from : (found : Option Call) → item_from None found ≡ defines it → ⊥
     from None is = cc is

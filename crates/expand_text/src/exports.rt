@@ -1,5 +1,7 @@
 //! The macros that a text exports.
-ghost use Rattle.std.specs.Prelude.{◌≡◌, ◌<◌, List, IfOk, OnOk};
+ghost use Rattle.std.specs.List.{list_any};
+ghost use Rattle.std.specs.Prelude.{◌≡◌, List, IfOk, OnOk, bytes_eq};
+ghost use Rattle.tt_tables.specs.Stored.{packed};
 ghost use Rattle.expand_items.specs.Definitions.{defined_of};
 ghost use Rattle.expand_text.specs.Contexts.{Learns, config_of};
 ghost use Rattle.expand_text.specs.Exports.{AreExported, IsReadIfExported};
@@ -27,11 +29,21 @@ fn read_if_exported(
     Ok(())
 }
 
+// Returns whether a tree may have an ident with that text: all its symbols are in one table.
+fn may_have(tree: &TopSubtree, word: &str) -> bool
+    ensures { result ≡ list_any (λ it. bytes_eq word.now it) (packed tree.now).symbols }
+{
+    tree.symbol_table().iter().any(|it| word == it.as_str())
+}
+
 /// Returns the macros that a text with these trees exports. It reports no finding, because the walk through the text reads each definition
 /// again.
 pub(crate) fn exported_macros(config: &Config<'_>, tree: &TopSubtree) -> Result<Scope, OutOfMemory>
     ensures { IfOk result (λ scope. (macros : List Macro) × AreExported (config_of config.now) tree.now.children macros × AreReady macros scope.macros.items) }
 {
+    if !may_have(tree, "macro_export") {
+        return Ok(Scope::new(config.alloc));
+    }
     let definitions = definitions_in(config.alloc, config.cfg, tree.iter(), config.root.as_str())?;
     let mut context = Context::new(config.alloc, Scope::new(config.alloc));
     'definitions: for place in 0..definitions.len() {

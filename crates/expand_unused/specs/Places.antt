@@ -10,7 +10,7 @@ use Rattle.expand_unused.specs.declared.choice.Choice.{Choice}
 use Rattle.expand_unused.specs.declared.place.Attributes.{Attributes}
 use Rattle.expand_unused.specs.declared.place.Place.{Place}
 use Rattle.expand_unused.specs.declared.place.Place.TheVariants as at
-use Rattle.expand_items.specs.Items.{Definition, Item, defines, calls, other, item_in}
+use Rattle.expand_items.specs.Items.{Definition, Item, defines, calls, inactive, other, item_in}
 use Rattle.expand_items.specs.Positions.{is_bracket}
 use Rattle.mbe_pattern.specs.Units.{is_at_word}
 
@@ -29,6 +29,7 @@ pub data First : Type 0 where
 abbrev pub first_from : (choice : Choice) → Item → First
 first_from choice (defines it) = if may_go choice.only it.name.sym then drops it else takes it.len
 first_from choice (calls it) = takes it.len
+first_from choice (inactive len) = others
 first_from choice other = others
 
 -- what comes first among these trees

@@ -54,7 +54,7 @@ pub(crate) fn first_in<'a>(trees: TtIter<'a>, choice: &Choice) -> First<'a>
             }
         }
         Item::Call(call) => First::Takes(call.len),
-        Item::Other => First::Others,
+        Item::Inactive(_) | Item::Other => First::Others,
     }
 }
 
