@@ -223,6 +223,25 @@ class Maker:
         self.lines.append(f"const {third}: i64 = 2 * {name}!();")
         self.values += [first, f"{module}::{second}", third]
 
+    def exports(self, calls):
+        """A macro that the crate exports, and one of the same name in a function."""
+        name, user = self.name("shared"), self.name("user")
+        first, second = self.name("f"), self.name("f")
+        exported = f"#[macro_export]\nmacro_rules! {name} {{ () => {{ {self.number()} }}; (with $a:tt) => {{ $a {self.operator()} {self.number()} }}; }}"
+        lines = [
+            f"fn {first}() -> i64 {{ crate::{name}!() {self.operator()} crate::{name}!(with {self.number()}) {self.operator()} {self.operand(calls)} }}",
+            f"macro_rules! {user} {{ () => {{ $crate::{name}!() }}; ($a:literal) => {{ $crate::{name}! {{ with $a }} }}; }}",
+            self.chance.choice((exported, f"mod {self.name('inner')} {{\n    {exported}\n}}")),
+        ]
+        self.chance.shuffle(lines)
+        self.lines += lines
+        terms = [f"{user}!()", f"{user}!({self.number()})", f"{name}!()", f"crate::{name}!()", f"crate::{name}!(with {self.number()})"]
+        self.lines.append(
+            f"fn {second}() -> i64 {{\n    macro_rules! {name} {{ () => {{ {self.number()} + 10 }}; }}\n"
+            f"    0 {self.operator()} {f' {self.operator()} '.join(self.chance.sample(terms, 3))}\n}}"
+        )
+        self.values += [f"{first}()", f"{second}()"]
+
     def condition(self, holds):
         """Attributes of which a condition is one."""
         first = f"#[cfg({self.chance.choice(HOLD if holds else FAIL)})]"
@@ -252,7 +271,7 @@ def made(seed):
     maker = Maker(seed)
     calls = [make() for make in maker.chance.sample((maker.folding, maker.counting, maker.choosing), maker.chance.randint(1, 3))]
     for _ in range(maker.chance.randint(2, 6)):
-        what = maker.chance.choice(("statements", "blocks", "pieces", "constants", "conditions", "defining", "modules"))
-        getattr(maker, what)(*([calls] if what in ("statements", "blocks", "pieces", "constants", "conditions") else []))
+        what = maker.chance.choice(("statements", "blocks", "pieces", "constants", "conditions", "exports", "defining", "modules"))
+        getattr(maker, what)(*([calls] if what not in ("defining", "modules") else []))
     printed = "".join(f'    println!("{{}}", {it});\n' for it in maker.values)
     return HEAD + "\n".join(maker.lines) + f"\n\nfn main() {{\n{printed}}}\n"
