@@ -6,12 +6,13 @@ use crate::failure::Failure;
 use crate::grammar_error::grammar_failure;
 use crate::input::Input;
 use crate::mentions::Mentions;
+use crate::options::Options;
 use crate::report::{Report, report_on, summary};
 use crate::shebang::{shebang_of, without_shebang};
 use crate::style::style_of;
 use crate::syntax_error::syntax_failure;
 use crate::tree_lines::tree_of;
-use expand_text::{ExpandOptions, ExpandTextError, expand_leniently};
+use expand_text::{ExpandTextError, expand_leniently};
 use mbe_grammar::{ParsedFile, parse_file};
 use std::io::{self, Write};
 use std::process::ExitCode;
@@ -71,18 +72,19 @@ fn syntax_counts(
 fn expanded(
     rt: &HostRuntime,
     input: Input<'_>,
-    options: ExpandOptions<'_>,
+    options: Options<'_>,
     checks: bool,
 ) -> Result<Outcome, Failure> {
     let bytes = input.bytes(rt)?;
     let text = input.text(rt, bytes.as_slice())?;
     let name = input.name();
-    let limit = options.limit;
     let blank = without_shebang(rt.alloc(), text)?;
     let source = match &blank {
         Some(blank) => blank.as_str(),
         None => text,
     };
+    let options = options.for_text(source);
+    let limit = options.limit;
     let found = match expand_leniently(rt.alloc(), source, options) {
         Ok(found) => found,
         Err(error) => return Err(refused(rt, name, text, limit, error)),
@@ -110,7 +112,7 @@ fn expanded(
 fn outcome_of(
     rt: &HostRuntime,
     input: Input<'_>,
-    options: ExpandOptions<'_>,
+    options: Options<'_>,
     checks: bool,
 ) -> Outcome {
     match expanded(rt, input, options, checks) {
@@ -168,7 +170,7 @@ fn note_mentions(rt: &HostRuntime, name: &str, text: &str, only: &str, everywher
 pub fn expand(
     rt: &HostRuntime,
     input: Input<'_>,
-    options: ExpandOptions<'_>,
+    options: Options<'_>,
     drops: Drops,
 ) -> Result<ExitCode, Failure> {
     let name = input.name();
@@ -199,7 +201,7 @@ pub fn expand(
 pub fn check(
     rt: &HostRuntime,
     names: &[&str],
-    options: ExpandOptions<'_>,
+    options: Options<'_>,
 ) -> Result<ExitCode, Failure> {
     let mut counts = Counts::NONE;
     for name in names {

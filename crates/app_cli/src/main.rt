@@ -15,6 +15,7 @@ mod messages;
 mod options;
 mod packing;
 mod program;
+mod recursion_limit;
 mod report;
 mod shebang;
 mod style;
@@ -22,6 +23,7 @@ mod syntax_error;
 mod syntax_lines;
 mod token_lines;
 mod tree_lines;
+mod trivia;
 mod whole_file;
 mod words;
 

@@ -1,9 +1,34 @@
 //! The options of macro expansion.
-use crate::arguments::{is_everywhere, limit_of, only_of, root_of};
+use crate::arguments::{MOST_LIMIT, is_everywhere, limit_of, only_of, root_of};
 use crate::failure::Failure;
+use crate::recursion_limit::recursion_limit;
 use clap::ArgMatches;
-use expand_text::ExpandOptions;
+use expand_items::CfgOptions;
+use expand_text::{ExpandOptions, USUAL_LIMIT};
 use syntax_lex::{MOST_TEXT_BYTES, TokenKind, first_token};
+
+/// The options for the expansion of texts.
+#[derive(Clone, Copy)]
+pub struct Options<'a> {
+    limit: Option<usize>,
+    cfg: &'a CfgOptions,
+    root: &'a str,
+    /// Whether the walk enters calls that are not expanded.
+    pub everywhere: bool,
+    /// The only name whose macros are expanded, if one is given.
+    pub only: Option<&'a str>,
+}
+
+// Returns the limit of nested expansions that a text sets, as far as it is allowed, or else the usual one.
+fn limit_in(text: &str) -> usize {
+    if text.len() > MOST_TEXT_BYTES {
+        return USUAL_LIMIT;
+    }
+    match recursion_limit(text) {
+        Some(limit) => limit.clamp(1, MOST_LIMIT as usize),
+        None => USUAL_LIMIT,
+    }
+}
 
 // Returns whether a text is one name of Rust, and not raw.
 fn is_name(text: &str) -> bool {
@@ -33,17 +58,35 @@ fn only<'a>(rt: &HostRuntime, matches: &ArgMatches<'a>) -> Result<Option<&'a str
     Ok(Some(name))
 }
 
-/// Returns the options of an expansion; fails if an option that needs a name has none.
-pub fn options_of<'a>(
-    rt: &HostRuntime,
-    matches: &ArgMatches<'a>,
-) -> Result<ExpandOptions<'a>, Failure> {
-    let root = root_of(matches);
-    wants_name(rt, "--crate", root, root)?;
-    Ok(ExpandOptions {
-        limit: limit_of(matches),
-        root,
-        everywhere: is_everywhere(matches),
-        only: only(rt, matches)?,
-    })
+impl<'a> Options<'a> {
+    /// Returns the options that the arguments give; fails if an option that needs a name has none.
+    pub fn of(
+        rt: &HostRuntime,
+        matches: &ArgMatches<'a>,
+        cfg: &'a CfgOptions,
+    ) -> Result<Options<'a>, Failure> {
+        let root = root_of(matches);
+        wants_name(rt, "--crate", root, root)?;
+        Ok(Options {
+            limit: limit_of(matches),
+            cfg,
+            root,
+            everywhere: is_everywhere(matches),
+            only: only(rt, matches)?,
+        })
+    }
+
+    /// Returns the options for a text: if no limit is given, the one that the text sets counts.
+    pub fn for_text(self, text: &str) -> ExpandOptions<'a> {
+        ExpandOptions {
+            limit: match self.limit {
+                Some(limit) => limit,
+                None => limit_in(text),
+            },
+            cfg: self.cfg,
+            root: self.root,
+            everywhere: self.everywhere,
+            only: self.only,
+        }
+    }
 }
