@@ -109,12 +109,7 @@ fn expanded(
 }
 
 // The same. An input that cannot be read or has no tree counts as one error.
-fn outcome_of(
-    rt: &HostRuntime,
-    input: Input<'_>,
-    options: Options<'_>,
-    checks: bool,
-) -> Outcome {
+fn outcome_of(rt: &HostRuntime, input: Input<'_>, options: Options<'_>, checks: bool) -> Outcome {
     match expanded(rt, input, options, checks) {
         Ok(outcome) => outcome,
         Err(failure) => {
@@ -198,11 +193,7 @@ pub fn expand(
 }
 
 /// Reports the first syntax error of these files and the faults in their macros, one file after the other.
-pub fn check(
-    rt: &HostRuntime,
-    names: &[&str],
-    options: Options<'_>,
-) -> Result<ExitCode, Failure> {
+pub fn check(rt: &HostRuntime, names: &[&str], options: Options<'_>) -> Result<ExitCode, Failure> {
     let mut counts = Counts::NONE;
     for name in names {
         let outcome = outcome_of(rt, Input::new(Some(name)), options, true);

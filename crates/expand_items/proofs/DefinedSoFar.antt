@@ -30,9 +30,13 @@ module _ (known : Known) (root : List ℕ) where
     pub after_leaf : (it : Leaf) (rest : Forest) (first : Item) → before.rest ≡ leaf it rest → IsItemIf known root before.position before.passed before.rest first
         → (found : List Defined) → AreLeft (past_leaf known it (record before { passed = passed_by before.passed first }) ∷ outer) found
         → AreLeft (before ∷ outer) (defined_by before.position first ++ found)
-    after_leaf it rest first begins is found (here, others, are, left, same) =
-        (defined_by before.position first ++ here, others, by before.rest begins is are, left,
-        ap (λ its. defined_by before.position first ++ its) same ∙ sym (append_assoc (defined_by before.position first) here others))
+    after_leaf it rest first begins is found (here, others, are, left, same) = (
+      defined_by before.position first ++ here,
+      others,
+      by before.rest begins is are,
+      left,
+      ap (λ its. defined_by before.position first ++ its) same ∙ sym (append_assoc (defined_by before.position first) here others),
+    )
       where
         by : (trees : Forest) → trees ≡ leaf it rest → IsItemIf known root before.position before.passed trees first
             → AreIn (past_leaf known it (record { rest = trees; position = before.position; passed = passed_by before.passed first })) here
@@ -48,9 +52,13 @@ module _ (known : Known) (root : List ℕ) where
         → (found : List Defined)
         → AreLeft (record { rest = children; position = first_in delimiter.kind before.position; passed = 0 } ∷ past_subtree delimiter.kind before ∷ outer) found
         → AreLeft (before ∷ outer) found
-    after_inside delimiter children rest begins none found (inside, behind, are, (here, others, there, left, more), same) =
-        (inside ++ here, others, by before.rest before.passed begins none there, left,
-        same ∙ ap (λ its. inside ++ its) more ∙ sym (append_assoc inside here others))
+    after_inside delimiter children rest begins none found (inside, behind, are, (here, others, there, left, more), same) = (
+      inside ++ here,
+      others,
+      by before.rest before.passed begins none there,
+      left,
+      same ∙ ap (λ its. inside ++ its) more ∙ sym (append_assoc inside here others),
+    )
       where
         by : (trees : Forest) (passed : ℕ) → trees ≡ node delimiter children rest → passed ≡ 0
             → AreIn (past_subtree delimiter.kind (record { rest = trees; position = before.position; passed = passed })) here
@@ -60,11 +68,14 @@ module _ (known : Known) (root : List ℕ) where
         by (node other held behind) (suc passed) e n there = absurd (cc n)
         by (node other held behind) zero e n there =
             let one : other ≡ delimiter = cc e in
-            let two : held ≡ children = cc e in
-            (inside, here,
-            subst (λ d. AreDefinitions known root (first_in d.kind before.position) 0 held inside) (sym one)
-            (subst (λ h. AreDefinitions known root (first_in delimiter.kind before.position) 0 h inside) (sym two) are),
-            subst (λ d. AreIn (past_subtree d.kind (record { rest = node other held behind; position = before.position; passed = 0 })) here) (sym one) there, refl)
+            let two : held ≡ children = cc e in (
+              inside,
+              here,
+              subst (λ d. AreDefinitions known root (first_in d.kind before.position) 0 held inside) (sym one)
+                  (subst (λ h. AreDefinitions known root (first_in delimiter.kind before.position) 0 h inside) (sym two) are),
+              subst (λ d. AreIn (past_subtree d.kind (record { rest = node other held behind; position = before.position; passed = 0 })) here) (sym one) there,
+              refl,
+            )
 
     pub after_passed : (delimiter : Delimiter) (children rest : Forest) (more : ℕ) → before.rest ≡ node delimiter children rest → before.passed ≡ suc more
         → (found : List Defined) → AreLeft (past_subtree delimiter.kind before ∷ outer) found → AreLeft (before ∷ outer) found
@@ -78,9 +89,13 @@ module _ (known : Known) (root : List ℕ) where
         by (leaf it behind) passed e n there = absurd (cc e)
         by (node other held behind) zero e n there = absurd (cc n)
         by (node other held behind) (suc passed) e n there =
-            let one : other ≡ delimiter = cc e in
-            ([], here, refl,
-            subst (λ d. AreIn (past_subtree d.kind (record { rest = node other held behind; position = before.position; passed = suc passed })) here) (sym one) there, refl)
+            let one : other ≡ delimiter = cc e in (
+              [],
+              here,
+              refl,
+              subst (λ d. AreIn (past_subtree d.kind (record { rest = node other held behind; position = before.position; passed = suc passed })) here) (sym one) there,
+              refl,
+            )
 
 -- how much is left to do in levels
 abbrev pub work_of : List Level → ℕ

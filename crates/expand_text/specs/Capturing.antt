@@ -5,7 +5,7 @@ use Rattle.tt.specs.Span.{start_of}
 use Rattle.expand_hygiene.specs.Captures.{IsCapture}
 use Rattle.expand_hygiene.specs.declared.captures.Capture.{Capture}
 use Rattle.expand_hygiene.specs.declared.captures.ExpandTo.{ExpandTo}
-use Rattle.expand_hygiene.specs.declared.captures.ExpandTo.TheVariants as as
+use Rattle.expand_hygiene.specs.declared.captures.ExpandTo.TheVariants as to
 use Rattle.expand_items.specs.Items.{Call}
 use Rattle.expand_items.specs.declared.position.Position.{Position}
 use Rattle.expand_items.specs.declared.position.Siblings.{Siblings}
@@ -16,9 +16,9 @@ use Rattle.expand_text.specs.Contexts.{Context, with_finding}
 
 -- what an expansion of such siblings is read as
 abbrev pub expand_to : Siblings → ExpandTo
-expand_to siblings.Items = as.Items
-expand_to siblings.Statements = as.Statements
-expand_to siblings.Others = as.Expr
+expand_to siblings.Items = to.Items
+expand_to siblings.Statements = to.Statements
+expand_to siblings.Others = to.Expr
 
 -- the finding of a captured name, at that name
 abbrev pub capture_found : (defined_at : ℕ) → Call → Capture → Finding

@@ -4,6 +4,8 @@ ghost use Rattle.tt.specs.Iters.{rest_of};
 ghost use Rattle.expand_text.specs.Calling.{IsMade, IsMadeWithin, IsCalled, IsCalledWithin};
 ghost use Rattle.expand_items.specs.Items.{call_of};
 ghost use Rattle.expand_text.specs.Contexts.{Context as ContextOf, IsContext, Learns, config_of};
+ghost use Rattle.expand_text.specs.Meaning.{body};
+ghost use Rattle.tt.specs.Views.{trees_of};
 ghost use Rattle.expand_text.specs.Macros.{arms_of, called_by, left_behind, left_by, unexported_by};
 ghost use Rattle.expand_text.specs.Scopes.{IsReadyIf};
 ghost use Rattle.mbe_rules.specs.Arms.{Arm};
@@ -15,11 +17,11 @@ use crate::fault::MacroFault;
 use crate::memory::OutOfMemory;
 use crate::places::start_at;
 use crate::scope::Macro;
-use expand_items::{Call, MacroPath};
+use expand_items::{Call, MacroPath, without_semicolon};
 use mbe_rules::{Expansion, MacroRules, TranscribeError};
 use std::alloc::Global;
 use syntax_edit::start_of;
-use tt::{TopSubtree, TtFault};
+use tt::{TokenTreesView, TopSubtree, TtFault};
 
 /// What rules make of a call: a tree, or a fault and the byte at which it shows.
 #[derive(Drop)]
@@ -95,7 +97,11 @@ fn called_by<'k>(config: &Config<'_>, context: &'k Context, call: &Call<'_>) -> 
 }
 
 // Returns the macro in scope that a call would name without the crate's root before its name.
-fn unexported_by<'k>(config: &Config<'_>, context: &'k Context, call: &Call<'_>) -> Option<&'k Macro>
+fn unexported_by<'k>(
+    config: &Config<'_>,
+    context: &'k Context,
+    call: &Call<'_>,
+) -> Option<&'k Macro>
     ensures { (known : ContextOf) → IsContext known context.now → IsReadyIf (unexported_by (config_of config.now) known (call_of call.now)) (option_copied result) }
 {
     let name = &call.name.sym;
@@ -129,7 +135,12 @@ fn find_unexported(
     };
     let defined_at = it.defined_at;
     let at = start_of(call.name.span);
-    context.find(&call.name.sym, at, MacroFault::NotExported, Some(defined_at))?;
+    context.find(
+        &call.name.sym,
+        at,
+        MacroFault::NotExported,
+        Some(defined_at),
+    )?;
     Ok(())
 }
 
@@ -162,5 +173,16 @@ pub(crate) fn expand_call(
             context.find(name, place, fault, Some(defined_at))?;
             Ok(Called::Faulty)
         }
+    }
+}
+
+/// Returns what an arm made of a call: without a `;` at the end, if that is an expression.
+pub(crate) fn body(is_statement: bool, tree: &TopSubtree) -> TokenTreesView<'_>
+    ensures { trees_of result ≡ body is_statement tree.now }
+{
+    if is_statement {
+        tree.token_trees()
+    } else {
+        without_semicolon(tree.iter())
     }
 }

@@ -10,7 +10,7 @@ use crate::context::Context;
 use crate::fault::MacroFault;
 use crate::memory::OutOfMemory;
 use crate::walk::Invocation;
-use expand_hygiene::{ExpandTo, capture};
+use expand_hygiene::{ExpandTo, first_capture};
 use expand_items::{Call, Siblings};
 use syntax_edit::start_of;
 
@@ -37,7 +37,7 @@ pub(crate) fn find_capture(
     let to = expand_to(invocation.position.siblings());
     let input = call.input.remaining().iter();
     let body = invocation.body().iter();
-    if let Some(found) = capture(config.alloc, to, input, body)? {
+    if let Some(found) = first_capture(config.alloc, to, input, body)? {
         let fault = MacroFault::Captured(start_of(found.binding));
         let at = start_of(found.captured);
         context.find(&call.name.sym, at, fault, Some(invocation.defined_at))?;

@@ -25,6 +25,7 @@ pub mod laws;
 mod memory;
 mod options;
 mod places;
+mod plain;
 mod root;
 mod scope;
 mod source;

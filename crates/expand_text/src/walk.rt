@@ -2,7 +2,7 @@
 ghost use Rattle.std.specs.Prelude.{◌≡◌, ◌∷◌, [], ℕ, IfOk, OnOk, if◌then◌else◌};
 ghost use Rattle.tt.specs.Iters.{rest_of};
 ghost use Rattle.tt.specs.Views.{trees_of};
-ghost use Rattle.expand_text.specs.Meaning.{begin_in, body, named_behind, plain_behind_part, IsPlain};
+ghost use Rattle.expand_text.specs.Meaning.{begin_in, IsPlain};
 ghost use Rattle.syntax_edit.specs.Places.{begin_at};
 ghost use Rattle.expand_items.specs.Cfg.{known_of};
 ghost use Rattle.expand_items.specs.Items.{defines, calls, definition_of, call_of};
@@ -12,16 +12,15 @@ ghost use Rattle.tt.specs.Gluing.{after_trees};
 ghost use Rattle.expand_text.specs.Walks.{body_of, site_of, level_of, levels_of, past_leaf, past_subtree, past, past_semicolon, begun, entered, IsLeft, IsAtItem, IsFirst, IsWithin, Steps, Goes};
 ghost use Rattle.mbe_pattern.specs.Units.{front_trees};
 
-use crate::calling::{Called, expand_call, is_expanded};
+use crate::calling::{Called, body, expand_call, is_expanded};
 use crate::capturing::find_capture;
 use crate::config::Config;
 use crate::context::Context;
 use crate::defining::read_definition;
 use crate::memory::OutOfMemory;
-use expand_items::{
-    Call, Definition, Enclosure, Item, Position, is_open_condition, item_at, without_semicolon,
-};
-use mbe_pattern::{is_at_punct, pass, take};
+use crate::plain::{named_behind, plain_behind_part};
+use expand_items::{Call, Definition, Enclosure, Item, Position, is_open_condition, item_at};
+use mbe_pattern::{pass, take};
 use std::alloc::{AllocError, Global};
 use syntax_edit::begin_at;
 use tt::{
@@ -83,17 +82,6 @@ pub(crate) struct Walk<'a> {
     level: Level<'a>,
     /// The outer levels, the innermost last.
     outer: Vec<Level<'a>>,
-}
-
-// Returns the number of trees after a leaf that begin no call: the name of a lifetime, or after a literal a `.` and the name of a field.
-fn named_behind(leaf: &Leaf, behind: TtIter<'_>) -> usize
-    ensures { result ≡ named_behind leaf.now (rest_of behind.entry) }
-{
-    match leaf {
-        Leaf::Punct(punct) => { if punct.char == '\'' { 1 } else { 0 } }
-        Leaf::Literal(_) => { if is_at_punct(behind, '.') { 2 } else { 0 } }
-        Leaf::Ident(_) => 0,
-    }
 }
 
 impl<'a> Level<'a> {
@@ -285,19 +273,6 @@ fn next_definition<'a>(
     Ok(Event::Stays(walk.level.take_all(definition.len, true)))
 }
 
-// Returns how many trees after an item or a statement of so many trees are taken as they are.
-fn plain_behind_part(len: usize, mut trees: TtIter<'_>) -> usize
-    ensures { result ≡ plain_behind_part len (rest_of trees.entry) }
-{
-    pass(&mut trees, len.saturating_sub(1));
-    let is_closing = match trees.next() {
-        Some(TtElement::Subtree(_, _)) => true,
-        Some(TtElement::Leaf(Leaf::Punct(punct))) => punct.char == ';',
-        _ => false,
-    };
-    if is_closing { 0 } else { 2 }
-}
-
 // Passes the item or the statement that comes first, which is under a false condition.
 fn next_inactive<'a>(walk: &mut Walk<'a>, len: usize) -> TokenTreesView<'a>
     ensures { IsPartPassed len walk.old result walk.new }
@@ -314,17 +289,6 @@ fn stay<'a>(walk: &mut Walk<'a>, call: &Call<'a>) -> TokenTreesView<'a>
 {
     let ends = call.header.delimiter.kind == DelimiterKind::Brace;
     walk.level.take_all(call.len, ends)
-}
-
-// Returns what an arm made of a call: without a `;` at the end, if that is an expression.
-fn body(is_statement: bool, tree: &TopSubtree) -> TokenTreesView<'_>
-    ensures { trees_of result ≡ body is_statement tree.now }
-{
-    if is_statement {
-        tree.token_trees()
-    } else {
-        without_semicolon(tree.iter())
-    }
 }
 
 // Passes the call that comes first, which expands to `tree`. Its macro's name begins at the byte `defined_at` in the definition.
