@@ -20,9 +20,9 @@ TESTS = {"IDENT": "Name", "SEGMENT": "PathSegment", "BOOL": "TruthValue", "LITER
          "DELIM": "Delimited", "OPAQUE": "Opaque", "ANY": "Any", "BINARY": "BinaryOperator", "ASSIGN": "AssignmentOperator",
          "BEGINS": "BeginsExpression"}
 SUBTREES = {"PAREN": "Parenthesis", "BRACK": "Bracket", "BRACE": "Brace"}
-# The names whose places the code names: those of fragments, and that of a file.
+# The names whose places the code names: those of fragments, of files and blocks, and of what binds.
 NAMED = ["expression", "expression_2021_fragment", "type", "pattern_fragment", "pattern_param_fragment", "type_path", "statement",
-         "item", "meta", "items", "statements"]
+         "item", "meta", "items", "statements", "identifier_pattern", "field_pattern", "label"]
 # Parts that have no parts.
 LEAVES = ("unit", "front", "test", "holds", "name", "empty")
 
@@ -391,7 +391,7 @@ HEAD_OF_NAMES = """//! The names of Rust's grammar, in the order of the table. `
 def code_of_names(starts):
     lines = [HEAD_OF_NAMES]
     for name in NAMED:
-        lines += ["", f"/// Where `{name}` is laid out.", f"pub(crate) const {name.upper()}: usize = {starts[name]};"]
+        lines += ["", f"/// Where `{name}` is laid out.", f"pub const {name.upper()}: usize = {starts[name]};"]
     return [*lines, "", "/// Each name with the index of its rule in the table, in the order of the indices.",
             f"pub static NAMES: [(usize, &str); {len(starts)}] = [", *[f'    ({at}, "{name}"),' for name, at in starts.items()], "];"]
 

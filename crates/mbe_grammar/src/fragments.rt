@@ -36,7 +36,7 @@ fn start_of(fragment: GrammarFragment) -> usize
 }
 
 /// Returns Rust's grammar as a table.
-pub(crate) fn rust_table() -> Table<'static>
+pub fn rust_table() -> Table<'static>
     ensures { result.rules.now ≡ rust_rules }
 {
     Table::with_known(&RULES, &MARKS, &KNOWN)

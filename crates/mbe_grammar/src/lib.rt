@@ -38,10 +38,12 @@ pub use derivation::{Derivation, Derived, NextEvent, derive};
 pub use entry::Entry;
 pub use event::{Event, Level};
 pub use file::{ParsedFile, SyntaxError, parse_file, test_of};
-pub use fragments::{is_block, reach, reach_deep};
+pub use fragments::{is_block, reach, reach_deep, rust_table};
 pub use known::Known;
 pub use rule::{Mark, Rule};
-pub use rust_names::NAMES;
+pub use rust_names::{
+    EXPRESSION, FIELD_PATTERN, IDENTIFIER_PATTERN, ITEMS, LABEL, NAMES, STATEMENTS,
+};
 pub use table::Table;
 pub use test::Test;
 pub use trying::{Wanted, find_wanted};

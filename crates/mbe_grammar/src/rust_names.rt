@@ -1,37 +1,46 @@
 //! The names of Rust's grammar, in the order of the table. `checks/lay_out_grammar.py` makes this file.
 
 /// Where `expression` is laid out.
-pub(crate) const EXPRESSION: usize = 518;
+pub const EXPRESSION: usize = 518;
 
 /// Where `expression_2021_fragment` is laid out.
-pub(crate) const EXPRESSION_2021_FRAGMENT: usize = 514;
+pub const EXPRESSION_2021_FRAGMENT: usize = 514;
 
 /// Where `type` is laid out.
-pub(crate) const TYPE: usize = 128;
+pub const TYPE: usize = 128;
 
 /// Where `pattern_fragment` is laid out.
-pub(crate) const PATTERN_FRAGMENT: usize = 358;
+pub const PATTERN_FRAGMENT: usize = 358;
 
 /// Where `pattern_param_fragment` is laid out.
-pub(crate) const PATTERN_PARAM_FRAGMENT: usize = 363;
+pub const PATTERN_PARAM_FRAGMENT: usize = 363;
 
 /// Where `type_path` is laid out.
-pub(crate) const TYPE_PATH: usize = 0;
+pub const TYPE_PATH: usize = 0;
 
 /// Where `statement` is laid out.
-pub(crate) const STATEMENT: usize = 983;
+pub const STATEMENT: usize = 983;
 
 /// Where `item` is laid out.
-pub(crate) const ITEM: usize = 1015;
+pub const ITEM: usize = 1015;
 
 /// Where `meta` is laid out.
-pub(crate) const META: usize = 949;
+pub const META: usize = 949;
 
 /// Where `items` is laid out.
-pub(crate) const ITEMS: usize = 1012;
+pub const ITEMS: usize = 1012;
 
 /// Where `statements` is laid out.
-pub(crate) const STATEMENTS: usize = 974;
+pub const STATEMENTS: usize = 974;
+
+/// Where `identifier_pattern` is laid out.
+pub const IDENTIFIER_PATTERN: usize = 491;
+
+/// Where `field_pattern` is laid out.
+pub const FIELD_PATTERN: usize = 477;
+
+/// Where `label` is laid out.
+pub const LABEL: usize = 814;
 
 /// Each name with the index of its rule in the table, in the order of the indices.
 pub static NAMES: [(usize, &str); 165] = [

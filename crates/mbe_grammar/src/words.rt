@@ -258,7 +258,7 @@ impl Word {
     }
 
     /// Returns the word that an ident is; after `r#` it is a name.
-    pub(crate) fn of(ident: &Ident) -> Word
+    pub fn of(ident: &Ident) -> Word
         ensures { result ≡ word_of ident.now }
     {
         match ident.is_raw {
@@ -268,7 +268,7 @@ impl Word {
     }
 
     /// Returns whether no name may be spelled like this word.
-    pub(crate) fn is_reserved(self) -> bool
+    pub fn is_reserved(self) -> bool
         ensures { result ≡ is_reserved self }
     {
         !matches!(
