@@ -20,7 +20,7 @@ TESTS = {"IDENT": "Name", "SEGMENT": "PathSegment", "BOOL": "TruthValue", "LITER
          "DELIM": "Delimited", "OPAQUE": "Opaque", "ANY": "Any", "BINARY": "BinaryOperator", "ASSIGN": "AssignmentOperator",
          "BEGINS": "BeginsExpression"}
 SUBTREES = {"PAREN": "Parenthesis", "BRACK": "Bracket", "BRACE": "Brace"}
-# The names whose places the code names: those of fragments, and that of a file.
+# The names whose places the code names: those of fragments, of files and blocks, and of what binds.
 NAMED = ["expression", "expression_2021_fragment", "type", "pattern_fragment", "pattern_param_fragment", "type_path", "statement",
          "item", "meta", "items", "statements", "identifier_pattern", "field_pattern", "label"]
 # Parts that have no parts.

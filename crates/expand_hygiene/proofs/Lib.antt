@@ -1,0 +1,3 @@
+pub mod Noting
+mod Rows
+pub mod Walking
