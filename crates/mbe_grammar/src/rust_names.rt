@@ -1,7 +1,6 @@
 //! The names of Rust's grammar, in the order of the table. `checks/lay_out_grammar.py` makes this file.
 
 /// Where `expression` is laid out.
-<<<<<<< HEAD
 pub const EXPRESSION: usize = 531;
 
 /// Where `expression_2021_fragment` is laid out.
@@ -15,27 +14,11 @@ pub const PATTERN_FRAGMENT: usize = 362;
 
 /// Where `pattern_param_fragment` is laid out.
 pub const PATTERN_PARAM_FRAGMENT: usize = 367;
-=======
-pub const EXPRESSION: usize = 518;
-
-/// Where `expression_2021_fragment` is laid out.
-pub const EXPRESSION_2021_FRAGMENT: usize = 514;
-
-/// Where `type` is laid out.
-pub const TYPE: usize = 128;
-
-/// Where `pattern_fragment` is laid out.
-pub const PATTERN_FRAGMENT: usize = 358;
-
-/// Where `pattern_param_fragment` is laid out.
-pub const PATTERN_PARAM_FRAGMENT: usize = 363;
->>>>>>> 9f179d6e17d9543c050045962dde15fcf625e54b
 
 /// Where `type_path` is laid out.
 pub const TYPE_PATH: usize = 0;
 
 /// Where `statement` is laid out.
-<<<<<<< HEAD
 pub const STATEMENT: usize = 996;
 
 /// Where `item` is laid out.
@@ -58,30 +41,6 @@ pub const FIELD_PATTERN: usize = 490;
 
 /// Where `label` is laid out.
 pub const LABEL: usize = 827;
-=======
-pub const STATEMENT: usize = 983;
-
-/// Where `item` is laid out.
-pub const ITEM: usize = 1015;
-
-/// Where `meta` is laid out.
-pub const META: usize = 949;
-
-/// Where `items` is laid out.
-pub const ITEMS: usize = 1012;
-
-/// Where `statements` is laid out.
-pub const STATEMENTS: usize = 974;
-
-/// Where `identifier_pattern` is laid out.
-pub const IDENTIFIER_PATTERN: usize = 491;
-
-/// Where `field_pattern` is laid out.
-pub const FIELD_PATTERN: usize = 477;
-
-/// Where `label` is laid out.
-pub const LABEL: usize = 814;
->>>>>>> 9f179d6e17d9543c050045962dde15fcf625e54b
 
 /// Each name with the index of its rule in the table, in the order of the indices.
 pub static NAMES: [(usize, &str); 165] = [
