@@ -177,3 +177,11 @@ pub event_found : (input : List Mention) (names : List ℕ) (tokens : List Token
     first_capture input (binders_among names tokens now) ≡ first_capture input all → Some it ≡ first_capture input all
 event_found input names tokens now next all found others it same is passes left =
     sym (ap (λ one. option_or one others) is) ∙ (sym passes ∙ (sym (ap (λ events. first_capture input (binders_among names tokens events)) same) ∙ left))
+
+-- An expansion without a derivation captures nothing.
+pub refused_captures : (to : ExpandTo) (input expansion trees : Forest) (rules : List Rule) (name : ℕ) (at : Place) → rules ≡ rust_rules → name ≡ start (name_of to) → trees ≡ expansion
+    → Refuses rules (whole name trees) at → IsCapture to input expansion None
+refused_captures to input expansion trees rules name at table index same refuses =
+    let one : Refuses rust_rules (whole name trees) at = subst (λ all. Refuses all (whole name trees) at) table refuses in
+    let two : Refuses rust_rules (whole (start (name_of to)) trees) at = subst (λ n. Refuses rust_rules (whole n trees) at) index one in
+    inr (at, subst (λ it. Refuses rust_rules (whole (start (name_of to)) it) at) same two, refl)

@@ -10,7 +10,7 @@ use Rattle.expand_hygiene.specs.Captures.{name_of, first_capture}
 use Rattle.expand_hygiene.specs.Given.{IsGiven}
 use Rattle.expand_hygiene.specs.Mentions.{mentions_in}
 use Rattle.expand_hygiene.specs.Walks.{AreUncaptured}
-use Rattle.expand_hygiene.proofs.Walking.{judged, derived_captures}
+use Rattle.expand_hygiene.proofs.Walking.{judged, derived_captures, refused_captures}
 use Rattle.expand_hygiene.proofs.captures.first_capture.Goals as goal
 
 pub returns-then-not-may_capture : goal.returns-then-not-may_capture
@@ -33,3 +33,10 @@ returns-in-Whole c =
     subst (λ all. c.in_ok-found-in-Whole.found ≡ first_capture (mentions_in (rest_of c.args.input)) (binders_in (trees_of c.remaining-trees.result) all)) c.deref.ensures.value
     (c.in_ok-found-in-Whole.ensures (mentions_in (rest_of c.args.input)) given) in
     derived_captures c.args.expand_to (rest_of c.args.input) _ _ _ _ events _ c.rust_table.ensures c.start_of.ensures c.remaining-trees.ensures read found
+
+pub returns : goal.returns
+returns c =
+    let trees = trees_of c.remaining-trees.result in
+    let read : IsDerived c.rust_table.result.rules.now c.start_of.result trees (derived.Refused c.in-Refused.field-0) =
+    subst (IsDerived c.rust_table.result.rules.now c.start_of.result trees) c.in-Refused.is c.in_ok-events.ensures in
+    refused_captures c.args.expand_to (rest_of c.args.input) _ _ _ _ _ c.rust_table.ensures c.start_of.ensures c.remaining-trees.ensures read
