@@ -39,6 +39,7 @@ pub record Call : Type 0 where
 pub data Item : Type 0 where
   defines : Definition → Item
   calls : Call → Item
+  inactive : (len : ℕ) → Item
   other : Item
 
 -- an ident that may name a macro
@@ -153,4 +154,5 @@ call_of it =
 abbrev pub item_meant : item.Item → Item
 item_meant (item_of.Definition it) = defines (definition_of it)
 item_meant (item_of.Call it) = calls (call_of it)
+item_meant (item_of.Inactive len) = inactive len
 item_meant item_of.Other = other

@@ -13,16 +13,23 @@
 #![tactic(auto)]
 
 mod attribute;
+mod cfg;
+mod condition;
 mod expression;
 mod front;
+mod head;
+mod inactive;
 mod item;
 mod loosening;
 mod operand;
 mod part;
 mod position;
+mod predicate;
 mod spread;
 
 pub use attribute::{attributes_len, is_attribute, is_condition, item_at};
+pub use cfg::{CfgAtom, CfgOptions};
+pub use condition::is_open_condition;
 pub use expression::{Enclosure, without_semicolon};
 pub use item::{Call, Definition, Item, definition_in, item_in};
 pub use loosening::loosened;
