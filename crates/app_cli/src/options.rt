@@ -5,8 +5,8 @@ use clap::ArgMatches;
 use expand_text::ExpandOptions;
 use syntax_lex::{MOST_TEXT_BYTES, TokenKind, first_token};
 
-// Returns whether a text is one name of Rust, and not raw.
-fn is_name(text: &str) -> bool {
+/// Returns whether a text is one name of Rust, and not raw.
+pub fn is_name(text: &str) -> bool {
     if text.is_empty() || text.len() > MOST_TEXT_BYTES {
         return false;
     }

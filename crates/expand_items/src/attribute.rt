@@ -147,8 +147,9 @@ fn active_item_at<'a>(position: Position, mut trees: TtIter<'a>, root: &str) -> 
 }
 
 /// Returns what comes first at a position: a call that is a statement or an item contains the attributes before it. What an attribute gets
-/// in brackets contains no call and no definition, and so does a statement or an item under a condition that the options say is false.
-/// Fails only if memory runs out, which it takes only if an attribute comes first.
+/// in brackets contains no call and no definition. What is under a condition that the options say is false is `Inactive` with all its trees:
+/// a statement or an item, or all that is left after `#![cfg(..)]`. Fails only if memory runs out, which it takes only if an attribute comes
+/// first.
 pub fn item_at<'a>(
     alloc: Global,
     options: &CfgOptions,

@@ -4,7 +4,9 @@
 //! A `Position` says what the siblings are (items, statements or neither), whether one may begin at the next tree, what the words since its
 //! beginning say of the braces that follow, which attributes are in force, and how the expansion of a call there is enclosed (`Enclosure`,
 //! by its neighbours: `Front` and `expression`). `item_in` returns what is first there: a definition, a call or something else, with its
-//! number of trees; `item_at` takes the attributes before a call together with the call. `parts` splits trees into items or
+//! number of trees; `item_at` takes the attributes before a call together with the call, and returns as one what is under a condition that
+//! is false. `CfgOptions` has what is known of conditions: `check` says by that whether a predicate is true, false or open, and
+//! `is_open_condition` whether a condition leaves open if what is behind it is there. `parts` splits trees into items or
 //! statements by `reach` of `mbe_grammar`, and `put_under` adds them to a builder with the conditions before each part but the first.
 //! `loosened` goes through a whole expansion and makes each opaque subtree invisible that needs no parentheses, by what is beside it
 //! (`Front`, `fits_before`) or by its form (`Operand`).
