@@ -17,6 +17,10 @@ const ONLY: &str = "only";
 
 const LIMIT: &str = "limit";
 
+const CFG: &str = "cfg";
+
+const CFG_FROM: &str = "cfg-from";
+
 const DROP_RULES: &str = "drop-rules";
 
 const DROP_EXPORTED: &str = "drop-exported";
@@ -50,6 +54,25 @@ fn files<'a>(alloc: Global) -> Arg<'a> {
         .help("The files that are read; - is standard input")
 }
 
+// Returns the argument for what is true in conditions.
+fn cfg<'a>(alloc: Global) -> Arg<'a> {
+    Arg::new(alloc, CFG)
+        .long(CFG)
+        .value_name("SPEC")
+        .action(ArgAction::Append)
+        .help("Takes NAME or NAME=\"VALUE\" as true in #[cfg(..)]; what no option names stays open")
+}
+
+// Returns the argument for the file of all that is true in conditions.
+fn cfg_from<'a>(alloc: Global) -> Arg<'a> {
+    Arg::new(alloc, CFG_FROM)
+        .long(CFG_FROM)
+        .value_name(FILE)
+        .help(
+            "Takes the lines of a file, as rustc --print cfg writes them, as true, and all else as false",
+        )
+}
+
 // Returns a command that expands macros.
 fn expands<'a>(
     alloc: Global,
@@ -80,7 +103,9 @@ fn expands<'a>(
         .arg(everywhere)?
         .arg(root)?
         .arg(only)?
-        .arg(limit)
+        .arg(limit)?
+        .arg(cfg(alloc))?
+        .arg(cfg_from(alloc))
 }
 
 // Returns the command that writes the text with its calls expanded.
@@ -204,6 +229,16 @@ pub fn only_of<'a>(matches: &ArgMatches<'a>) -> Option<&'a str> {
 /// Returns the limit of nested expansions.
 pub fn limit_of(matches: &ArgMatches<'_>) -> usize {
     matches.get_one(LIMIT).unwrap_or(USUAL_LIMIT)
+}
+
+/// Returns what the options take as true in conditions.
+pub fn cfgs_of<'m, 'a>(matches: &'m ArgMatches<'a>) -> Option<&'m [&'a str]> {
+    matches.get_strs(CFG)
+}
+
+/// Returns the file that has all that is true in conditions, if one is given.
+pub fn cfg_file_of<'a>(matches: &ArgMatches<'a>) -> Option<&'a str> {
+    matches.get_str(CFG_FROM)
 }
 
 /// Returns the file that a command writes.

@@ -3,6 +3,7 @@
 #![tactic(auto)]
 
 mod arguments;
+mod cfg_options;
 mod counts;
 mod diagnostics;
 mod dropping;

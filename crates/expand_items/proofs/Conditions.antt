@@ -7,9 +7,13 @@ use Rattle.tt.specs.Moves.{after_tree}
 use Rattle.tt.specs.Types.Delimiter.{Delimiter}
 use Rattle.tt.specs.Types.Ident.{Ident}
 use Rattle.expand_items.specs.Attributes.{attributes_len, begins_attributes, item_at, item_behind, with_attributes}
+<<<<<<< HEAD
 use Rattle.expand_items.specs.Items.{Definition, Call, Item, defines, calls, other, call_behind, call_behind_colons, call_from, call_in, definition_in, is_at_colons, is_at_root_path, item_from, item_in, name_in}
 use Rattle.expand_items.specs.declared.item.MacroPath.{MacroPath}
 use Rattle.expand_items.specs.declared.item.MacroPath.TheVariants as path
+=======
+use Rattle.expand_items.specs.Items.{Definition, Call, Item, defines, calls, inactive, other, call_behind, call_from, call_in, definition_in, is_at_colons, is_at_root, item_from, item_in, name_in}
+>>>>>>> c219d3f7f748deeaad59b86574f8349c23a642f1
 use Rattle.expand_items.specs.Positions.{is_statement}
 use Rattle.expand_items.specs.declared.position.Position.{Position}
 use Rattle.expand_items.proofs.Attributes.{EndsWithNode, attributes_end}
@@ -119,6 +123,7 @@ module _ (root : List ℕ) (position : Position) (trees : Forest) where
 
       found : (item : Item) → item_in root behind ≡ item → item_behind position (attributes_len trees) behind item ≡ calls it → IsCallThere root trees it
       found (defines d) shape e = absurd (cc e)
+      found (inactive len) shape e = absurd (cc e)
       found (calls bare) shape e = judged bare (is_statement (attributes_len trees) bare.delimiter.kind (after_trees bare.len behind) position) shape e
       found other shape e = absurd (cc e)
 
@@ -147,6 +152,7 @@ module _ (root : List ℕ) (position : Position) (trees : Forest) where
 
       none : (item : Item) → item_behind position (attributes_len trees) behind item ≡ defines it → ⊥
       none (defines d) e = cc e
+      none (inactive len) e = cc e
       none (calls bare) e = judged bare (is_statement (attributes_len trees) bare.delimiter.kind (after_trees bare.len behind) position) e
       none other e = cc e
 

@@ -28,10 +28,10 @@ abbrev argument : Position
 argument = first_in Parenthesis body
 
 abbrev behind_sign : (char : ℕ) → Position → Position
-behind_sign char it = behind_leaf (punct char Alone) end it
+behind_sign char it = behind_leaf false (punct char Alone) end it
 
 abbrev behind_joint : (char : ℕ) → Position → Position
-behind_joint char it = behind_leaf (punct char Joint) end it
+behind_joint char it = behind_leaf false (punct char Joint) end it
 
 abbrev raw_ident : List ℕ → Leaf
 raw_ident text = leaf_of.Ident (record { sym = text; span = span 0 1; is_raw = Yes })
@@ -103,10 +103,10 @@ first_argument = refl
 last_argument : enclosure 0 Parenthesis end split (behind_sign 44 (behind_sign 43 argument)) ≡ Bare
 last_argument = refl
 
-assigned : enclosure 0 Parenthesis (alone 59 end) split (behind_sign 61 (behind_leaf (punct 43 Alone) end body)) ≡ Bare
+assigned : enclosure 0 Parenthesis (alone 59 end) split (behind_sign 61 (behind_leaf false (punct 43 Alone) end body)) ≡ Bare
 assigned = refl
 
-assigned_directly : enclosure 0 Parenthesis (alone 59 end) split (behind_leaf (punct 61 JointHidden) end (behind_sign 43 body)) ≡ Bare
+assigned_directly : enclosure 0 Parenthesis (alone 59 end) split (behind_leaf false (punct 61 JointHidden) end (behind_sign 43 body)) ≡ Bare
 assigned_directly = refl
 
 arm : enclosure 0 Parenthesis (alone 44 end) sum (behind_sign 62 (behind_joint 61 (behind_sign 43 body))) ≡ Bare
@@ -132,28 +132,28 @@ split_arm : enclosure 0 Parenthesis (alone 44 end) split (behind_sign 62 (behind
 split_arm = refl
 
 -- `a: m!(),`, `return m!();` and `if m!() {}` are bare; `r#if m!() {}` and `if m!() {}` with a block in the expansion are not.
-field : enclosure 0 Parenthesis (alone 44 end) sum (behind_sign 58 (behind_leaf (ident (codes "a")) end argument)) ≡ Bare
+field : enclosure 0 Parenthesis (alone 44 end) sum (behind_sign 58 (behind_leaf false (ident (codes "a")) end argument)) ≡ Bare
 field = refl
 
 path : enclosure 0 Parenthesis (alone 44 end) sum (behind_sign 58 (behind_joint 58 argument)) ≡ Opaque
 path = refl
 
-returned : enclosure 0 Parenthesis (alone 59 end) sum (behind_leaf (ident (codes "return")) end body) ≡ Bare
+returned : enclosure 0 Parenthesis (alone 59 end) sum (behind_leaf false (ident (codes "return")) end body) ≡ Bare
 returned = refl
 
-tested : enclosure 0 Parenthesis block sum (behind_leaf (ident (codes "if")) end body) ≡ Bare
+tested : enclosure 0 Parenthesis block sum (behind_leaf false (ident (codes "if")) end body) ≡ Bare
 tested = refl
 
-raw_tested : enclosure 0 Parenthesis block sum (behind_leaf (raw_ident (codes "if")) end body) ≡ Opaque
+raw_tested : enclosure 0 Parenthesis block sum (behind_leaf false (raw_ident (codes "if")) end body) ≡ Opaque
 raw_tested = refl
 
-tested_block : enclosure 0 Parenthesis block split (behind_leaf (ident (codes "if")) end body) ≡ Opaque
+tested_block : enclosure 0 Parenthesis block split (behind_leaf false (ident (codes "if")) end body) ≡ Opaque
 tested_block = refl
 
-tested_call : enclosure 0 Parenthesis block (word (codes "n") (bang (brackets Parenthesis end))) (behind_leaf (ident (codes "if")) end body) ≡ Opaque
+tested_call : enclosure 0 Parenthesis block (word (codes "n") (bang (brackets Parenthesis end))) (behind_leaf false (ident (codes "if")) end body) ≡ Opaque
 tested_call = refl
 
-tested_return : enclosure 0 Parenthesis block (word (codes "return") end) (behind_leaf (ident (codes "if")) end body) ≡ Opaque
+tested_return : enclosure 0 Parenthesis block (word (codes "return") end) (behind_leaf false (ident (codes "if")) end body) ≡ Opaque
 tested_return = refl
 
 -- `m!() => a` and `-> m!(),` are bare; `- m!(),` and `> m!(),` are not.
@@ -201,7 +201,7 @@ block_begins_arm = refl
 
 -- `m!()` is a call in `#[doc = m!()]`, and is none in `#[a(m!())]`.
 abbrev in_attribute : Position
-in_attribute = first_in Bracket (behind_leaf (punct 35 Alone) (brackets Bracket end) body)
+in_attribute = first_in Bracket (behind_leaf false (punct 35 Alone) (brackets Bracket end) body)
 
 value_calls : item_at (codes "crate") in_attribute (word (codes "m") (bang (brackets Parenthesis end))) ≡ m_call false 3
 value_calls = refl

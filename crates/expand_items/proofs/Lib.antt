@@ -15,3 +15,8 @@ pub mod Wanting
 pub mod Rebuilding
 pub mod BuiltSoFar
 pub mod LooseningRows
+pub mod Kleene
+pub mod Reading
+pub mod Saying
+pub mod CfgRows
+pub mod ConditionRows

@@ -11,6 +11,8 @@ use Rattle.tt.specs.Types.Leaf.TheVariants as leaf_of
 use Rattle.tt.specs.Types.Spacing.TheVariants.{Alone}
 use Rattle.tt_base.proofs.Samples.{span, punct, ident, subtree}
 use Rattle.expand_items.specs.Attributes.{attributes_len, conditions_of, item_at}
+use Rattle.expand_items.specs.Cfg.{unknown}
+use Rattle.expand_items.specs.Conditions.{behind_leaf_under}
 use Rattle.expand_items.specs.Items.{Item, calls, defines, other, item_in}
 use Rattle.expand_items.specs.declared.item.MacroPath.{MacroPath}
 use Rattle.expand_items.specs.declared.item.MacroPath.TheVariants as path
@@ -110,17 +112,17 @@ argument_is_none = refl
 
 -- What `{}` after `#[macro_use] mod n` defines stays in scope, and what `{}` after `mod n` defines does not.
 used : keeps_macros Brace end
-    (behind_leaf (ident (codes "n")) end
-    (behind_leaf (ident (codes "mod")) end
-    (behind_subtree Bracket (behind_leaf (punct 35 Alone) (subtree Bracket (word (codes "macro_use") end)) (begun Statements)))))
+    (behind_leaf false (ident (codes "n")) end
+    (behind_leaf false (ident (codes "mod")) end
+    (behind_subtree Bracket (behind_leaf false (punct 35 Alone) (subtree Bracket (word (codes "macro_use") end)) (begun Statements)))))
     ≡ true
 used = refl
 
-not_used : keeps_macros Brace (word (codes "a") end) (behind_leaf (ident (codes "n")) end (behind_leaf (ident (codes "mod")) end (begun Statements))) ≡ false
+not_used : keeps_macros Brace (word (codes "a") end) (behind_leaf false (ident (codes "n")) end (behind_leaf false (ident (codes "mod")) end (begun Statements))) ≡ false
 not_used = refl
 
 -- What `{#![a] #![macro_use]}` defines does too, and what `{#[macro_use]}` defines does not.
-abbrev inner : List ℕ → Forest → Forest
+abbrev pub inner : List ℕ → Forest → Forest
 inner text rest = alone 35 (bang (join (subtree Bracket (word text end)) rest))
 
 used_inside : keeps_macros Brace (inner (codes "a") (inner (codes "macro_use") end)) (begun Items) ≡ true
@@ -130,8 +132,8 @@ not_used_inside : keeps_macros Brace (attribute (codes "macro_use") end) (begun 
 not_used_inside = refl
 
 -- after a word
-abbrev behind_word : List ℕ → Position → Position
-behind_word text it = behind_leaf (ident text) end it
+abbrev pub behind_word : List ℕ → Position → Position
+behind_word text it = behind_leaf false (ident text) end it
 
 -- what the braces after it contain
 abbrev held_behind : Position → Siblings
@@ -161,10 +163,10 @@ function_statements = refl
 abbrev raw_mod : Leaf
 raw_mod = leaf_of.Ident (record { sym = codes "mod"; span = span 0 1; is_raw = Yes })
 
-raw_statements : held_behind (behind_leaf raw_mod end (begun Statements)) ≡ Statements
+raw_statements : held_behind (behind_leaf false raw_mod end (begun Statements)) ≡ Statements
 raw_statements = refl
 
-ended_statements : held_behind (behind_leaf (punct 59 Alone) end (behind_word (codes "m") (behind_word (codes "mod") (begun Items)))) ≡ Statements
+ended_statements : held_behind (behind_leaf false (punct 59 Alone) end (behind_word (codes "m") (behind_word (codes "mod") (begun Items)))) ≡ Statements
 ended_statements = refl
 
 -- and parentheses contain neither.
@@ -191,16 +193,16 @@ items_come = refl
 operands_come : siblings_of_call 0 Parenthesis (alone 43 end) (begun Statements) ≡ Others
 operands_come = refl
 
--- after `#` and a word in brackets, before the trees in them
-abbrev behind_attribute : List ℕ → Position → Position
-behind_attribute text it = behind_subtree Bracket (behind_leaf (punct 35 Alone) (subtree Bracket (word text end)) it)
+-- after `#` and a word in brackets, before the trees in them, if nothing is known of conditions
+abbrev pub behind_attribute : List ℕ → Position → Position
+behind_attribute text it = behind_subtree Bracket (behind_leaf_under unknown (punct 35 Alone) (subtree Bracket (word text end)) it)
 
 -- An attribute precedes what follows `#[inline]`; none precedes what follows `#![inline]`, or what follows the tree after `#[cfg]`.
 attributed : (behind_attribute (codes "inline") (begun Items)).is_attributed ≡ true
 attributed = refl
 
-unattributed : (behind_subtree Bracket (behind_leaf (punct 33 Alone) (subtree Bracket (word (codes "inline") end))
-    (behind_leaf (punct 35 Alone) (bang (subtree Bracket (word (codes "inline") end))) (begun Items)))).is_attributed ≡ false
+unattributed : (behind_subtree Bracket (behind_leaf false (punct 33 Alone) (subtree Bracket (word (codes "inline") end))
+    (behind_leaf false (punct 35 Alone) (bang (subtree Bracket (word (codes "inline") end))) (begun Items)))).is_attributed ≡ false
 unattributed = refl
 
 attributes_end : (behind_word (codes "a") (behind_attribute (codes "cfg") (begun Items))).is_attributed ≡ false
@@ -214,7 +216,7 @@ module_under = behind_word (codes "m") (behind_word (codes "mod") (behind_attrib
 open_before : module_under.is_open ≡ true
 open_before = refl
 
-open_inside : (behind_leaf (punct 59 Alone) end (first_in Brace module_under)).is_open ≡ true
+open_inside : (behind_leaf false (punct 59 Alone) end (first_in Brace module_under)).is_open ≡ true
 open_inside = refl
 
 open_behind : (behind_subtree Brace module_under).is_open ≡ false
@@ -225,7 +227,7 @@ not_open = refl
 
 -- After `#![a]` a statement may still begin.
 inner_attribute : is_statement 0 Parenthesis (alone 59 end)
-    (behind_subtree Bracket (behind_leaf (punct 33 Alone) end (behind_leaf (punct 35 Alone) (alone 33 end) (begun Statements))))
+    (behind_subtree Bracket (behind_leaf false (punct 33 Alone) end (behind_leaf false (punct 35 Alone) (alone 33 end) (begun Statements))))
     ≡ true
 inner_attribute = refl
 
@@ -259,7 +261,7 @@ two_conditions : conditions_of (attribute (codes "cfg") (attribute (codes "inlin
 two_conditions = refl
 
 -- `m!();`
-abbrev m_item : Forest
+abbrev pub m_item : Forest
 m_item = word (codes "m") (bang (brackets Parenthesis (alone 59 end)))
 
 -- `#[cfg] m!();` is one item; so are `#[cfg] #[inline] m!();`, `#[inline] m!();`, and `#[cfg] m!()` with nothing after it.

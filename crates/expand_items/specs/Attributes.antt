@@ -5,7 +5,7 @@ use Rattle.tt.specs.Gluing.{after_trees}
 use Rattle.tt.specs.Moves.{after_tree}
 use Rattle.tt.specs.Types.Leaf.{Leaf}
 use Rattle.tt.specs.Types.Leaf.TheVariants as leaf_of
-use Rattle.expand_items.specs.Items.{Call, Item, defines, calls, other, item_in}
+use Rattle.expand_items.specs.Items.{Call, Item, defines, calls, inactive, other, item_in}
 use Rattle.expand_items.specs.Positions.{is_at_attribute_of, is_at_brackets, is_bracket, is_statement}
 use Rattle.expand_items.specs.declared.position.Position.{Position}
 use Rattle.mbe_pattern.specs.Units.{is_at_punct}
@@ -69,6 +69,7 @@ abbrev pub item_behind : Position → (attributes : ℕ) → (trees : Forest) �
 item_behind position attributes trees (defines it) = other
 item_behind position attributes trees (calls it) =
     if is_statement attributes it.delimiter.kind (after_trees it.len trees) position then calls (with_attributes attributes it) else other
+item_behind position attributes trees (inactive len) = other
 item_behind position attributes trees other = other
 
 -- what comes first at a position: nothing in the brackets that an attribute gets; a call that is a statement or an item contains the

@@ -53,6 +53,7 @@ is_elsewhere path.Other = true
 pub data Item : Type 0 where
   defines : Definition → Item
   calls : Call → Item
+  inactive : (len : ℕ) → Item
   other : Item
 
 -- an ident that may name a macro
@@ -176,4 +177,5 @@ call_of it =
 abbrev pub item_meant : item.Item → Item
 item_meant (item_of.Definition it) = defines (definition_of it)
 item_meant (item_of.Call it) = calls (call_of it)
+item_meant (item_of.Inactive len) = inactive len
 item_meant item_of.Other = other

@@ -9,3 +9,9 @@ pub mod Expressions
 pub mod Fronts
 pub mod Items
 pub mod Positions
+-- Conditions, and what is known of them.
+pub mod Cfg
+pub mod Checking
+pub mod Conditions
+pub mod Inactive
+pub mod Predicates

@@ -14,8 +14,8 @@ use Rattle.tt.specs.Types.Leaf.TheVariants as leaf_of
 use Rattle.expand_items.specs.declared.expression.Enclosure.{Enclosure}
 use Rattle.expand_items.specs.declared.expression.Enclosure.TheVariants as enclosed
 use Rattle.expand_items.specs.declared.front.Front.TheVariants as front
-use Rattle.expand_items.specs.declared.position.Head.{Head}
-use Rattle.expand_items.specs.declared.position.Head.TheVariants as head
+use Rattle.expand_items.specs.declared.head.Head.{Head}
+use Rattle.expand_items.specs.declared.head.Head.TheVariants as head
 use Rattle.expand_items.specs.declared.position.Position.{Position}
 use Rattle.expand_items.specs.declared.position.Siblings.{Siblings}
 use Rattle.expand_items.specs.declared.position.Siblings.TheVariants as siblings
@@ -89,6 +89,8 @@ begun its =
       head = head.Unknown;
       is_used = false;
       is_attributed = false;
+      is_exported = false;
+      is_built_in = false;
       is_attribute = false;
       is_under = false;
       is_open = false;
@@ -121,6 +123,8 @@ behind ends it =
       head = if ends then head.Unknown else it.head;
       is_used = false;
       is_attributed = false;
+      is_exported = false;
+      is_built_in = false;
       is_attribute = false;
       is_under = it.is_under;
       is_open = if ends then it.is_under else it.is_open;
@@ -130,20 +134,22 @@ behind ends it =
       front = front.Bound;
     }
 
--- after `#`, before these trees: it begins an attribute
-abbrev pub behind_attribute_sign : Forest → Position → Position
-behind_attribute_sign trees it =
+-- after `#`, before these trees: it begins an attribute, which may be a condition that is not known to be true
+abbrev pub behind_attribute_sign : (is_open : Bool) → Forest → Position → Position
+behind_attribute_sign is_open trees it =
     record it {
       is_used = it.is_used || is_at_attribute_of (codes "macro_use") trees;
       is_attributed = it.is_attributed || is_at_brackets trees;
+      is_exported = it.is_exported || is_at_attribute_of (codes "macro_export") trees;
+      is_built_in = it.is_built_in || is_at_attribute_of (codes "rustc_builtin_macro") trees;
       is_attribute = true;
-      is_open = it.is_open || is_at_attribute_of (codes "cfg") trees;
+      is_open = it.is_open || is_open;
     }
 
 -- after a punct, before these trees: `!` after `#` is part of an attribute, and `;` ends a statement or an item
-abbrev pub behind_punct : (char : ℕ) → Forest → Position → Position
-behind_punct char trees it =
-    if char == 35 then behind_attribute_sign trees it else (if char == 33 && it.is_attribute then it else behind (char == 59) it)
+abbrev pub behind_punct : (is_open : Bool) → (char : ℕ) → Forest → Position → Position
+behind_punct is_open char trees it =
+    if char == 35 then behind_attribute_sign is_open trees it else (if char == 33 && it.is_attribute then it else behind (char == 59) it)
 
 -- what the words say after an ident, which is a word if it is not raw
 abbrev pub head_behind_ident : IdentIsRaw → (word : List ℕ) → Head → Head
@@ -157,15 +163,17 @@ behind_ident ident it =
       is_start = false;
       head = head_behind_ident ident.is_raw ident.sym it.head;
       is_attributed = false;
+      is_exported = false;
+      is_built_in = false;
       is_attribute = false;
       front = front_behind_ident ident.is_raw ident.sym;
     }
 
--- after a leaf, before these trees
-abbrev pub behind_leaf : Leaf → Forest → Position → Position
-behind_leaf (leaf_of.Literal literal) trees it = behind false it
-behind_leaf (leaf_of.Punct punct) trees it = record (behind_punct punct.char trees it) { front = front_behind punct it.front }
-behind_leaf (leaf_of.Ident ident) trees it = behind_ident ident it
+-- after a leaf, before these trees; `is_open`: a condition begins with it that is not known to be true
+abbrev pub behind_leaf : (is_open : Bool) → Leaf → Forest → Position → Position
+behind_leaf is_open (leaf_of.Literal literal) trees it = behind false it
+behind_leaf is_open (leaf_of.Punct punct) trees it = record (behind_punct is_open punct.char trees it) { front = front_behind punct it.front }
+behind_leaf is_open (leaf_of.Ident ident) trees it = behind_ident ident it
 
 -- after a subtree of a kind: an attribute changes nothing, parentheses leave
 -- `#[macro_use]` in force, and braces end a statement or an item

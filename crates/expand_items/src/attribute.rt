@@ -1,14 +1,19 @@
 //! Attributes, and calls behind them.
-ghost use Rattle.std.specs.Prelude.{◌≡◌, ◌+◌, ◌<◌, ◌^◌};
+ghost use Rattle.std.specs.Prelude.{◌≡◌, ◌+◌, ◌<◌, ◌^◌, IfOk, false};
 ghost use Rattle.tt.specs.Forest.{size};
 ghost use Rattle.tt.specs.Iters.{rest_of};
 ghost use Rattle.expand_items.specs.Attributes.{attributes_len, is_at_attribute, is_at_condition, item_at, item_behind, with_attributes};
+ghost use Rattle.expand_items.specs.Cfg.{known_of};
+ghost use Rattle.expand_items.specs.Inactive.{IsItemAt};
 ghost use Rattle.expand_items.specs.Items.{call_of, item_in, item_meant};
-ghost use Rattle.expand_items.specs.Positions.{begins_with_attribute, is_at_brackets, is_at_inner};
+ghost use Rattle.expand_items.specs.Positions.{begins_with_attribute, is_at_attribute_of, is_at_brackets, is_at_inner, is_attribute_of};
 
+use crate::cfg::CfgOptions;
+use crate::inactive::inactive_len;
 use crate::item::{Call, Item, item_in};
-use crate::position::{Position, is_at_attribute_of};
-use mbe_pattern::pass;
+use crate::position::Position;
+use mbe_pattern::{is_at_word, pass};
+use std::alloc::{AllocError, Global};
 use tt::{DelimiterKind, Leaf, TtElement, TtIter};
 
 /// The number of trees of an attribute: `#` and brackets.
@@ -24,6 +29,25 @@ pub(crate) fn is_at_brackets(mut trees: TtIter<'_>) -> bool
     }
 }
 
+// Returns whether these are brackets that begin with a word.
+fn is_attribute_of(word: &str, kind: DelimiterKind, inside: TtIter<'_>) -> bool
+    ensures { result ≡ is_attribute_of word.now kind (rest_of inside.entry) }
+{
+    kind == DelimiterKind::Bracket && is_at_word(inside, word)
+}
+
+/// Returns whether such brackets come first.
+pub(crate) fn is_at_attribute_of(word: &str, mut trees: TtIter<'_>) -> bool
+    ensures { result ≡ is_at_attribute_of word.now (rest_of trees.entry) }
+{
+    match trees.next() {
+        Some(TtElement::Subtree(header, inside)) => {
+            is_attribute_of(word, header.delimiter.kind, inside)
+        }
+        _ => false,
+    }
+}
+
 /// Returns whether an attribute comes first.
 pub fn is_attribute(mut trees: TtIter<'_>) -> bool
     ensures { result ≡ is_at_attribute (rest_of trees.entry) }
@@ -34,8 +58,8 @@ pub fn is_attribute(mut trees: TtIter<'_>) -> bool
     }
 }
 
-// Returns whether an inner attribute, `#![..]`, comes first.
-fn is_at_inner(mut trees: TtIter<'_>) -> bool
+/// Returns whether an inner attribute, `#![..]`, comes first.
+pub(crate) fn is_at_inner(mut trees: TtIter<'_>) -> bool
     ensures { result ≡ is_at_inner (rest_of trees.entry) }
 {
     trees.expect_char('#').is_ok() && trees.expect_char('!').is_ok() && is_at_brackets(trees)
@@ -105,22 +129,41 @@ fn item_behind<'a>(
                 Item::Other
             }
         }
-        Item::Definition(_) | Item::Other => Item::Other,
+        Item::Definition(_) | Item::Inactive(_) | Item::Other => Item::Other,
     }
 }
 
-/// Returns what comes first at a position: a call that is a statement or an item contains the attributes before it. What an attribute gets
-/// in brackets contains no call and no definition.
-pub fn item_at<'a>(position: Position, mut trees: TtIter<'a>, root: &str) -> Item<'a>
+// Returns what comes first at a position, whatever attributes say: a call that is a statement or an item contains the attributes before it.
+fn active_item_at<'a>(position: Position, mut trees: TtIter<'a>, root: &str) -> Item<'a>
+    requires { position.is_verbatim ≡ false }
     ensures { item_meant result ≡ item_at root.now position (rest_of trees.entry) }
 {
-    if position.is_verbatim() {
-        return Item::Other;
-    }
     if !position.begins_attributes(trees.remaining().iter()) {
         return item_in(trees, root);
     }
     let attributes = attributes_len(trees.remaining().iter());
     pass(&mut trees, attributes);
     item_behind(position, attributes, trees, root)
+}
+
+/// Returns what comes first at a position: a call that is a statement or an item contains the attributes before it. What an attribute gets
+/// in brackets contains no call and no definition. What is under a condition that the options say is false is `Inactive` with all its trees:
+/// a statement or an item, or all that is left after `#![cfg(..)]`. Fails only if memory runs out, which it takes only if an attribute comes
+/// first.
+pub fn item_at<'a>(
+    alloc: Global,
+    options: &CfgOptions,
+    position: Position,
+    trees: TtIter<'a>,
+    root: &str,
+) -> Result<Item<'a>, AllocError>
+    ensures { IfOk result (λ item. IsItemAt (known_of options.now) root.now position (rest_of trees.entry) (item_meant item)) }
+{
+    if position.is_verbatim() {
+        return Ok(Item::Other);
+    }
+    match inactive_len(alloc, options, position, trees.remaining().iter())? {
+        Some(len) => Ok(Item::Inactive(len)),
+        None => Ok(active_item_at(position, trees, root)),
+    }
 }

@@ -58,7 +58,9 @@ pub struct Call<'a> {
 pub enum Item<'a> {
     Definition(Definition<'a>),
     Call(Call<'a>),
-    /// Neither: a leaf, a subtree or nothing.
+    /// So many trees under a condition, `#[cfg(..)]`, that is known to be false.
+    Inactive(usize),
+    /// None of these: a leaf, a subtree or nothing.
     Other,
 }
 

@@ -51,8 +51,8 @@ fn statement_len(taken: usize, mut trees: TtIter<'_>) -> usize
     }
 }
 
-// Returns the first item or statement of such siblings, if there is one.
-fn part_in(
+/// Returns the first item or statement of such siblings, if there is one.
+pub(crate) fn part_in(
     alloc: Global,
     siblings: Siblings,
     trees: TokenTreesView<'_>,

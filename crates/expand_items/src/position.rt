@@ -1,13 +1,15 @@
 //! The position of a tree among its siblings, as far as it matters to the tree.
 ghost use Rattle.std.specs.Prelude.{◌≡◌, true};
 ghost use Rattle.tt.specs.Iters.{rest_of};
-ghost use Rattle.expand_items.specs.Positions.{is_block, head_behind, held_by, is_attribute_of, is_at_attribute_of, begun, siblings_in, first_in, behind, behind_attribute_sign, behind_punct, behind_ident, behind_leaf, behind_subtree, keeps_macros, ends_statement, is_statement, takes_semicolon, siblings_of_call, first_of_call, enclosure};
+ghost use Rattle.expand_items.specs.Positions.{is_block, begun, siblings_in, first_in, behind, behind_attribute_sign, behind_punct, behind_ident, behind_leaf, behind_subtree, keeps_macros, ends_statement, is_statement, takes_semicolon, siblings_of_call, first_of_call, enclosure};
 ghost use Rattle.expand_items.specs.Attributes.{begins_attributes};
+ghost use Rattle.expand_items.specs.Inactive.{begins_sign};
 
-use crate::attribute::{begins_with_attribute, is_at_brackets, is_attribute};
+use crate::attribute::{begins_with_attribute, is_at_attribute_of, is_at_brackets, is_attribute};
 use crate::expression::{Enclosure, enclosure_at_start, fits_before, goes_on};
 use crate::front::Front;
-use mbe_pattern::{is_at_punct, is_at_word};
+use crate::head::Head;
+use mbe_pattern::is_at_punct;
 use tt::{DelimiterKind, Ident, IdentIsRaw, Leaf, TtElement, TtIter};
 
 /// The kind of the trees that lie side by side.
@@ -19,19 +21,6 @@ pub enum Siblings {
     Statements,
     /// Neither.
     Others,
-}
-
-// What the words of the item that has begun say of the braces after them.
-#[derive(Clone, Copy)]
-enum Head {
-    /// Nothing.
-    Unknown,
-    /// `extern` was read: the braces contain items, unless it is a function.
-    Foreign,
-    /// `mod`, `impl` or `trait` was read first: the braces contain items.
-    Items,
-    /// `fn` was read first: the braces contain statements.
-    Function,
 }
 
 /// The position of a tree among its siblings, as far as it matters to the tree.
@@ -46,11 +35,16 @@ pub struct Position {
     is_used: bool,
     /// Whether an attribute precedes, with nothing but attributes between.
     is_attributed: bool,
+    /// Whether `#[macro_export]` precedes, with nothing but attributes between.
+    is_exported: bool,
+    /// Whether `#[rustc_builtin_macro]` does, or `#[rustc_builtin_macro(..)]`.
+    is_built_in: bool,
     /// Whether `#` or `#!` is the last tree before.
     is_attribute: bool,
-    /// Whether all siblings are under a condition.
+    /// Whether all siblings are under a condition that is not known to be true.
     is_under: bool,
-    /// Whether a condition is in force here: all siblings are under one, or one precedes the statement or the item that has begun.
+    /// Whether a condition that is not known to be true is in force here: all siblings are under one, or one precedes the statement or the
+    /// item that has begun.
     is_open: bool,
     /// Whether no brackets contain the siblings.
     is_top: bool,
@@ -74,52 +68,6 @@ impl Siblings {
     }
 }
 
-impl Head {
-    // Returns the head with one word more.
-    fn behind(self, word: &str) -> Head
-        ensures { result ≡ head_behind word.now self }
-    {
-        match self {
-            Head::Items | Head::Function => self,
-            Head::Unknown | Head::Foreign => match word {
-                "mod" | "impl" | "trait" => Head::Items,
-                "fn" => Head::Function,
-                "extern" => Head::Foreign,
-                _ => self,
-            },
-        }
-    }
-
-    // Returns what the braces after it contain.
-    fn held(self) -> Siblings
-        ensures { result ≡ held_by self }
-    {
-        match self {
-            Head::Items | Head::Foreign => Siblings::Items,
-            Head::Unknown | Head::Function => Siblings::Statements,
-        }
-    }
-}
-
-// Returns whether these are brackets that begin with a word.
-fn is_attribute_of(word: &str, kind: DelimiterKind, inside: TtIter<'_>) -> bool
-    ensures { result ≡ is_attribute_of word.now kind (rest_of inside.entry) }
-{
-    kind == DelimiterKind::Bracket && is_at_word(inside, word)
-}
-
-/// Returns whether such brackets come first.
-pub(crate) fn is_at_attribute_of(word: &str, mut trees: TtIter<'_>) -> bool
-    ensures { result ≡ is_at_attribute_of word.now (rest_of trees.entry) }
-{
-    match trees.next() {
-        Some(TtElement::Subtree(header, inside)) => {
-            is_attribute_of(word, header.delimiter.kind, inside)
-        }
-        _ => false,
-    }
-}
-
 impl Position {
     /// Returns the position before the first of such siblings.
     pub fn begun(siblings: Siblings) -> Position
@@ -131,6 +79,8 @@ impl Position {
             head: Head::Unknown,
             is_used: false,
             is_attributed: false,
+            is_exported: false,
+            is_built_in: false,
             is_attribute: false,
             is_under: false,
             is_open: false,
@@ -176,6 +126,8 @@ impl Position {
             head: if ends { Head::Unknown } else { self.head },
             is_used: false,
             is_attributed: false,
+            is_exported: false,
+            is_built_in: false,
             is_attribute: false,
             is_under: self.is_under,
             is_open: if ends { self.is_under } else { self.is_open },
@@ -187,26 +139,29 @@ impl Position {
     }
 
     // Returns the position after `#`, before these trees.
-    fn behind_attribute_sign(self, trees: TtIter<'_>) -> Position
-        ensures { result ≡ behind_attribute_sign (rest_of trees.entry) self }
+    fn behind_attribute_sign(self, trees: TtIter<'_>, is_open: bool) -> Position
+        ensures { result ≡ behind_attribute_sign is_open (rest_of trees.entry) self }
     {
+        let is_exported = is_at_attribute_of("macro_export", trees.remaining().iter());
+        let is_built_in = is_at_attribute_of("rustc_builtin_macro", trees.remaining().iter());
         let is_attributed = self.is_attributed || is_at_brackets(trees.remaining().iter());
-        let is_condition = is_at_attribute_of("cfg", trees.remaining().iter());
         Position {
             is_used: self.is_used || is_at_attribute_of("macro_use", trees),
             is_attributed,
+            is_exported: self.is_exported || is_exported,
+            is_built_in: self.is_built_in || is_built_in,
             is_attribute: true,
-            is_open: self.is_open || is_condition,
+            is_open: self.is_open || is_open,
             ..self
         }
     }
 
     // Returns the position after a punct, before these trees.
-    fn behind_punct(self, char: char, trees: TtIter<'_>) -> Position
-        ensures { result ≡ behind_punct char (rest_of trees.entry) self }
+    fn behind_punct(self, char: char, trees: TtIter<'_>, is_open: bool) -> Position
+        ensures { result ≡ behind_punct is_open char (rest_of trees.entry) self }
     {
         if char == '#' {
-            self.behind_attribute_sign(trees)
+            self.behind_attribute_sign(trees, is_open)
         } else if char == '!' && self.is_attribute {
             self
         } else {
@@ -226,21 +181,24 @@ impl Position {
             is_start: false,
             head,
             is_attributed: false,
+            is_exported: false,
+            is_built_in: false,
             is_attribute: false,
             front: Front::behind_ident(ident),
             ..self
         }
     }
 
-    /// Returns the position after a leaf, before these trees.
-    pub fn behind_leaf(self, leaf: &Leaf, trees: TtIter<'_>) -> Position
-        ensures { result ≡ behind_leaf leaf.now (rest_of trees.entry) self }
+    /// Returns the position after a leaf, before these trees; `is_open`: whether a condition begins with the leaf that is not known to be true
+    /// (`is_open_condition`).
+    pub fn behind_leaf(self, leaf: &Leaf, trees: TtIter<'_>, is_open: bool) -> Position
+        ensures { result ≡ behind_leaf is_open leaf.now (rest_of trees.entry) self }
     {
         match leaf {
             Leaf::Literal(_) => self.behind(false),
             Leaf::Punct(punct) => Position {
                 front: self.front.behind_punct(punct),
-                ..self.behind_punct(punct.char, trees)
+                ..self.behind_punct(punct.char, trees, is_open)
             },
             Leaf::Ident(ident) => self.behind_ident(ident),
         }
@@ -262,12 +220,26 @@ impl Position {
         }
     }
 
-    /// Returns whether a condition, `#[cfg(..)]`, is in force here: before the statement or the item that has begun, or before one that
-    /// contains it.
+    /// Returns whether a condition, `#[cfg(..)]`, that is not known to be true is in force here: before the statement or the item that has
+    /// begun, or before one that contains it.
     pub fn is_open(self) -> bool
         ensures { result ≡ self.is_open }
     {
         self.is_open
+    }
+
+    /// Returns whether `#[macro_export]` precedes, with nothing but attributes between.
+    pub fn is_exported(self) -> bool
+        ensures { result ≡ self.is_exported }
+    {
+        self.is_exported
+    }
+
+    /// Returns whether `#[rustc_builtin_macro]` or `#[rustc_builtin_macro(..)]` precedes, with nothing but attributes between.
+    pub fn is_built_in(self) -> bool
+        ensures { result ≡ self.is_built_in }
+    {
+        self.is_built_in
     }
 
     // Returns whether brackets in those of an attribute contain the siblings.
@@ -388,5 +360,12 @@ impl Position {
         ensures { result ≡ begins_attributes self (rest_of trees.entry) }
     {
         self.is_start && !self.is_attributed && is_attribute(trees)
+    }
+
+    /// Returns whether `#` comes first, and the first attribute of a statement or an item may begin there.
+    pub(crate) fn begins_sign(self, trees: TtIter<'_>) -> bool
+        ensures { result ≡ begins_sign self (rest_of trees.entry) }
+    {
+        self.is_start && !self.is_attributed && is_at_punct(trees, '#')
     }
 }

@@ -4,7 +4,7 @@ use Rattle.tt.specs.Gluing.{after_trees}
 use Rattle.tt.specs.Iters.{rest_of}
 use Rattle.expand_items.specs.Attributes.{attributes_len}
 use Rattle.expand_items.proofs.Attributes.{attributes_fit}
-use Rattle.expand_items.proofs.attribute.item_at.Goals as goal
+use Rattle.expand_items.proofs.attribute.active_item_at.Goals as goal
 
 pub item_behind-requires : goal.item_behind-requires
 item_behind-requires c =
