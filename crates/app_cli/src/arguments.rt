@@ -2,7 +2,6 @@
 use crate::dropping::Drops;
 use clap::builder::ValueParser;
 use clap::{Arg, ArgAction, ArgMatches, Command, Error};
-use expand_text::USUAL_LIMIT;
 use std::alloc::{AllocError, Global};
 
 const FILE: &str = "FILE";
@@ -27,8 +26,8 @@ const DROP_EXPORTED: &str = "drop-exported";
 
 const SYNTAX: &str = "syntax";
 
-// The largest limit that the options allow for nested expansions: what the usual stack holds.
-const MOST_LIMIT: u64 = 1000;
+/// The largest limit that the options allow for nested expansions: what the usual stack holds.
+pub const MOST_LIMIT: u64 = 1000;
 
 // Returns a command that reads a file.
 fn reads<'a>(
@@ -97,8 +96,9 @@ fn expands<'a>(
         .long(LIMIT)
         .value_name("N")
         .value_parser(ValueParser::unsigned(1, MOST_LIMIT))
-        .default_value("128")
-        .help("How many expansions may be nested, from 1 to 1000");
+        .help(
+            "How many expansions may be nested, from 1 to 1000; by default what #![recursion_limit] says, or 128",
+        );
     reads(alloc, name, about, file)?
         .arg(everywhere)?
         .arg(root)?
@@ -226,9 +226,9 @@ pub fn only_of<'a>(matches: &ArgMatches<'a>) -> Option<&'a str> {
     matches.get_str(ONLY)
 }
 
-/// Returns the limit of nested expansions.
-pub fn limit_of(matches: &ArgMatches<'_>) -> usize {
-    matches.get_one(LIMIT).unwrap_or(USUAL_LIMIT)
+/// Returns the limit of nested expansions, if one is given.
+pub fn limit_of(matches: &ArgMatches<'_>) -> Option<usize> {
+    matches.get_one(LIMIT)
 }
 
 /// Returns what the options take as true in conditions.

@@ -7,7 +7,6 @@ use expand_items::CfgOptions;
 use expand_text::{ExpandOptions, USUAL_LIMIT};
 use syntax_lex::{MOST_TEXT_BYTES, TokenKind, first_token};
 
-<<<<<<< HEAD
 /// The options for the expansion of texts.
 #[derive(Clone, Copy)]
 pub struct Options<'a> {
@@ -31,12 +30,8 @@ fn limit_in(text: &str) -> usize {
     }
 }
 
-// Returns whether a text is one name of Rust, and not raw.
-fn is_name(text: &str) -> bool {
-=======
 /// Returns whether a text is one name of Rust, and not raw.
 pub fn is_name(text: &str) -> bool {
->>>>>>> c219d3f7f748deeaad59b86574f8349c23a642f1
     if text.is_empty() || text.len() > MOST_TEXT_BYTES {
         return false;
     }

@@ -1,10 +1,11 @@
 //! The commands of the program.
 use crate::arguments::{drops_of, file_of, files_of, out_of, parse, shows_syntax};
+use crate::cfg_options::cfg_options_of;
 use crate::expanding::{check, expand};
 use crate::failure::Failure;
 use crate::grammar_error::grammar_failure;
 use crate::input::Input;
-use crate::options::options_of;
+use crate::options::Options;
 use crate::packing::{pack, unpack};
 use crate::shebang::without_shebang;
 use crate::syntax_error::syntax_failure;
@@ -40,10 +41,14 @@ fn run_command(rt: &HostRuntime, matches: &ArgMatches<'_>) -> Result<ExitCode, F
     match name {
         "expand" => {
             let input = Input::new(file_of(given));
-            expand(rt, input, options_of(rt, given)?, drops_of(given))
+            let cfg = cfg_options_of(rt, given)?;
+            expand(rt, input, Options::of(rt, given, &cfg)?, drops_of(given))
         }
         "check" => match files_of(given) {
-            Some(names) => check(rt, names, options_of(rt, given)?),
+            Some(names) => {
+                let cfg = cfg_options_of(rt, given)?;
+                check(rt, names, Options::of(rt, given, &cfg)?)
+            }
             None => Ok(ExitCode::SUCCESS),
         },
         _ => {

@@ -1,19 +1,14 @@
 -- What comes first at a position: attributes before a call may be a part of it; those before a definition are not.
 use Rattle.std.proofs.Common.{◌≡◌, ◌<◌, ◌+◌, ℕ, Bool, true, false, List, Option, None, Some, inl, inr, ◌⊎◌, refl, ap, sym, subst, ◌∙◌, arith, cond, codes}
-use Rattle.std.specs.Prelude.{◌&&◌}
 use Rattle.tt.specs.Forest.{Forest, end, leaf, node, join, size}
 use Rattle.tt.specs.Gluing.{after_trees}
 use Rattle.tt.specs.Moves.{after_tree}
 use Rattle.tt.specs.Types.Delimiter.{Delimiter}
 use Rattle.tt.specs.Types.Ident.{Ident}
 use Rattle.expand_items.specs.Attributes.{attributes_len, begins_attributes, item_at, item_behind, with_attributes}
-<<<<<<< HEAD
-use Rattle.expand_items.specs.Items.{Definition, Call, Item, defines, calls, other, call_behind, call_behind_colons, call_from, call_in, definition_in, is_at_colons, is_at_root_path, item_from, item_in, name_in}
+use Rattle.expand_items.specs.Items.{Definition, Call, Item, defines, calls, inactive, other, call_behind, call_behind_colons, call_from, call_in, definition_in, is_at_colons, is_at_root_path, item_from, item_in, name_in}
 use Rattle.expand_items.specs.declared.item.MacroPath.{MacroPath}
 use Rattle.expand_items.specs.declared.item.MacroPath.TheVariants as path
-=======
-use Rattle.expand_items.specs.Items.{Definition, Call, Item, defines, calls, inactive, other, call_behind, call_from, call_in, definition_in, is_at_colons, is_at_root, item_from, item_in, name_in}
->>>>>>> c219d3f7f748deeaad59b86574f8349c23a642f1
 use Rattle.expand_items.specs.Positions.{is_statement}
 use Rattle.expand_items.specs.declared.position.Position.{Position}
 use Rattle.expand_items.proofs.Attributes.{EndsWithNode, attributes_end}

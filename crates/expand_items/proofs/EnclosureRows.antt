@@ -8,6 +8,7 @@ use Rattle.tt.specs.Types.Leaf.{Leaf}
 use Rattle.tt.specs.Types.Leaf.TheVariants as leaf_of
 use Rattle.tt_base.proofs.Samples.{ident, punct, span, subtree}
 use Rattle.expand_items.proofs.Rows.{bang, brackets, m_call}
+use Rattle.expand_items.specs.declared.item.MacroPath.TheVariants as way
 use Rattle.expand_items.specs.Attributes.{item_at}
 use Rattle.expand_items.specs.Items.{other}
 use Rattle.expand_items.specs.declared.expression.Enclosure.TheVariants.{Bare, Opaque, Parentheses}
@@ -203,7 +204,7 @@ block_begins_arm = refl
 abbrev in_attribute : Position
 in_attribute = first_in Bracket (behind_leaf false (punct 35 Alone) (brackets Bracket end) body)
 
-value_calls : item_at (codes "crate") in_attribute (word (codes "m") (bang (brackets Parenthesis end))) ≡ m_call false 3
+value_calls : item_at (codes "crate") in_attribute (word (codes "m") (bang (brackets Parenthesis end))) ≡ m_call way.Name 3
 value_calls = refl
 
 argument_calls_nothing : item_at (codes "crate") (first_in Parenthesis in_attribute) (word (codes "m") (bang (brackets Parenthesis end))) ≡ other

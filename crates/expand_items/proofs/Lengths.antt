@@ -1,6 +1,5 @@
 -- Definitions and calls have at least one tree.
 use Rattle.std.proofs.Common.{◌≡◌, ◌<◌, ◌≤◌, ℕ, zero, suc, Bool, true, false, List, Option, None, Some, refl, ap, sym, subst, ◌∙◌, arith, cond, codes}
-use Rattle.std.specs.Prelude.{◌&&◌}
 use Rattle.tt.specs.Forest.{Forest, end, leaf, node, size}
 use Rattle.tt.specs.Gluing.{after_trees}
 use Rattle.tt.specs.Moves.{after_tree}

@@ -22,12 +22,14 @@ module _ (known : Known) (root : List ℕ) where
       let there = subst (λ i. AreDefinitions known root (behind_leaf_under known it rest position) (passed_by passed i - 1) rest others) one behind in
       same ∙ ap₂ (λ i its. defined_by position i ++ its) one (one_list (behind_leaf_under known it rest position) (passed_by passed item - 1) rest others more there after) ∙ sym also
   one_list position passed (node delimiter children rest) a b (inside, others, held, behind, same) (within, more, kept, after, also) =
-      same ∙ ap₂ (λ i its. i ++ its) (by passed held kept) (one_list (behind_subtree delimiter.kind position) (passed - 1) rest others more behind after) ∙ sym also
+      same ∙ ap₂ (λ i its. i ++ its) (by passed (one_list (first_in delimiter.kind position) 0 children inside within) held kept) (one_list (behind_subtree delimiter.kind position) (passed - 1) rest others more behind after) ∙ sym also
     where
-      by : (passed : ℕ) → Unless passed (AreDefinitions known root (first_in delimiter.kind position) 0 children) inside
-          → Unless passed (AreDefinitions known root (first_in delimiter.kind position) 0 children) within → inside ≡ within
-      by zero are were = one_list (first_in delimiter.kind position) 0 children inside within are were
-      by (suc passed) none no = none ∙ sym no
+      Are : List Defined → Type 0
+      Are = AreDefinitions known root (first_in delimiter.kind position) 0 children
+
+      by : (passed : ℕ) → (Are inside → Are within → inside ≡ within) → Unless passed Are inside → Unless passed Are within → inside ≡ within
+      by zero one are were = one are were
+      by (suc passed) one none nothing = none ∙ sym nothing
 
   -- There is such a list.
   has_first : (position : Position) (passed : ℕ) (trees : Forest) → (it : Item) × IsItemIf known root position passed trees it
@@ -39,12 +41,15 @@ module _ (known : Known) (root : List ℕ) where
   has_list position passed (leaf it rest) =
       let (first, is) = has_first position passed (leaf it rest) in
       let (others, are) = has_list (behind_leaf_under known it rest position) (passed_by passed first - 1) rest in
-      (defined_by position first ++ others, first, others, is, are, refl)
+      (defined_by position first ++ others, (first, others, is, are, refl))
   has_list position passed (node delimiter children rest) =
-      let (inside, held) = by passed in
+      let (inside, held) = by passed (has_list (first_in delimiter.kind position) 0 children) in
       let (others, are) = has_list (behind_subtree delimiter.kind position) (passed - 1) rest in
-      (inside ++ others, inside, others, held, are, refl)
+      (inside ++ others, (inside, others, held, are, refl))
     where
-      by : (passed : ℕ) → (inside : List Defined) × Unless passed (AreDefinitions known root (first_in delimiter.kind position) 0 children) inside
-      by zero = has_list (first_in delimiter.kind position) 0 children
-      by (suc passed) = ([], refl)
+      Are : List Defined → Type 0
+      Are = AreDefinitions known root (first_in delimiter.kind position) 0 children
+
+      by : (passed : ℕ) → (inside : List Defined) × Are inside → (inside : List Defined) × Unless passed Are inside
+      by zero has = has
+      by (suc passed) has = ([], refl)

@@ -1,5 +1,5 @@
 -- Worked items and positions. Each holds by computation.
-use Rattle.std.proofs.Common.{◌≡◌, ℕ, List, Bool, true, false, codes, refl}
+use Rattle.std.proofs.Common.{◌≡◌, ℕ, List, true, false, codes, refl}
 use Rattle.tt.specs.Forest.{Forest, end, join}
 use Rattle.tt.specs.Token.{delimiter}
 use Rattle.tt.specs.Types.DelimiterKind.{DelimiterKind}

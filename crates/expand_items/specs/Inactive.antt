@@ -1,5 +1,5 @@
 -- Statements and items under a condition that is false, and what comes first at a position.
-use Rattle.std.specs.Prelude.{◌≡◌, ◌⊎◌, ℕ, ◌&&◌, not, Bool, true, false, List, length, Option, None, Some, codes, option_map}
+use Rattle.std.specs.Prelude.{◌≡◌, ℕ, ◌&&◌, not, Bool, true, false, List, length, Option, None, Some, codes, option_map}
 use Rattle.tt.specs.Forest.{Forest}
 use Rattle.tt.specs.Gluing.{after_trees}
 use Rattle.tt.specs.Siblings.{list_of}
@@ -41,8 +41,8 @@ abbrev pub item_unless : (inactive_len : Option ℕ) → Item → Item
 item_unless None it = it
 item_unless (Some len) it = inactive len
 
--- the same, at a position that is not in what an attribute gets
-abbrev pub IsItemAt : Known → (root : List ℕ) → Position → Forest → Item → Type 0
-IsItemAt known root position trees it =
-    (position.is_verbatim ≡ true) × (it ≡ item_at root position trees)
-    ⊎ ((position.is_verbatim ≡ false) × ((len : Option ℕ) × IsInactive known position trees len × (it ≡ item_unless len (item_at root position trees))))
+-- what comes first at a position: conditions count unless the position is in what an attribute gets
+pub data IsItemAt (known : Known) (root : List ℕ) (position : Position) (trees : Forest) (it : Item) : Type 0 where
+  verbatim : position.is_verbatim ≡ true → it ≡ item_at root position trees → IsItemAt known root position trees it
+  unless_inactive : (len : Option ℕ) → position.is_verbatim ≡ false → IsInactive known position trees len
+      → it ≡ item_unless len (item_at root position trees) → IsItemAt known root position trees it

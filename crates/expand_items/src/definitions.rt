@@ -59,7 +59,8 @@ impl<'a> Level<'a> {
             return Ok(());
         }
         let trees = self.rest.remaining().iter();
-        match item_at(alloc, options, self.position, trees, root)? {
+        let first = item_at(alloc, options, self.position, trees, root)?;
+        match first {
             Item::Definition(definition) => {
                 self.passed = definition.len;
                 found.push(Defined {

@@ -5,22 +5,19 @@
 //! beginning say of the braces that follow, which attributes are in force, and how the expansion of a call there is enclosed (`Enclosure`,
 //! by its neighbours: `Front` and `expression`). `item_in` returns what is first there: a definition, a call or something else, with its
 //! number of trees; `item_at` takes the attributes before a call together with the call, and returns as one what is under a condition that
-//! is false. `CfgOptions` has what is known of conditions: `check` says by that whether a predicate is true, false or open, and
-//! `is_open_condition` whether a condition leaves open if what is behind it is there. `parts` splits trees into items or
-//! statements by `reach` of `mbe_grammar`, and `put_under` adds them to a builder with the conditions before each part but the first.
-//! `definitions_in` returns all definitions in items, at all depths. `loosened` goes through a whole expansion and makes each opaque subtree invisible that needs no parentheses, by what is beside it
-//! (`Front`, `fits_before`) or by its form (`Operand`).
+//! is false. `definitions_in` returns all definitions in items, at all depths. `CfgOptions` has what is known of conditions: `check` says by
+//! that whether a predicate is true, false or open, and `is_open_condition` whether a condition leaves open if what is behind it is there.
+//! `parts` splits trees into items or statements by `reach` of `mbe_grammar`, and `put_under` adds them to a builder with the conditions
+//! before each part but the first. `loosened` goes through a whole expansion and makes each opaque subtree invisible that needs no
+//! parentheses, by what is beside it (`Front`, `fits_before`) or by its form (`Operand`).
 //!
 //! The definitions that contracts use are in `specs/` of this crate.
 #![tactic(auto)]
 
 mod attribute;
-<<<<<<< HEAD
-mod definitions;
-=======
 mod cfg;
 mod condition;
->>>>>>> c219d3f7f748deeaad59b86574f8349c23a642f1
+mod definitions;
 mod expression;
 mod front;
 mod head;
@@ -34,12 +31,9 @@ mod predicate;
 mod spread;
 
 pub use attribute::{attributes_len, is_attribute, is_condition, item_at};
-<<<<<<< HEAD
-pub use definitions::{Defined, definitions_in};
-=======
 pub use cfg::{CfgAtom, CfgOptions};
 pub use condition::is_open_condition;
->>>>>>> c219d3f7f748deeaad59b86574f8349c23a642f1
+pub use definitions::{Defined, definitions_in};
 pub use expression::{Enclosure, without_semicolon};
 pub use item::{Call, Definition, Item, MacroPath, definition_in, item_in};
 pub use loosening::loosened;
