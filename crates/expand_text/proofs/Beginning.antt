@@ -1,5 +1,5 @@
 -- How trees expand, by what comes first.
-use Rattle.std.proofs.Common.{◌≡◌, ◌⊎◌, ◌<◌, ◌-◌, ℕ, zero, suc, Bool, true, false, List, Option, None, Some, cond, inl, inr, refl, ap, sym, subst, subst₂, ◌∙◌, arith}
+use Rattle.std.proofs.Common.{◌≡◌, ◌⊎◌, ◌<◌, ◌-◌, ℕ, zero, suc, Bool, true, false, List, Option, None, Some, inl, inr, refl, ap, sym, subst, subst₂, ◌∙◌, arith}
 use Rattle.tt.specs.Forest.{Forest, Root, end, leaf, node}
 use Rattle.tt.specs.Gluing.{after_trees}
 use Rattle.tt.specs.Span.{start_of}
@@ -36,7 +36,7 @@ IsFirstItem config context position (suc plain) trees it = it ≡ other
 pub one_first : (config : Config) (context : Context) (position : Position) (plain : ℕ) (trees : Forest) (a b : Item) → IsFirstItem config context position plain trees a
     → IsFirstItem config context position plain trees b → a ≡ b
 one_first config context position (suc plain) trees a b is was = is ∙ sym was
-one_first config context position zero trees a b = by context.is_over
+one_first config context position zero trees a b is was = by context.is_over is was
   where
     by : (over : Bool) → IsItemUnless over config position trees a → IsItemUnless over config position trees b → a ≡ b
     by true is was = is ∙ sym was
@@ -173,15 +173,15 @@ begins : {config : Config} {in_text : Bool} {limit plain : ℕ} {position : Posi
     → ExpandsTo config in_text limit position plain context trees after outcome
     → IsBegun config in_text limit position context after outcome plain trees
 begins {config = config} (ends {in_text = in_text} {limit = limit} {plain = plain} {position = position} {context = context}) =
-    (other, end_first config context position plain, refl, refl)
+    (other, end_first config context position plain, (refl, refl))
 begins {config = config} (on_leaf {in_text = in_text} {limit = limit} {plain = plain} {position = position} {context = context} {after = after} {it = it} {rest = rest} {others = others} is behind) =
-    (other, plain_first config context position plain (leaf it rest) is, others, behind, refl)
+    (other, plain_first config context position plain (leaf it rest) is, (others, behind, refl))
 begins {config = config} (on_node {in_text = in_text} {limit = limit} {plain = plain} {position = position} {context = context} {inside = inside} {after = after} {delimiter = delimiter} {children = children} {rest = rest} {held = held} {others = others} is within behind) =
-    (other, plain_first config context position plain (node delimiter children rest) is, inside, held, others, within, behind, refl)
+    (other, plain_first config context position plain (node delimiter children rest) is, (inside, held, others, within, behind, refl))
 begins {config = config} (on_definition {in_text = in_text} {limit = limit} {position = position} {context = context} {after = after} {it = it} {trees = trees} {others = others} inside going is read behind) =
-    (defines it, item_first config context position trees (defines it) going is, inside, others, read, behind, refl)
+    (defines it, item_first config context position trees (defines it) going is, (inside, others, read, behind, refl))
 begins {config = config} (on_inactive {in_text = in_text} {limit = limit} {len = len} {position = position} {context = context} {after = after} {trees = trees} {others = others} going is behind) =
-    (inactive len, item_first config context position trees (inactive len) going is, others, behind, refl)
+    (inactive len, item_first config context position trees (inactive len) going is, (others, behind, refl))
 begins {config = config} (on_other_call {in_text = in_text} {limit = limit} {position = position} {context = context} {after = after} {it = it} {trees = trees} {others = others} going is bare none not_into behind) =
     let outcome = stays (front_trees it.len trees) others in
     calls_by config in_text limit position context after outcome it None trees going is none

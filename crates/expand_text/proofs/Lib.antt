@@ -9,9 +9,12 @@ pub mod KeptLimits
 pub mod Leading
 pub mod LinkRows
 pub mod Linking
+pub mod Mentioned
 pub mod NoneLeft
 pub mod Nth
+pub mod OneCapture
 pub mod OneExpansion
+pub mod OneExport
 pub mod OneFault
 pub mod OneKept
 pub mod OneMacro

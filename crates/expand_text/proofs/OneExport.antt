@@ -14,7 +14,7 @@ use Rattle.expand_text.specs.declared.fault.MacroFault.{MacroFault}
 use Rattle.expand_text.specs.declared.fault.MacroFault.TheVariants as wrong
 use Rattle.expand_text.specs.Contexts.{Config, Context, asks_for, new_context}
 use Rattle.expand_text.specs.Exports.{AreExported, AreRead, IsReadIfExported}
-use Rattle.expand_text.specs.Macros.{IsDefined, IsDefinitionFault, IsPastLimit, IsRead, IsReadIf, macro_of, macro_with}
+use Rattle.expand_text.specs.Macros.{IsDefined, IsDefinitionFault, IsPastLimit, IsReadIf, macro_of, macro_with}
 use Rattle.expand_text.specs.Roots.{rooted}
 use Rattle.expand_text.specs.Scopes.{Macro}
 use Rattle.expand_text.proofs.OneMacro.{one_spelled, no_rules_error}

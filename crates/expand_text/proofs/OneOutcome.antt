@@ -63,7 +63,7 @@ module _ (config : Config) (in_text : Bool) (position : Position) (context after
       → IsWrong config in_text limit position context after outcome arms it trees
   wrong_only limit at fault bad free (inl so) = so
   wrong_only zero at fault bad free (inr so) = absurd so
-  wrong_only (suc left) at fault bad free (inr so) = absurd (no_fault arms it so.0 at fault so.3 bad free)
+  wrong_only (suc left) at fault bad free (inr so) = absurd (no_fault arms it so.0 at fault so.6 bad free)
 
   -- If a call is expanded, it has no fault.
   tries_only : (left : ℕ) (tree : Root) → IsExpansion arms 0 0 it.input (expansion.Tree tree) → KeepLimits after.findings

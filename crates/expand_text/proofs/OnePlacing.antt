@@ -1,5 +1,5 @@
 -- An expansion is put into its place in one way.
-use Rattle.std.proofs.Common.{◌≡◌, ℕ, zero, suc, Bool, true, false, List, ◌∷◌, Option, None, Some, option_map, refl, ap, ap₂, sym, subst, ◌∙◌, true≢false}
+use Rattle.std.proofs.Common.{◌≡◌, ℕ, zero, suc, Bool, true, false, List, ◌∷◌, Option, Some, option_map, refl, ap, ap₂, sym, subst, ◌∙◌, true≢false}
 use Rattle.tt.specs.Forest.{Forest}
 use Rattle.tt.specs.Gluing.{after_trees}
 use Rattle.tt.specs.Types.Delimiter.{Delimiter}
@@ -9,10 +9,8 @@ use Rattle.expand_items.specs.declared.position.Siblings.{Siblings}
 use Rattle.expand_items.specs.Attributes.{conditions_of}
 use Rattle.expand_items.specs.Loosening.{loosened, place_of}
 use Rattle.expand_items.specs.Parts.{AreParts, ends, stops, goes_on}
-use Rattle.expand_items.specs.Positions.{is_items}
 use Rattle.expand_items.specs.Spreads.{spread_if, AreUnder}
 use Rattle.expand_text.specs.CallSites.{CallSite, IsShown, PutUnder, PutAs, PutIn}
-use Rattle.mbe_pattern.specs.declared.pattern.GrammarFragment.TheVariants as fragment
 
 -- Trees are split into parts in one way.
 one_split : {its : Siblings} {trees : Forest} {a b : Option (List Part)} → AreParts its trees a → AreParts its trees b → a ≡ b

@@ -5,7 +5,7 @@ use Rattle.std.specs.Prelude.{◌&&◌}
 use Rattle.tt.specs.Forest.{Forest, end, leaf, node}
 use Rattle.tt.specs.Gluing.{after_trees}
 use Rattle.tt.specs.Moves.{after_tree}
-use Rattle.mbe_pattern.specs.Units.{is_at_word, is_at_punct}
+use Rattle.mbe_pattern.specs.Units.{is_at_punct}
 use Rattle.expand_items.specs.Attributes.{item_at, item_behind, begins_attributes, attributes_len, with_attributes}
 use Rattle.expand_items.specs.Cfg.{Known}
 use Rattle.expand_items.specs.Definitions.{Defined, AreDefinitions, IsItemIf, Unless, defined_by}
@@ -37,6 +37,7 @@ lacks_behind word (suc n) (node delimiter children rest) lacks = lacks_behind wo
 -- There is no definition after attributes.
 item_behind_defines : (position : Position) (attributes : ℕ) (trees : Forest) (found : Item) (it : Definition) → item_behind position attributes trees found ≡ defines it → ⊥
 item_behind_defines position attributes trees (defines its) it is = cc is
+item_behind_defines position attributes trees (inactive len) it is = cc is
 item_behind_defines position attributes trees other it is = cc is
 item_behind_defines position attributes trees (calls its) it is = by (is_statement attributes its.delimiter.kind (after_trees its.len trees) position) is
   where
@@ -148,11 +149,14 @@ none_defined known root position passed (leaf it rest) found lacks (first, other
     first_none zero first is = none_by first is
     first_none (suc passed) first is = ap (defined_by position) is
 none_defined known root position passed (node delimiter children rest) found lacks (inside, others, held, behind, same) =
-    same ∙ ap₂ (λ a b. a ++ b) (inside_none passed held) (none_defined known root _ _ rest others lacks.1 behind)
+    same ∙ ap₂ (λ a b. a ++ b) (inside_none passed (none_defined known root (first_in delimiter.kind position) 0 children inside lacks.0) held) (none_defined known root _ _ rest others lacks.1 behind)
   where
-    inside_none : (passed : ℕ) → Unless passed (AreDefinitions known root (first_in delimiter.kind position) 0 children) inside → inside ≡ []
-    inside_none zero are = none_defined known root (first_in delimiter.kind position) 0 children inside lacks.0 are
-    inside_none (suc passed) none = none
+    Are : List Defined → Type 0
+    Are = AreDefinitions known root (first_in delimiter.kind position) 0 children
+
+    inside_none : (passed : ℕ) → (Are inside → inside ≡ []) → Unless passed Are inside → inside ≡ []
+    inside_none zero all are = all are
+    inside_none (suc passed) all none = none
 
 none_exported : (config : Config) (trees : Forest) (macros : List Macro) → Lacks (codes "macro_rules") trees → AreExported config trees macros → macros ≡ []
 none_exported config trees macros lacks (found, after, are, read, same) =

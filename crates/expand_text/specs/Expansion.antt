@@ -28,6 +28,7 @@ use Rattle.expand_items.specs.declared.position.Siblings.TheVariants.{Items}
 use Rattle.syntax_edit.specs.Places.{text_part}
 use Rattle.syntax_edit.specs.Texts.{Replacement, Writing, begun, finished, with_all, IsReplaced, AreReplaced, FitAll}
 use Rattle.expand_text.specs.Reading.{sorts_left}
+use Rattle.expand_text.specs.Scopes.{Macro}
 use Rattle.expand_text.specs.CallSites.{CallSite, PutIn, IsKept}
 use Rattle.expand_text.specs.Walks.{body_of, found_by, site_of}
 use Rattle.syntax_parse.specs.Parsed.{IsParse}

@@ -1,10 +1,12 @@
 -- What the macros of a text are, and what calls of them expand to.
 pub mod CallSites
 pub mod Calling
+pub mod Capturing
 pub mod Contexts
 pub mod Defining
 pub mod Expanding
 pub mod Expansion
+pub mod Exports
 pub mod Findings
 pub mod Lacking
 pub mod LastPlaces

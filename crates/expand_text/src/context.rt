@@ -24,7 +24,7 @@ pub(crate) struct Context {
 impl Context {
     /// Returns the state before the first tree of a crate that exports these macros.
     pub(crate) fn new(alloc: Global, exported: Scope) -> Context
-        ensures { (macros : List Macro) → AreReady macros exported.entry.macros.items → IsContext (new_context macros) result }
+        ensures { (macros : List Macro) → AreReady macros exported.macros.items → IsContext (new_context macros) result }
     {
         Context {
             scope: Scope::new(alloc),

@@ -1,10 +1,10 @@
 //! The macros that a text exports.
 ghost use Rattle.std.specs.List.{list_any};
-ghost use Rattle.std.specs.Prelude.{◌≡◌, List, IfOk, OnOk, bytes_eq};
-ghost use Rattle.tt_tables.specs.Stored.{packed};
+ghost use Rattle.std.specs.Prelude.{◌≡◌, bytes_eq, false, List, IfOk, OnOk};
 ghost use Rattle.expand_items.specs.Definitions.{defined_of};
 ghost use Rattle.expand_text.specs.Contexts.{Learns, config_of};
 ghost use Rattle.expand_text.specs.Exports.{AreExported, IsReadIfExported};
+ghost use Rattle.expand_text.specs.Lacking.{Lacks};
 ghost use Rattle.expand_text.specs.Scopes.{Macro, AreReady};
 
 use crate::config::Config;
@@ -13,7 +13,7 @@ use crate::defining::read_definition;
 use crate::memory::OutOfMemory;
 use crate::scope::Scope;
 use expand_items::{Defined, definitions_in};
-use tt::TopSubtree;
+use tt::{Symbol, TopSubtree};
 
 // Reads a definition if it exports its macro.
 fn read_if_exported(
@@ -29,11 +29,18 @@ fn read_if_exported(
     Ok(())
 }
 
+// Returns whether a symbol of a table has that text.
+fn has_symbol(table: &[Symbol], word: &str) -> bool
+    ensures { result ≡ list_any (λ it. bytes_eq word.now it) table.now }
+{
+    table.iter().any(|it| word == it.as_str())
+}
+
 // Returns whether a tree may have an ident with that text: all its symbols are in one table.
 fn may_have(tree: &TopSubtree, word: &str) -> bool
-    ensures { result ≡ list_any (λ it. bytes_eq word.now it) (packed tree.now).symbols }
+    ensures { result ≡ false → Lacks word.now tree.now.children }
 {
-    tree.symbol_table().iter().any(|it| word == it.as_str())
+    has_symbol(tree.symbol_table(), word)
 }
 
 /// Returns the macros that a text with these trees exports. It reports no finding, because the walk through the text reads each definition

@@ -25,7 +25,7 @@ impl<'a> ExpandOptions<'a> {
     /// The usual options: all macros, with at most 128 nested expansions. `$crate` becomes
     /// `crate`, and calls that are not expanded stay as they are.
     pub fn usual(cfg: &'a CfgOptions) -> ExpandOptions<'a>
-        ensures cfg { result.cfg ≡ cfg }
+        ensures cfg { result.cfg ≡ cfg.entry }
         ensures limit { result.limit ≡ 128 }
         ensures root { result.root.now ≡ codes "crate" }
         ensures everywhere { result.everywhere ≡ false }

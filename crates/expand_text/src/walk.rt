@@ -379,13 +379,9 @@ pub(crate) fn next<'a>(
     }
     let position = walk.level.position;
     let trees = walk.level.rest.remaining().iter();
-    match item_at(
-        config.alloc,
-        config.cfg,
-        position,
-        trees,
-        config.root.as_str(),
-    )? {
+    let root = config.root.as_str();
+    let first = item_at(config.alloc, config.cfg, position, trees, root)?;
+    match first {
         Item::Definition(definition) => next_definition(walk, config, context, &definition),
         Item::Call(call) => next_call(walk, config, context, limit, &call),
         Item::Inactive(len) => Ok(Event::Stays(next_inactive(walk, len))),

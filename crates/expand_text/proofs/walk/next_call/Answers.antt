@@ -1,6 +1,7 @@
 use Rattle.std.proofs.Common.{◌≡◌, ◌<◌, ◌∷◌, ◌∙◌, Bool, List, None, map, reverse, inl, inr, ap, sym, subst, arith}
 use Rattle.std.proofs.lemmas.Bool.{false≢true}
 use Rattle.std.specs.Prelude.{is_some}
+use Rattle.expand_text.specs.declared.walk.Event.TheVariants as event
 use Rattle.expand_text.specs.Calling.{IsCalled, IsFaulty, IsExpanded}
 use Rattle.expand_items.specs.Items.{Call, call_of}
 use Rattle.expand_text.specs.Contexts.{config_of}
@@ -13,18 +14,6 @@ use Rattle.expand_items.proofs.ItemsAt.{calls_at}
 use Rattle.expand_text.proofs.Passing.{next_other, next_faulty, next_expanded, stays_step, invoked_step}
 use Rattle.expand_text.proofs.walk.next_call.Goals as goal
 use Rattle.expand_text.proofs.walk.next_call.Goals.{else-call-gt0-via-then-call-gt0+else-not-is_expanded, else-call-gt0-via-else-call-gt0}
-
-pub returns-in-Tree-clause-next : goal.returns-in-Tree-clause-next
-returns-in-Tree-clause-next c context is there =
-    let config = config_of c.args.config.now in
-    let it : Call = call_of c.args.call.now in
-    let tree = c.in-Tree.tree in
-    let at = c.in-Tree.defined_at in
-    let invocation = c.in_ok-invocation-in-Tree.invocation in
-    let (same, then, called) = c.in_ok-tree.ensures.called context is in
-    let from : IsExpanded config c.args.limit it tree at context same = subst (λ r. IsCalled config c.args.limit it r context same) c.in-Tree.is called in
-    let (others, known, captures) = c.in_ok-find_capture-in-Tree.ensures same then in
-    (others, known, λ in_text. next_expanded config in_text c.args.limit c.args.walk.now context it there invocation c.invoke.new.walk same others tree at from c.in_ok-invocation-in-Tree.ensures captures)
 
 pub returns-in-Faulty-clause-next : goal.returns-in-Faulty-clause-next
 returns-in-Faulty-clause-next c context is there =
@@ -39,7 +28,7 @@ returns-else-config-clause-next c context is there =
     let config = config_of c.args.config.now in
     let it : Call = call_of c.args.call.now in
     let walk = c.args.walk.now in
-    let event = c.stay-else-config.result in
+    let trees = c.stay-else-config.result in
     let new = c.stay-else-config.new.walk in
     let (others, then, called) = c.in_ok-tree.ensures.called context is in
     let (none, same) = subst (λ r. IsCalled config c.args.limit it r context others) c.in-Other.is called in
@@ -49,8 +38,8 @@ returns-else-config-clause-next c context is there =
     ] in (
       others,
       then,
-      λ in_text. subst (IsNext config in_text c.args.limit (levels_of walk) context event (levels_of new)) (sym same)
-          (next_other config in_text c.args.limit walk context it there event new bare none c.if-config.false c.stay-else-config.ensures),
+      λ in_text. subst (IsNext config in_text c.args.limit (levels_of walk) context (event.Stays trees) (levels_of new)) (sym same)
+          (next_other config in_text c.args.limit walk context it there trees new bare none c.if-config.false c.stay-else-config.ensures),
     )
 
 pub returns-in_ok-next_tree-in-Other-clause-limit : goal.returns-in_ok-next_tree-in-Other-clause-limit
@@ -77,10 +66,6 @@ returns-in_ok-next_tree-in-Other-clause-next c context is there =
       after,
       λ in_text. next_by config in_text limit (level ∷ outer) (record level { plain = it.len } ∷ outer) context others (leads in_text) c.in_ok-next_tree-in-Other.field-0 (levels_of c.next_tree-then-config.new.walk) nexts (next in_text),
     )
-
-pub returns-in-Tree-clause-steps : goal.returns-in-Tree-clause-steps
-returns-in-Tree-clause-steps c there =
-    invoked_step (config_of c.args.config.now) c.args.walk.now (call_of c.args.call.now) there c.in-Tree.tree c.in-Tree.defined_at c.in_ok-invocation-in-Tree.invocation c.invoke.new.walk c.in_ok-invocation-in-Tree.ensures
 
 pub returns-in-Faulty-clause-steps : goal.returns-in-Faulty-clause-steps
 returns-in-Faulty-clause-steps c there =
@@ -110,3 +95,19 @@ returns-then-not-is_expanded-clause-next c context is there =
       after,
       λ in_text. next_by config in_text limit (level ∷ outer) (record level { plain = it.attributes } ∷ outer) context context (leads in_text) c.in_ok-next_tree.field-0 (levels_of c.next_tree.new.walk) nexts (next in_text),
     )
+
+pub returns-in_ok-find_capture-in-Tree-clause-next : goal.returns-in_ok-find_capture-in-Tree-clause-next
+returns-in_ok-find_capture-in-Tree-clause-next c context is there =
+    let config = config_of c.args.config.now in
+    let it : Call = call_of c.args.call.now in
+    let tree = c.in-Tree.tree in
+    let at = c.in-Tree.defined_at in
+    let invocation = c.in_ok-invocation-in-Tree.invocation in
+    let (same, then, called) = c.in_ok-tree.ensures.called context is in
+    let from : IsExpanded config c.args.limit it tree at context same = subst (λ r. IsCalled config c.args.limit it r context same) c.in-Tree.is called in
+    let (others, known, captures) = c.in_ok-find_capture-in-Tree.ensures same then in
+    (others, known, λ in_text. next_expanded config in_text c.args.limit c.args.walk.now context it there invocation c.invoke.new.walk same others tree at from c.in_ok-invocation-in-Tree.ensures captures)
+
+pub returns-in_ok-find_capture-in-Tree-clause-steps : goal.returns-in_ok-find_capture-in-Tree-clause-steps
+returns-in_ok-find_capture-in-Tree-clause-steps c there =
+    invoked_step (config_of c.args.config.now) c.args.walk.now (call_of c.args.call.now) there c.in-Tree.tree c.in-Tree.defined_at c.in_ok-invocation-in-Tree.invocation c.invoke.new.walk c.in_ok-invocation-in-Tree.ensures
