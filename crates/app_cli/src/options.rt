@@ -49,7 +49,10 @@ fn wants_name(rt: &HostRuntime, option: &str, value: &str, name: &str) -> Result
 }
 
 // Returns the only name whose macros are expanded, if one is given: a raw name is the same name.
-fn only<'a>(rt: &HostRuntime, matches: &ArgMatches<'a>) -> Result<Option<&'a str>, Failure> {
+fn only<'a>(
+    rt: &HostRuntime,
+    matches: &'a ArgMatches<'_>,
+) -> Result<Option<&'a str>, Failure> {
     let Some(value) = only_of(matches) else {
         return Ok(None);
     };
@@ -62,7 +65,7 @@ impl<'a> Options<'a> {
     /// Returns the options that the arguments give; fails if an option that needs a name has none.
     pub fn of(
         rt: &HostRuntime,
-        matches: &ArgMatches<'a>,
+        matches: &'a ArgMatches<'_>,
         cfg: &'a CfgOptions,
     ) -> Result<Options<'a>, Failure> {
         let root = root_of(matches);
