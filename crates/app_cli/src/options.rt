@@ -49,10 +49,7 @@ fn wants_name(rt: &HostRuntime, option: &str, value: &str, name: &str) -> Result
 }
 
 // Returns the only name whose macros are expanded, if one is given: a raw name is the same name.
-fn only<'a>(
-    rt: &HostRuntime,
-    matches: &'a ArgMatches<'_>,
-) -> Result<Option<&'a str>, Failure> {
+fn only<'a>(rt: &HostRuntime, matches: &'a ArgMatches<'_>) -> Result<Option<&'a str>, Failure> {
     let Some(value) = only_of(matches) else {
         return Ok(None);
     };
