@@ -1,3 +1,5 @@
--- What is left of a walk, and of diagnostics.
+-- What is left of a walk and of the tokens of a text, the line about diagnostics that are not shown, and rows.
+pub mod LimitAhead
 pub mod MoreText
+mod Rows
 pub mod TokensLeft

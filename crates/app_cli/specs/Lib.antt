@@ -1,4 +1,6 @@
--- What the program writes, and its exit status.
+-- What the program reads and writes, and its exit status.
 pub mod Counts
 pub mod Messages
+pub mod RecursionLimit
 pub mod Reports
+pub mod TokenWords

@@ -1,7 +1,16 @@
--- What is left of the text is a text.
+-- Any tokens of the rest complete those of the text.
+use Rattle.std.proofs.Common.{◌≤◌, ◌+◌, length}
 use denote.Shadow.{shadow}
 use denote.Text.{Utf8}
+use Rattle.app_cli.specs.RecursionLimit.{open_in}
+use Rattle.app_cli.proofs.LimitAhead.{IsAhead}
 use Rattle.app_cli.proofs.recursion_limit.recursion_limit.Given as goal
 
-abbrev pub invariant-loop-token : goal.invariant-loop-token
-invariant-loop-token l = (goal.iterator-loop-token).can_next l.token-iterator × (goal.iterator-loop-token).is_finite l.token-iterator × shadow (Utf8 l.rest)
+abbrev pub invariant-loop-rest : goal.invariant-loop-rest
+invariant-loop-rest l = shadow (Utf8 l.rest) × record {
+  few : open_in l.front + length l.rest ≤ length l.fn.text;
+  ahead : IsAhead l.fn.text l.rest l.front;
+}
+
+abbrev pub decreases-loop-rest : goal.decreases-loop-rest
+decreases-loop-rest l = length l.rest
