@@ -117,49 +117,39 @@ fn size_message(alloc: Global, name: &str, fault: TtFault) -> Result<String, All
 pub fn message(alloc: Global, name: &str, fault: MacroFault) -> Result<String, AllocError>
     ensures { IfOk result (λ text. string_bytes text ≡ message name.now fault) }
 {
-    match fault {
-        MacroFault::Definition(error) => definition_message(alloc, name, error),
-        MacroFault::Left => about(alloc, "this call of ", name, " is left as it is"),
-        MacroFault::SeveralDefinitions => about(
-            alloc,
+    let (before, behind) = match fault {
+        MacroFault::Definition(error) => return definition_message(alloc, name, error),
+        MacroFault::Ambiguous(arm) => {
+            return about_rule(alloc, arm, name, " matches this in two ways");
+        }
+        MacroFault::Expansion(error) => {
+            return transcribe_message(alloc, name, error.arm, error.fault);
+        }
+        MacroFault::TooLarge(fault) => return size_message(alloc, name, fault),
+        MacroFault::Left => ("this call of ", " is left as it is"),
+        MacroFault::SeveralDefinitions => (
             "this call of ",
-            name,
             " is left as it is: which of its definitions holds depends on `#[cfg(..)]`",
         ),
-        MacroFault::NotExported => about(
-            alloc,
+        MacroFault::NotExported => (
             "this call of ",
-            name,
             " is left as it is: no macro of this name has `#[macro_export]`",
         ),
-        MacroFault::Captured(_) => about(
-            alloc,
+        MacroFault::Captured(_) => (
             "",
-            name,
             " binds this name too, and the expansion does not keep the two apart",
         ),
-        MacroFault::Conditional => about(
-            alloc,
+        MacroFault::Conditional => (
             "this call of ",
-            name,
             " is left as it is: its attributes cannot apply to its expansion",
         ),
-        MacroFault::NoMatch => about(alloc, "no rule of ", name, " matches this"),
-        MacroFault::Ambiguous(arm) => about_rule(alloc, arm, name, " matches this in two ways"),
-        MacroFault::Expansion(error) => transcribe_message(alloc, name, error.arm, error.fault),
-        MacroFault::TooDeep => about(alloc, "recursion limit reached while expanding ", name, ""),
-        MacroFault::NotWritable => about(
-            alloc,
+        MacroFault::NoMatch => ("no rule of ", " matches this"),
+        MacroFault::TooDeep => ("recursion limit reached while expanding ", ""),
+        MacroFault::NotWritable => (
             "the expansion of ",
-            name,
             " cannot be written: this would read back as something else",
         ),
-        MacroFault::TooLong => about(
-            alloc,
-            "the expansion of ",
-            name,
-            " has 4294967295 bytes or more",
-        ),
-        MacroFault::TooLarge(fault) => size_message(alloc, name, fault),
-    }
+        MacroFault::TooLong => ("the expansion of ", " has 4294967295 bytes or more"),
+    };
+    about(alloc, before, name, behind)
 }
