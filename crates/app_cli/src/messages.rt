@@ -120,6 +120,12 @@ pub fn message(alloc: Global, name: &str, fault: MacroFault) -> Result<String, A
     match fault {
         MacroFault::Definition(error) => definition_message(alloc, name, error),
         MacroFault::Left => about(alloc, "this call of ", name, " is left as it is"),
+        MacroFault::BuiltIn => about(
+            alloc,
+            "this call of ",
+            name,
+            " is left as it is: the compiler expands it itself",
+        ),
         MacroFault::SeveralDefinitions => about(
             alloc,
             "this call of ",
@@ -143,6 +149,12 @@ pub fn message(alloc: Global, name: &str, fault: MacroFault) -> Result<String, A
             "this call of ",
             name,
             " is left as it is: its attributes cannot apply to its expansion",
+        ),
+        MacroFault::Statements => about(
+            alloc,
+            "the expansion of ",
+            name,
+            " is statements, but an expression is wanted here",
         ),
         MacroFault::NoMatch => about(alloc, "no rule of ", name, " matches this"),
         MacroFault::Ambiguous(arm) => about_rule(alloc, arm, name, " matches this in two ways"),
