@@ -190,6 +190,26 @@ class Maker:
             self.lines.append(f"{self.chance.choice((name, forward))}! {{ {number} {function} {piece} }}")
             self.values.append(f"{function}()")
 
+    def passed_statements(self, calls):
+        """A function with statements that are calls that variables took."""
+        step, each, function = self.name("step"), self.name("each"), self.name("f")
+        self.lines.append(f"macro_rules! {step} {{ ($x:ident $value:literal) => {{ let y = $value; $x = ($x {self.operator()} y) % 1000; }} }}")
+        first, last = self.chance.choice((("$($e;)*", ""), ("$(let z = 3; $e; $e;)*", ""), ("if true { $($e;)* }", "")))
+        self.lines.append(f"macro_rules! {each} {{ ($($e:expr),*) => {{ {first} {last} }}; }}")
+        steps = ", ".join(f"{step}!(x {self.number()})" for _ in range(self.chance.randint(1, 3)))
+        call = self.chance.choice((f"{each}! {{ {steps} }}", f"{each}!({steps});"))
+        self.lines.append(f"fn {function}() -> i64 {{ let mut x = 1i64; {call} x + {self.operand(calls)} }}")
+        self.values.append(f"{function}()")
+
+    def generics(self):
+        """Items whose headers have braces in angle brackets, and calls in the braces behind them."""
+        value, has, it = self.name("value"), self.name("Has").title(), self.name("It").title()
+        self.lines.append(f"macro_rules! {value} {{ ($name:ident $value:literal) => {{ const $name: i64 = $value; }} }}")
+        self.lines.append(f"struct {it}; trait {has}<const A: usize, const B: usize> {{ const V: i64; }}")
+        given = self.chance.choice(("{ 1 + 1 }, 3", "1, { 2 }", "{ 1 }, { 2 }", "{ 1 << 2 }, { 4 >> 1 }"))
+        self.lines.append(f"impl {has}<{given}> for {it} {{ {self.chance.choice((f'{value}!(V {self.number()});', f'{value}! {{ V {self.number()} }}'))} }}")
+        self.values.append(f"<{it} as {has}<{given}>>::V")
+
     def constants(self, calls):
         """Items that a macro writes, in braces or with a `;` behind the call."""
         name = self.name("constants")
@@ -271,7 +291,9 @@ def made(seed):
     maker = Maker(seed)
     calls = [make() for make in maker.chance.sample((maker.folding, maker.counting, maker.choosing), maker.chance.randint(1, 3))]
     for _ in range(maker.chance.randint(2, 6)):
-        what = maker.chance.choice(("statements", "blocks", "pieces", "constants", "conditions", "exports", "defining", "modules"))
-        getattr(maker, what)(*([calls] if what not in ("defining", "modules") else []))
+        what = maker.chance.choice((
+            "statements", "passed_statements", "blocks", "pieces", "constants", "conditions", "exports", "defining", "modules", "generics",
+        ))
+        getattr(maker, what)(*([calls] if what not in ("defining", "modules", "generics") else []))
     printed = "".join(f'    println!("{{}}", {it});\n' for it in maker.values)
     return HEAD + "\n".join(maker.lines) + f"\n\nfn main() {{\n{printed}}}\n"

@@ -32,7 +32,7 @@ uint32_t tt_bytes_to_text(const uint8_t *bytes, size_t bytes_len, uint8_t *out, 
  * 512 KiB of stack were enough when measured, and $crate becomes crate. A call under #[cfg(..)] stays only if the condition cannot apply
  * to each part of its expansion. A call of a macro whose last definition is under #[cfg(..)] stays if another definition of the name is in
  * scope.
- * Faults: 1 to 44; 81 to 92 but for 84, of definitions; 100 to 106, of calls; and 5 to 9 of either. *at is a byte of the text; 0 for faults
+ * Faults: 1 to 44; 81 to 92 but for 84, of definitions; 100 to 107, of calls; and 5 to 9 of either. *at is a byte of the text; 0 for faults
  * 1, 2 and 4, and for 5 to 9 if the text itself exceeds the limit. */
 uint32_t tt_expand_text(const uint8_t *text, size_t text_len, uint8_t *out, size_t out_len, size_t *written, size_t *at);
 
@@ -180,6 +180,8 @@ enum cuvolemin_answer {
     CUVOLEMIN_NOT_WRITABLE = 105,
     /* The text would have 4,294,967,295 bytes or more. */
     CUVOLEMIN_MADE_TOO_LONG = 106,
+    /* The expansion of a call that is no statement is statements. */
+    CUVOLEMIN_STATEMENTS = 107,
 };
 
 #ifdef __cplusplus

@@ -75,6 +75,7 @@ FAULTS = {
     104: ('TooDeep', 'Too many expansions are nested.'),
     105: ('NotWritable', 'A leaf of the tree cannot be written as a text that reads back.'),
     106: ('MadeTooLong', 'The text would have 4,294,967,295 bytes or more.'),
+    107: ('Statements', 'The expansion of a call that is no statement is statements.'),
 }
 
 NO_ROOM = 2

@@ -160,6 +160,7 @@ expand_failure error = at_place (transcribe_fault error.fault) error.arm
 abbrev pub macro_fault : MacroFault → Fault
 macro_fault (found.Definition error) = arm_fault error.fault
 macro_fault found.Left = answer.Left
+macro_fault found.BuiltIn = answer.Left
 macro_fault found.SeveralDefinitions = answer.Left
 macro_fault found.NotExported = answer.Left
 macro_fault (found.Captured binding) = answer.Left
@@ -170,6 +171,7 @@ macro_fault (found.Expansion error) = transcribe_fault error.fault
 macro_fault found.TooDeep = answer.TooDeep
 macro_fault found.NotWritable = answer.NotWritable
 macro_fault found.TooLong = answer.MadeTooLong
+macro_fault found.Statements = answer.Statements
 macro_fault (found.TooLarge fault) = limit_fault fault
 
 -- a text that cannot be expanded

@@ -71,3 +71,4 @@ number_of fault.NoRound = 103
 number_of fault.TooDeep = 104
 number_of fault.NotWritable = 105
 number_of fault.MadeTooLong = 106
+number_of fault.Statements = 107

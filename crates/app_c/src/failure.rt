@@ -228,6 +228,7 @@ fn macro_fault(fault: MacroFault) -> Fault
     match fault {
         MacroFault::Definition(error) => arm_fault(error.fault),
         MacroFault::Left
+        | MacroFault::BuiltIn
         | MacroFault::SeveralDefinitions
         | MacroFault::NotExported
         | MacroFault::Captured(_)
@@ -238,6 +239,7 @@ fn macro_fault(fault: MacroFault) -> Fault
         MacroFault::TooDeep => Fault::TooDeep,
         MacroFault::NotWritable => Fault::NotWritable,
         MacroFault::TooLong => Fault::MadeTooLong,
+        MacroFault::Statements => Fault::Statements,
         MacroFault::TooLarge(fault) => limit_fault(fault),
     }
 }

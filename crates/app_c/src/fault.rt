@@ -136,6 +136,8 @@ pub enum Fault {
     NotWritable = 105,
     /// The text would have 4,294,967,295 bytes or more.
     MadeTooLong = 106,
+    /// The expansion of a call that is no statement is statements.
+    Statements = 107,
 }
 
 impl Fault {

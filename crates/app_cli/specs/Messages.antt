@@ -69,12 +69,14 @@ size_message name fault = about [] name (codes " is too large: " ++ fault_text f
 abbrev pub message : (name : List ℕ) → MacroFault → List ℕ
 message name (wrong.Definition error) = definition_message name error
 message name wrong.Left = about (codes "this call of ") name (codes " is left as it is")
+message name wrong.BuiltIn = about (codes "this call of ") name (codes " is left as it is: the compiler expands it itself")
 message name wrong.SeveralDefinitions =
     about (codes "this call of ") name (codes " is left as it is: which of its definitions holds depends on `#[cfg(..)]`")
 message name wrong.NotExported = about (codes "this call of ") name (codes " is left as it is: no macro of this name has `#[macro_export]`")
 message name (wrong.Captured binding) = about [] name (codes " binds this name too, and the expansion does not keep the two apart")
 message name wrong.Conditional =
     about (codes "this call of ") name (codes " is left as it is: its attributes cannot apply to its expansion")
+message name wrong.Statements = about (codes "the expansion of ") name (codes " is statements, but an expression is wanted here")
 message name wrong.NoMatch = about (codes "no rule of ") name (codes " matches this")
 message name (wrong.Ambiguous arm) = about_rule arm name (codes " matches this in two ways")
 message name (wrong.Expansion error) = transcribe_message name error.arm error.fault

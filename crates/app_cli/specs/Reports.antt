@@ -27,10 +27,12 @@ level_of_fault fault = if is_warning fault then Warning else Error
 abbrev pub notes_on : (limit : ℕ) → MacroFault → List (List ℕ)
 notes_on limit (wrong.Definition why) = []
 notes_on limit wrong.Left = []
+notes_on limit wrong.BuiltIn = []
 notes_on limit wrong.SeveralDefinitions = []
 notes_on limit wrong.NotExported = []
 notes_on limit (wrong.Captured binding) = []
 notes_on limit wrong.Conditional = []
+notes_on limit wrong.Statements = []
 notes_on limit wrong.NoMatch = []
 notes_on limit (wrong.Ambiguous arm) = []
 notes_on limit (wrong.Expansion why) = []

@@ -127,6 +127,10 @@ pub fn message(alloc: Global, name: &str, fault: MacroFault) -> Result<String, A
         }
         MacroFault::TooLarge(fault) => return size_message(alloc, name, fault),
         MacroFault::Left => ("this call of ", " is left as it is"),
+        MacroFault::BuiltIn => (
+            "this call of ",
+            " is left as it is: the compiler expands it itself",
+        ),
         MacroFault::SeveralDefinitions => (
             "this call of ",
             " is left as it is: which of its definitions holds depends on `#[cfg(..)]`",
@@ -142,6 +146,10 @@ pub fn message(alloc: Global, name: &str, fault: MacroFault) -> Result<String, A
         MacroFault::Conditional => (
             "this call of ",
             " is left as it is: its attributes cannot apply to its expansion",
+        ),
+        MacroFault::Statements => (
+            "the expansion of ",
+            " is statements, but an expression is wanted here",
         ),
         MacroFault::NoMatch => ("no rule of ", " matches this"),
         MacroFault::TooDeep => ("recursion limit reached while expanding ", ""),

@@ -11,9 +11,9 @@ use Rattle.tt.specs.Types.DelimiterKind.{DelimiterKind}
 use Rattle.tt.specs.Types.DelimiterKind.TheVariants as delimited
 use Rattle.tt_base.proofs.Joins.{join-assoc}
 use Rattle.expand_items.proofs.ManyTrees.{after_more}
-use Rattle.expand_items.specs.Expressions.{begins_block, block_goes_on, has_no_block, is_at_block, is_at_braces, is_invisible, is_last_semicolon, without_semicolon}
+use Rattle.expand_items.specs.Expressions.{begins_block, block_goes_on, has_no_block, has_semicolon, is_at_block, is_at_braces, is_invisible, is_last_semicolon, without_semicolon}
 use Rattle.mbe_pattern.proofs.Passing.{front_is}
-use Rattle.mbe_pattern.specs.Units.{front_trees, is_at_word, is_brace}
+use Rattle.mbe_pattern.specs.Units.{front_trees, is_at_punct, is_at_word, is_brace}
 
 -- the first tree is braces that end a block
 abbrev pub ends_block : Forest → Bool
@@ -55,6 +55,22 @@ pub none_found : (trees : Forest) → is_end trees ≡ true → has_no_block tre
 none_found end e = refl
 none_found (leaf it rest) e = absurd (false≢true e)
 none_found (node delimiter children rest) e = absurd (false≢true e)
+
+-- A `;` ends the search for one; another tree goes on with it.
+pub semicolon_found : (trees : Forest) → is_at_punct (codes ";") trees ≡ true → has_semicolon trees ≡ true
+semicolon_found end e = absurd (false≢true e)
+semicolon_found (leaf it rest) e = ap (λ b. b || has_semicolon rest) e
+semicolon_found (node delimiter children rest) e = absurd (false≢true e)
+
+pub no_semicolon_yet : (trees : Forest) → is_at_punct (codes ";") trees ≡ false → has_semicolon trees ≡ has_semicolon (after_tree trees)
+no_semicolon_yet end e = refl
+no_semicolon_yet (leaf it rest) e = ap (λ b. b || has_semicolon rest) e
+no_semicolon_yet (node delimiter children rest) e = refl
+
+pub no_semicolon : (trees : Forest) → is_end trees ≡ true → has_semicolon trees ≡ false
+no_semicolon end e = refl
+no_semicolon (leaf it rest) e = absurd (false≢true e)
+no_semicolon (node delimiter children rest) e = absurd (false≢true e)
 
 -- What follows other trees decides.
 pub passed_on : (trees : Forest) → ends_block trees ≡ false → block_goes_on trees ≡ block_goes_on (after_tree trees)

@@ -11,14 +11,14 @@ use Rattle.expand_items.proofs.Rows.{bang, brackets, m_call}
 use Rattle.expand_items.specs.declared.item.MacroPath.TheVariants as way
 use Rattle.expand_items.specs.Attributes.{item_at}
 use Rattle.expand_items.specs.Items.{other}
-use Rattle.expand_items.specs.declared.expression.Enclosure.TheVariants.{Bare, Opaque, Parentheses}
+use Rattle.expand_items.specs.declared.expression.Enclosure.TheVariants.{Bare, Opaque, Parentheses, Refused}
 use Rattle.expand_items.specs.declared.front.Front.TheVariants as front
 use Rattle.expand_items.specs.declared.position.Position.{Position}
 use Rattle.expand_items.specs.declared.position.Siblings.TheVariants.{Items, Statements}
 use Rattle.expand_items.specs.Expressions.{begins_block, block_goes_on, is_split, without_semicolon}
 use Rattle.expand_items.specs.Fronts.{front_behind_kind}
 use Rattle.expand_items.specs.Loosening.{front_behind_leaf}
-use Rattle.expand_items.specs.Positions.{begun, behind_leaf, enclosure, first_in, first_of_call, is_statement}
+use Rattle.expand_items.specs.Positions.{begun, behind_leaf, enclosure, first_in, first_inside, first_of_call, is_statement}
 use Rattle.mbe_pattern.proofs.Rows.{word, raw_word, alone, joint}
 
 -- in the braces of a function, and after a word, a punct and a joint punct
@@ -258,3 +258,41 @@ semicolon_dropped = refl
 
 semicolon_kept : without_semicolon (alone 59 (word (codes "a") end)) ≡ alone 59 (word (codes "a") end)
 semicolon_kept = refl
+
+-- `a ; b` and `let a` are no expression: refused in `= m!();` and at the end of a block, and no piece of an operand either; a statement may
+-- be both, and so may a call that is all of an opaque subtree before a `;` at the beginning of a statement.
+abbrev statements : Forest
+statements = word (codes "a") (alone 59 (word (codes "b") end))
+
+abbrev binding : Forest
+binding = word (codes "let") (word (codes "a") end)
+
+assigned_statements : enclosure 0 Parenthesis (alone 59 end) statements (behind_sign 61 body) ≡ Refused
+assigned_statements = refl
+
+tail_statements : enclosure 0 Parenthesis end statements body ≡ Refused
+tail_statements = refl
+
+tail_binding : enclosure 0 Parenthesis end binding body ≡ Refused
+tail_binding = refl
+
+raw_binding : enclosure 0 Parenthesis end (raw_word (codes "let") (word (codes "a") end)) body ≡ Bare
+raw_binding = refl
+
+operand_statements : enclosure 0 Parenthesis end statements (behind_sign 42 argument) ≡ Refused
+operand_statements = refl
+
+statements_in_place : enclosure 0 Parenthesis (alone 59 end) statements body ≡ Bare
+statements_in_place = refl
+
+statements_in_piece : enclosure 0 Parenthesis end statements (first_inside InvisibleOpaque (alone 59 end) body) ≡ Bare
+statements_in_piece = refl
+
+statements_in_tail : enclosure 0 Parenthesis end statements (first_inside InvisibleOpaque end body) ≡ Refused
+statements_in_tail = refl
+
+statements_in_operand : enclosure 0 Parenthesis end statements (first_inside InvisibleOpaque (alone 59 end) (behind_sign 42 body)) ≡ Refused
+statements_in_operand = refl
+
+statements_in_parentheses : enclosure 0 Parenthesis end statements (first_inside Parenthesis (alone 59 end) body) ≡ Refused
+statements_in_parentheses = refl

@@ -249,3 +249,10 @@ inner_operand = refl
 
 inner_kept : loosened free (a (alone 42 (opaque (opaque a_plus_b end) end))) ≡ a (alone 42 (opaque (loose a_plus_b end) end))
 inner_kept = refl
+
+-- Statements have no parentheses: `⟨{} + b; a⟩;` and `* ⟨let a⟩ * c`.
+statements : loosened start (opaque (join block_plus_b (alone 59 (a end))) (alone 59 end)) ≡ loose (join block_plus_b (alone 59 (a end))) (alone 59 end)
+statements = refl
+
+binding : loosened between (alone 42 (opaque (word (codes "let") (a end)) (alone 42 (a end)))) ≡ alone 42 (loose (word (codes "let") (a end)) (alone 42 (a end)))
+binding = refl

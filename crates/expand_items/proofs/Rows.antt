@@ -8,7 +8,7 @@ use Rattle.tt.specs.Types.Ident.{Ident}
 use Rattle.tt.specs.Types.IdentIsRaw.TheVariants.{No, Yes}
 use Rattle.tt.specs.Types.Leaf.{Leaf}
 use Rattle.tt.specs.Types.Leaf.TheVariants as leaf_of
-use Rattle.tt.specs.Types.Spacing.TheVariants.{Alone}
+use Rattle.tt.specs.Types.Spacing.TheVariants.{Alone, Joint}
 use Rattle.tt_base.proofs.Samples.{span, punct, ident, subtree}
 use Rattle.expand_items.specs.Attributes.{attributes_len, conditions_of, item_at}
 use Rattle.expand_items.specs.Cfg.{unknown}
@@ -168,6 +168,32 @@ raw_statements = refl
 
 ended_statements : held_behind (behind_leaf false (punct 59 Alone) end (behind_word (codes "m") (behind_word (codes "mod") (begun Items)))) ≡ Statements
 ended_statements = refl
+
+-- Braces in the angle brackets of a header end nothing: `impl A<{}>`, `impl A<{}, {}>`, `fn f<F: A -> {}>`; behind `<>`, in an expression, or
+-- behind `;` they end what has begun.
+behind_sign : (char : ℕ) → Position → Position
+behind_sign char it = behind_leaf false (punct char Alone) end it
+
+in_angles : List ℕ → Siblings → Position
+in_angles text its = behind_sign 60 (behind_word (codes "A") (behind_word text (begun its)))
+
+generic_braces : held_behind (behind_sign 62 (behind_subtree Brace (in_angles (codes "impl") Items))) ≡ Items
+generic_braces = refl
+
+second_braces : held_behind (behind_sign 62 (behind_subtree Brace (behind_sign 44 (behind_subtree Brace (in_angles (codes "impl") Items))))) ≡ Items
+second_braces = refl
+
+behind_arrow : (behind_subtree Brace (behind_sign 62 (behind_leaf false (punct 45 Joint) end (in_angles (codes "fn") Items)))).is_start ≡ false
+behind_arrow = refl
+
+behind_angles : (behind_subtree Brace (behind_sign 62 (in_angles (codes "impl") Items))).is_start ≡ true
+behind_angles = refl
+
+less_than : (behind_subtree Brace (in_angles (codes "if") Statements)).is_start ≡ true
+less_than = refl
+
+behind_item : (behind_subtree Brace (behind_sign 59 (in_angles (codes "fn") Items))).is_start ≡ true
+behind_item = refl
 
 -- and parentheses contain neither.
 in_parentheses : (first_in Parenthesis (behind_word (codes "mod") (begun Items))).siblings ≡ Others

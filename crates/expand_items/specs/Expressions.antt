@@ -134,3 +134,13 @@ abbrev pub without_semicolon : Forest → Forest
 without_semicolon end = end
 without_semicolon (leaf it rest) = if is_last_semicolon (leaf it rest) then end else leaf it (without_semicolon rest)
 without_semicolon (node delimiter children rest) = node delimiter children (without_semicolon rest)
+
+-- one of the trees is a `;`
+abbrev pub has_semicolon : Forest → Bool
+has_semicolon end = false
+has_semicolon (leaf it rest) = is_at_punct (codes ";") (leaf it rest) || has_semicolon rest
+has_semicolon (node delimiter children rest) = has_semicolon rest
+
+-- the trees are statements and no expression: they begin with `let`, or one of them is a `;`
+abbrev pub are_statements : Forest → Bool
+are_statements trees = is_at_word (codes "let") trees || has_semicolon trees

@@ -12,7 +12,7 @@ use Rattle.expand_items.specs.declared.front.Front.{Front}
 use Rattle.expand_items.specs.declared.front.Front.TheVariants as front
 use Rattle.expand_items.specs.declared.loosening.Place.{Place}
 use Rattle.expand_items.specs.declared.position.Position.{Position}
-use Rattle.expand_items.specs.Expressions.{fits_before, is_at_assignment, is_split}
+use Rattle.expand_items.specs.Expressions.{are_statements, fits_before, is_at_assignment, is_split}
 use Rattle.expand_items.specs.Fronts.{front_behind, front_behind_ident, front_behind_kind, is_begun, is_colon, is_free}
 use Rattle.expand_items.specs.Operands.{belong_together}
 use Rattle.mbe_pattern.specs.Units.{is_brace}
@@ -22,6 +22,7 @@ abbrev pub place_of : Enclosure → Position → Place
 place_of enclosed.Bare position = record { front = position.front; ends = true }
 place_of enclosed.Opaque position = record { front = front.Bound; ends = false }
 place_of enclosed.Parentheses position = record { front = front.Bound; ends = false }
+place_of enclosed.Refused position = record { front = front.Bound; ends = false }
 
 -- what precedes the tree after a leaf
 abbrev pub front_behind_leaf : Leaf → Front → Front
@@ -49,9 +50,9 @@ abbrev pub is_apart : (trees behind : Forest) → Place → Bool
 is_apart trees behind place =
     is_known place behind && (ends_before trees behind place && (is_free place.front || (is_begun place.front && not (is_split trees))))
 
--- these trees mean the same in that place with or without parentheses
+-- these trees mean the same in that place with or without parentheses, or are statements, which have none
 abbrev pub is_loose : (trees behind : Forest) → Place → Bool
-is_loose trees behind place = is_apart trees behind place || (is_known place behind && belong_together trees behind)
+is_loose trees behind place = is_apart trees behind place || (are_statements trees || (is_known place behind && belong_together trees behind))
 
 -- an opaque subtree of such trees is an invisible one
 abbrev pub loosened_kind : (is_loose : Bool) → DelimiterKind → DelimiterKind

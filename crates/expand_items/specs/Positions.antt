@@ -1,5 +1,5 @@
 -- The position of a tree among its siblings, as far as it matters to the tree.
-use Rattle.std.specs.Prelude.{ℕ, ◌==◌, ◌&&◌, ◌||◌, not, nat_lt, Bool, true, false, List, codes, bytes_eq, if◌then◌else◌}
+use Rattle.std.specs.Prelude.{ℕ, ◌+◌, ◌-◌, ◌^◌, ◌==◌, ◌&&◌, ◌||◌, min, not, nat_lt, Bool, true, false, List, codes, bytes_eq, if◌then◌else◌}
 use Rattle.tt.specs.Forest.{Forest, end, leaf, node}
 use Rattle.tt.specs.Gluing.{after_trees}
 use Rattle.tt.specs.Moves.{after_tree}
@@ -19,8 +19,8 @@ use Rattle.expand_items.specs.declared.head.Head.TheVariants as head
 use Rattle.expand_items.specs.declared.position.Position.{Position}
 use Rattle.expand_items.specs.declared.position.Siblings.{Siblings}
 use Rattle.expand_items.specs.declared.position.Siblings.TheVariants as siblings
-use Rattle.expand_items.specs.Expressions.{enclosure_at_start, fits_before, goes_on}
-use Rattle.expand_items.specs.Fronts.{front_behind, front_behind_ident, front_of_expansion, is_at_start, is_free}
+use Rattle.expand_items.specs.Expressions.{are_statements, enclosure_at_start, fits_before, goes_on, is_invisible}
+use Rattle.expand_items.specs.Fronts.{front_behind, front_behind_ident, front_of_expansion, is_arrow, is_at_start, is_free}
 use Rattle.mbe_pattern.specs.Units.{is_at_word, is_brace, is_at_punct}
 use Rattle.mbe_pattern.specs.Spelling.{is_parenthesis}
 
@@ -48,6 +48,13 @@ head_behind word head.Unknown = head_of_word word head.Unknown
 head_behind word head.Foreign = head_of_word word head.Foreign
 head_behind word head.Items = head.Items
 head_behind word head.Function = head.Function
+
+-- a `<` after it opens generic parameters or arguments
+abbrev pub is_header : Head → Bool
+is_header head.Unknown = false
+is_header head.Foreign = false
+is_header head.Items = true
+is_header head.Function = true
 
 -- what the braces after it contain
 abbrev pub held_by : Head → Siblings
@@ -87,6 +94,7 @@ begun its =
       siblings = its;
       is_start = is_block its;
       head = head.Unknown;
+      angles = 0;
       is_used = false;
       is_attributed = false;
       is_exported = false;
@@ -114,6 +122,12 @@ first_in kind it =
       is_verbatim = it.is_verbatim || it.is_in_attribute;
     }
 
+-- the same, with these trees behind them: what an invisible subtree contains is a statement if the subtree and a `;` are
+abbrev pub first_inside : DelimiterKind → (behind : Forest) → Position → Position
+first_inside kind behind it =
+    if it.is_start && (is_invisible kind && is_at_punct (codes ";") behind)
+    then record (first_in kind it) { siblings = it.siblings; is_start = true; is_top = true } else first_in kind it
+
 -- the position after trees that end a statement or an item if `ends`
 abbrev pub behind : (ends : Bool) → Position → Position
 behind ends it =
@@ -121,6 +135,7 @@ behind ends it =
       siblings = it.siblings;
       is_start = is_block it.siblings && ends;
       head = if ends then head.Unknown else it.head;
+      angles = if ends then 0 else it.angles;
       is_used = false;
       is_attributed = false;
       is_exported = false;
@@ -146,10 +161,18 @@ behind_attribute_sign is_open trees it =
       is_open = it.is_open || is_open;
     }
 
+-- how many `<` of a header are open after a punct: `;` ends the header, and `->` closes none
+abbrev pub angles_behind : (char : ℕ) → Position → ℕ
+angles_behind char it =
+    if char == 59 then 0
+    else (if char == 60 && is_header it.head then min (it.angles + 1) (2 ^ 64 - 1)
+    else (if char == 62 && not (is_arrow it.front) then it.angles - 1 else it.angles))
+
 -- after a punct, before these trees: `!` after `#` is part of an attribute, and `;` ends a statement or an item
 abbrev pub behind_punct : (is_open : Bool) → (char : ℕ) → Forest → Position → Position
 behind_punct is_open char trees it =
-    if char == 35 then behind_attribute_sign is_open trees it else (if char == 33 && it.is_attribute then it else behind (char == 59) it)
+    if char == 35 then behind_attribute_sign is_open trees it
+    else (if char == 33 && it.is_attribute then it else record (behind (char == 59) it) { angles = angles_behind char it })
 
 -- what the words say after an ident, which is a word if it is not raw
 abbrev pub head_behind_ident : IdentIsRaw → (word : List ℕ) → Head → Head
@@ -176,10 +199,11 @@ behind_leaf is_open (leaf_of.Punct punct) trees it = record (behind_punct is_ope
 behind_leaf is_open (leaf_of.Ident ident) trees it = behind_ident ident it
 
 -- after a subtree of a kind: an attribute changes nothing, parentheses leave
--- `#[macro_use]` in force, and braces end a statement or an item
+-- `#[macro_use]` in force, and braces end a statement or an item, unless a `<` of its header is open
 abbrev pub behind_subtree : DelimiterKind → Position → Position
 behind_subtree kind it =
-    if it.is_attribute then record it { is_attribute = false } else record (behind (is_brace kind) it) { is_used = it.is_used && is_parenthesis kind }
+    if it.is_attribute then record it { is_attribute = false }
+    else record (behind (is_brace kind && (it.angles == 0)) it) { is_used = it.is_used && is_parenthesis kind }
 
 -- an inner attribute comes first: `#`, `!` and brackets
 abbrev pub is_at_inner : Forest → Bool
@@ -226,9 +250,11 @@ abbrev pub first_of_call : (attributes : ℕ) → DelimiterKind → (behind : Fo
 first_of_call attributes kind behind it =
     record (begun (siblings_of_call attributes kind behind it)) { front = front_of_expansion it.is_start it.front }
 
--- how the expansion of a call is enclosed: a statement or an item is bare, and so is an expression that is whole between its neighbours
+-- how the expansion of a call is enclosed: a statement or an item is bare, and so is an expression that is whole between its neighbours;
+-- statements are refused if an expression is wanted
 abbrev pub enclosure : (attributes : ℕ) → DelimiterKind → (behind expansion : Forest) → Position → Enclosure
 enclosure attributes kind behind expansion it =
     if is_statement attributes kind behind it then enclosed.Bare
+    else (if are_statements expansion then enclosed.Refused
     else (if is_at_start it.is_start it.front then enclosure_at_start behind expansion
-    else (if fits_before expansion behind && is_free it.front then enclosed.Bare else enclosed.Opaque))
+    else (if fits_before expansion behind && is_free it.front then enclosed.Bare else enclosed.Opaque)))

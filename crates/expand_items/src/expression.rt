@@ -6,7 +6,7 @@ ghost use Rattle.tt.specs.Moves.{after_tree};
 ghost use Rattle.tt.specs.Siblings.{is_end};
 ghost use Rattle.tt.specs.Views.{trees_of};
 ghost use Rattle.mbe_pattern.specs.Units.{is_brace};
-ghost use Rattle.expand_items.specs.Expressions.{begins_block, begins_with_block, block_goes_on, enclosure_at_start, fits_before, goes_on, has_no_block, is_at_arrow, is_at_assignment, is_at_block, is_at_braces, is_at_call, is_at_invisible, is_at_subtree, is_invisible, is_last_semicolon, is_split, may_end, takes_block, without_semicolon};
+ghost use Rattle.expand_items.specs.Expressions.{are_statements, begins_block, begins_with_block, block_goes_on, enclosure_at_start, fits_before, goes_on, has_no_block, has_semicolon, is_at_arrow, is_at_assignment, is_at_block, is_at_braces, is_at_call, is_at_invisible, is_at_subtree, is_invisible, is_last_semicolon, is_split, may_end, takes_block, without_semicolon};
 
 use mbe_pattern::{is_at_punct, is_at_word, take, unit_size};
 use tt::{DelimiterKind, IdentIsRaw, Leaf, TokenTreesView, TtElement, TtIter};
@@ -20,6 +20,8 @@ pub enum Enclosure {
     Opaque,
     /// In parentheses.
     Parentheses,
+    /// It is refused: it is statements, and one expression is wanted there.
+    Refused,
 }
 
 // Returns whether a subtree of a kind has braces.
@@ -253,6 +255,26 @@ fn is_last_semicolon(mut trees: TtIter<'_>) -> bool
     ensures { result ≡ is_last_semicolon (rest_of trees.entry) }
 {
     trees.expect_char(';').is_ok() && trees.is_empty()
+}
+
+// Returns whether one of these trees is a `;`.
+fn has_semicolon(mut trees: TtIter<'_>) -> bool
+    ensures { result ≡ has_semicolon (rest_of trees.entry) }
+{
+    while !trees.is_empty() {
+        if is_at_punct(trees.remaining().iter(), ';') {
+            return true;
+        }
+        trees.next();
+    }
+    false
+}
+
+/// Returns whether these trees are statements and no expression: they begin with `let`, or one of them is a `;`.
+pub(crate) fn are_statements(trees: TtIter<'_>) -> bool
+    ensures { result ≡ are_statements (rest_of trees.entry) }
+{
+    is_at_word(trees.remaining().iter(), "let") || has_semicolon(trees)
 }
 
 /// Returns the trees without a `;` at their end: the compiler drops it from an expansion that is an expression.

@@ -1,6 +1,6 @@
 //! What the words of an item say of the braces after them.
 ghost use Rattle.std.specs.Prelude.{◌≡◌};
-ghost use Rattle.expand_items.specs.Positions.{head_behind, held_by};
+ghost use Rattle.expand_items.specs.Positions.{head_behind, held_by, is_header};
 
 use crate::position::Siblings;
 
@@ -30,6 +30,16 @@ impl Head {
                 "extern" => Head::Foreign,
                 _ => self,
             },
+        }
+    }
+
+    /// Returns whether a `<` after it opens generic parameters or arguments.
+    pub(crate) fn is_header(self) -> bool
+        ensures { result ≡ is_header self }
+    {
+        match self {
+            Head::Items | Head::Function => true,
+            Head::Unknown | Head::Foreign => false,
         }
     }
 

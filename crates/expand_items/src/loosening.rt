@@ -7,7 +7,7 @@ ghost use Rattle.tt.specs.TreeFault.{under, IsTreeFault};
 ghost use Rattle.tt.specs.Views.{trees_of};
 ghost use Rattle.expand_items.specs.Loosening.{ends_before, first_place, first_place_in, first_place_within, front_behind_leaf, is_apart, is_known, is_loose, loosened, loosened_kind, place_behind, place_behind_leaf, place_of};
 
-use crate::expression::{Enclosure, fits_before, is_at_assignment, is_split};
+use crate::expression::{Enclosure, are_statements, fits_before, is_at_assignment, is_split};
 use crate::front::Front;
 use crate::operand::belong_together;
 use crate::position::Position;
@@ -145,6 +145,7 @@ impl Place {
                     behind.remaining().iter(),
                 );
                 let is_loose = is_apart
+                    || are_statements(children.remaining().iter())
                     || self.is_known(&behind) && belong_together(children, behind);
                 let kind = loosened_kind(is_loose, kind);
                 Entry {
@@ -175,7 +176,7 @@ fn place_of(enclosure: Enclosure, position: Position) -> Place
             front: position.front(),
             ends: true,
         },
-        Enclosure::Opaque | Enclosure::Parentheses => Place {
+        Enclosure::Opaque | Enclosure::Parentheses | Enclosure::Refused => Place {
             front: Front::Bound,
             ends: false,
         },

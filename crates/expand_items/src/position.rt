@@ -1,12 +1,14 @@
 //! The position of a tree among its siblings, as far as it matters to the tree.
 ghost use Rattle.std.specs.Prelude.{◌≡◌, true};
 ghost use Rattle.tt.specs.Iters.{rest_of};
-ghost use Rattle.expand_items.specs.Positions.{is_block, begun, siblings_in, first_in, behind, behind_attribute_sign, behind_punct, behind_ident, behind_leaf, behind_subtree, keeps_macros, ends_statement, is_statement, takes_semicolon, siblings_of_call, first_of_call, enclosure};
+ghost use Rattle.expand_items.specs.Positions.{angles_behind, is_block, begun, siblings_in, first_in, first_inside, behind, behind_attribute_sign, behind_punct, behind_ident, behind_leaf, behind_subtree, keeps_macros, ends_statement, is_statement, takes_semicolon, siblings_of_call, first_of_call, enclosure};
 ghost use Rattle.expand_items.specs.Attributes.{begins_attributes};
 ghost use Rattle.expand_items.specs.Inactive.{begins_sign};
 
 use crate::attribute::{begins_with_attribute, is_at_attribute_of, is_at_brackets, is_attribute};
-use crate::expression::{Enclosure, enclosure_at_start, fits_before, goes_on};
+use crate::expression::{
+    Enclosure, are_statements, enclosure_at_start, fits_before, goes_on, is_invisible,
+};
 use crate::front::Front;
 use crate::head::Head;
 use mbe_pattern::is_at_punct;
@@ -31,6 +33,8 @@ pub struct Position {
     is_start: bool,
     /// What the words since the beginning of the item say.
     head: Head,
+    /// The number of `<` of the item's header that are open here: braces in them are generic arguments.
+    angles: usize,
     /// Whether `#[macro_use]` precedes, with nothing but attributes, idents and parentheses between.
     is_used: bool,
     /// Whether an attribute precedes, with nothing but attributes between.
@@ -77,6 +81,7 @@ impl Position {
             siblings,
             is_start: siblings.is_block(),
             head: Head::Unknown,
+            angles: 0,
             is_used: false,
             is_attributed: false,
             is_exported: false,
@@ -116,6 +121,23 @@ impl Position {
         }
     }
 
+    /// Returns the position before the first of the trees in brackets of a kind that come here, with these trees behind them. What an
+    /// invisible subtree contains is a statement if the subtree and a `;` are.
+    pub fn first_inside(self, kind: DelimiterKind, behind: TtIter<'_>) -> Position
+        ensures { result ≡ first_inside kind (rest_of behind.entry) self }
+    {
+        if self.is_start && is_invisible(kind) && is_at_punct(behind, ';') {
+            Position {
+                siblings: self.siblings,
+                is_start: true,
+                is_top: true,
+                ..self.first_in(kind)
+            }
+        } else {
+            self.first_in(kind)
+        }
+    }
+
     /// Returns the position after trees that end a statement or an item if `ends`.
     pub fn behind(self, ends: bool) -> Position
         ensures { result ≡ behind ends self }
@@ -124,6 +146,7 @@ impl Position {
             siblings: self.siblings,
             is_start: self.siblings.is_block() && ends,
             head: if ends { Head::Unknown } else { self.head },
+            angles: if ends { 0 } else { self.angles },
             is_used: false,
             is_attributed: false,
             is_exported: false,
@@ -165,7 +188,22 @@ impl Position {
         } else if char == '!' && self.is_attribute {
             self
         } else {
-            self.behind(char == ';')
+            Position {
+                angles: self.angles_behind(char),
+                ..self.behind(char == ';')
+            }
+        }
+    }
+
+    // Returns the number of `<` of the item's header that are open after a punct: `->` closes none.
+    fn angles_behind(self, char: char) -> usize
+        ensures { result ≡ angles_behind char self }
+    {
+        match char {
+            ';' => 0,
+            '<' if self.head.is_header() => self.angles.saturating_add(1),
+            '>' if self.front != Front::Arrow => self.angles.saturating_sub(1),
+            _ => self.angles,
         }
     }
 
@@ -216,7 +254,7 @@ impl Position {
         }
         Position {
             is_used: self.is_used && kind == DelimiterKind::Parenthesis,
-            ..self.behind(kind == DelimiterKind::Brace)
+            ..self.behind(kind == DelimiterKind::Brace && self.angles == 0)
         }
     }
 
@@ -346,6 +384,8 @@ impl Position {
     {
         if self.is_statement(attributes, kind, behind.remaining().iter()) {
             Enclosure::Bare
+        } else if are_statements(expansion.remaining().iter()) {
+            Enclosure::Refused
         } else if self.front.is_at_start(self.is_start) {
             enclosure_at_start(behind, expansion)
         } else if fits_before(expansion, behind) && self.front.is_free() {

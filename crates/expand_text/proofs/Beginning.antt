@@ -7,7 +7,7 @@ use Rattle.expand_items.specs.declared.position.Position.{Position}
 use Rattle.expand_items.specs.Conditions.{behind_leaf_under}
 use Rattle.expand_items.specs.Inactive.{IsItemAt}
 use Rattle.expand_items.specs.Items.{Item, Definition, Call, defines, calls, inactive, other}
-use Rattle.expand_items.specs.Positions.{first_in, behind, behind_subtree, keeps_macros}
+use Rattle.expand_items.specs.Positions.{first_inside, behind, behind_subtree, keeps_macros}
 use Rattle.expand_items.proofs.ItemsAt.{end_other, one_item}
 use Rattle.expand_text.specs.Capturing.{IsCaptureFound}
 use Rattle.expand_text.specs.declared.fault.MacroFault.{MacroFault}
@@ -72,14 +72,14 @@ module _ (config : Config) (in_text : Bool) (limit : ℕ) (position : Position) 
       (others : Outcome) × ExpandsTo config in_text limit (behind_leaf_under config.known it rest position) (plain_behind it rest plain) context rest after others × (outcome ≡ passes it others)
   GoesPlain plain (node delimiter children rest) =
       (inside : Context) × (held : Outcome) × (others : Outcome)
-      × ExpandsTo config in_text limit (first_in delimiter.kind position) 0 context children inside held
+      × ExpandsTo config in_text limit (first_inside delimiter.kind rest position) 0 context children inside held
       × ExpandsTo config in_text limit (behind_subtree delimiter.kind position) (plain - 1) (context_after (keeps_macros delimiter.kind children position) context inside) rest after others
       × (outcome ≡ enters delimiter held others)
 
   -- a definition is read
   abbrev pub GoesPast : Definition → Forest → Type 0
   GoesPast it trees =
-      (inside : Context) × (others : Outcome) × IsRead config position.is_open it context inside
+      (inside : Context) × (others : Outcome) × IsRead config position it context inside
       × ExpandsTo config in_text limit (behind true position) 0 inside (after_trees it.len trees) after others
       × (outcome ≡ stays (front_trees it.len trees) others)
 

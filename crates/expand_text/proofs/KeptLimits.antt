@@ -11,7 +11,7 @@ use Rattle.expand_text.specs.Meaning.{ExpandsTo, ends, on_leaf, on_node, on_defi
 use Rattle.expand_text.specs.Contexts.{Config, Context, asks_for}
 use Rattle.expand_text.specs.Limits.{names_limit, KeepLimits}
 use Rattle.expand_text.specs.Capturing.{IsCaptureFound, capture_found}
-use Rattle.expand_text.specs.Macros.{IsReadIf, IsRead, called_by, context_behind, found_in, found_of, left_behind, left_by, unexported_by}
+use Rattle.expand_text.specs.Macros.{IsDefinedAt, IsReadIf, IsRead, called_by, context_behind, found_in, found_of, left_behind, unexported_by}
 use Rattle.expand_text.specs.Outcomes.{Outcome}
 use Rattle.expand_text.specs.Scopes.{Macro}
 
@@ -28,17 +28,21 @@ keep_inside true before inside keep = keep
 keep_inside false before inside keep = keep
 
 -- Before a definition.
-pub keep_read : (config : Config) (is_open : Bool) (it : Definition) (before inside : Context) → IsRead config is_open it before inside → KeepLimits inside.findings → KeepLimits before.findings
-keep_read config is_open it before inside = by (asks_for config.only it.name.sym)
+pub keep_read : (config : Config) (position : Position) (it : Definition) (before inside : Context) → IsRead config position it before inside → KeepLimits inside.findings → KeepLimits before.findings
+keep_read config position it before inside = by (asks_for config.only it.name.sym)
   where
-    by : (asked : Bool) → IsReadIf asked config.root is_open it before inside → KeepLimits inside.findings → KeepLimits before.findings
+    defined : (is_built_in : Bool) → IsDefinedAt is_built_in config.root position.is_open it before inside → KeepLimits inside.findings → KeepLimits before.findings
+    defined true is keep = subst (λ context. KeepLimits context.findings) is keep
+    defined false (inl (arms, within, spells, is)) keep = subst (λ context. KeepLimits context.findings) is keep
+    defined false (inr (at, fault, bad, is)) keep = (keep_first before.findings (found_in it at fault) (subst (λ context. KeepLimits context.findings) is keep)).0
+
+    by : (asked : Bool) → IsReadIf asked config.root position it before inside → KeepLimits inside.findings → KeepLimits before.findings
     by false is keep = subst (λ context. KeepLimits context.findings) is keep
-    by true (inl (arms, within, spells, is)) keep = subst (λ context. KeepLimits context.findings) is keep
-    by true (inr (at, fault, bad, is)) keep = (keep_first before.findings (found_in it at fault) (subst (λ context. KeepLimits context.findings) is keep)).0
+    by true is keep = defined position.is_built_in is keep
 
 -- Before a call that no macro expands.
 keep_left : (it : Call) (macro unexported : Option Macro) (context : Context) → KeepLimits (left_behind it macro unexported context).findings → KeepLimits context.findings
-keep_left it (Some macro) unexported context keep = (keep_first context.findings (found_of it macro (start_of it.name.span.range) (left_by macro.is_several)) keep).0
+keep_left it (Some macro) unexported context keep = (keep_first context.findings (found_of it macro (start_of it.name.span.range) macro.left) keep).0
 keep_left it None (Some macro) context keep = (keep_first context.findings (found_of it macro (start_of it.name.span.range) wrong.NotExported) keep).0
 keep_left it None None context keep = keep
 
@@ -59,7 +63,7 @@ keep_before ends keep = keep
 keep_before (on_leaf plain others) keep = keep_before others keep
 keep_before (on_node {position = position} {context = context} {inside = inside} {delimiter = delimiter} {children = children} plain held others) keep =
     keep_before held (keep_inside (keeps_macros delimiter.kind children position) context inside (keep_before others keep))
-keep_before {config = config} (on_definition {position = position} {context = context} {it = it} inside going is read others) keep = keep_read config position.is_open it context inside read (keep_before others keep)
+keep_before {config = config} (on_definition {position = position} {context = context} {it = it} inside going is read others) keep = keep_read config position it context inside read (keep_before others keep)
 keep_before {config = config} (on_other_call {context = context} {it = it} going is bare unexpanded not_into others) keep =
     keep_behind config it context (keep_before others keep)
 keep_before {config = config} (into_other_call {context = context} {it = it} going is bare unexpanded into others) keep =

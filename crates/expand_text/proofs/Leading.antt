@@ -42,7 +42,7 @@ module _ (config : Config) (in_text : Bool) (limit : ℕ) (level : Level) (outer
   -- Enters a subtree.
   pub leads_subtree : (delimiter : Delimiter) (children : Forest) → level.rest ≡ node delimiter children (after_tree level.rest) → IsPlain config context level.position level.plain level.rest
       → Leads config in_text limit (level ∷ outer) context (first_subtree delimiter)
-      (inside delimiter children level.position (kept_behind (keeps_macros delimiter.kind children level.position) (length context.macros)) ∷ past_subtree delimiter.kind level ∷ outer) context
+      (inside delimiter children (after_tree level.rest) level.position (kept_behind (keeps_macros delimiter.kind children level.position) (length context.macros)) ∷ past_subtree delimiter.kind level ∷ outer) context
   leads_subtree delimiter children begins plain after [] e = absurd e
   leads_subtree delimiter children begins plain after (held ∷ []) (within, expands_to, e) = absurd e
   leads_subtree delimiter children begins plain after (held ∷ others ∷ more) (within, expands_to, (behind, then, rest)) = (
@@ -67,7 +67,7 @@ module _ (config : Config) (in_text : Bool) (limit : ℕ) (level : Level) (outer
 
   module _ (first : level.plain ≡ 0) (goes_on : context.is_over ≡ false) where
     -- Passes a definition.
-    pub leads_definition : (it : Definition) (others : Context) → IsItemAt config.known config.root level.position level.rest (defines it) → IsRead config level.position.is_open it context others
+    pub leads_definition : (it : Definition) (others : Context) → IsItemAt config.known config.root level.position level.rest (defines it) → IsRead config level.position it context others
         → Leads config in_text limit (level ∷ outer) context (first_stay (front_trees it.len level.rest)) (past it.len true level ∷ outer) others
     leads_definition it others there is after [] e = absurd e
     leads_definition it others there is after (left ∷ more) (within, expands_to, behind) = (

@@ -10,7 +10,7 @@ use Rattle.expand_text.specs.declared.fault.MacroFault.TheVariants as wrong
 use Rattle.expand_text.specs.Contexts.{Config, Context, asks_for}
 use Rattle.expand_text.specs.Left.{NoneIsLeft}
 use Rattle.expand_text.specs.Capturing.{IsCaptureFound, capture_found}
-use Rattle.expand_text.specs.Macros.{IsReadIf, IsRead, called_by, context_behind, found_in, found_of, left_behind, left_by, unexported_by}
+use Rattle.expand_text.specs.Macros.{IsDefinedAt, IsReadIf, IsRead, called_by, context_behind, found_in, found_of, left_behind, unexported_by}
 use Rattle.expand_text.specs.Meaning.{ExpandsTo, ends, on_leaf, on_node, on_definition, on_inactive, on_other_call, into_other_call, into_attributes, on_faulty_call, on_call, on_kept_call, begun_by, body_in, context_after}
 use Rattle.expand_text.specs.Outcomes.{Outcome}
 use Rattle.expand_text.specs.Scopes.{Macro}
@@ -30,18 +30,24 @@ inside_goes true before inside goes = goes
 inside_goes false before inside goes = goes
 
 -- A definition in which nothing is found.
-read_none : (config : Config) (is_open : Bool) (it : Definition) (before inside : Context) → IsRead config is_open it before inside → inside.findings ≡ [] → (before.findings ≡ []) × (before.is_over ≡ false → inside.is_over ≡ false)
-read_none config is_open it before inside = by (asks_for config.only it.name.sym)
+read_none : (config : Config) (position : Position) (it : Definition) (before inside : Context) → IsRead config position it before inside → inside.findings ≡ []
+    → (before.findings ≡ []) × (before.is_over ≡ false → inside.is_over ≡ false)
+read_none config position it before inside = by (asks_for config.only it.name.sym)
   where
-    by : (asked : Bool) → IsReadIf asked config.root is_open it before inside → inside.findings ≡ [] → (before.findings ≡ []) × (before.is_over ≡ false → inside.is_over ≡ false)
+    defined : (is_built_in : Bool) → IsDefinedAt is_built_in config.root position.is_open it before inside → inside.findings ≡ []
+        → (before.findings ≡ []) × (before.is_over ≡ false → inside.is_over ≡ false)
+    defined true is none = (sym (ap (λ context. context.findings) is) ∙ none, λ goes. ap (λ context. context.is_over) is ∙ goes)
+    defined false (inl (arms, within, spells, is)) none = (sym (ap (λ context. context.findings) is) ∙ none, λ goes. ap (λ context. context.is_over) is ∙ goes)
+    defined false (inr (at, fault, bad, is)) none = absurd (one_found before.findings (found_in it at fault) (sym (ap (λ context. context.findings) is) ∙ none))
+
+    by : (asked : Bool) → IsReadIf asked config.root position it before inside → inside.findings ≡ [] → (before.findings ≡ []) × (before.is_over ≡ false → inside.is_over ≡ false)
     by false is none = (sym (ap (λ context. context.findings) is) ∙ none, λ goes. ap (λ context. context.is_over) is ∙ goes)
-    by true (inl (arms, within, spells, is)) none = (sym (ap (λ context. context.findings) is) ∙ none, λ goes. ap (λ context. context.is_over) is ∙ goes)
-    by true (inr (at, fault, bad, is)) none = absurd (one_found before.findings (found_in it at fault) (sym (ap (λ context. context.findings) is) ∙ none))
+    by true is none = defined position.is_built_in is none
 
 -- A call that stays names no macro in scope, and none that is not exported.
 left_none : (it : Call) (macro unexported : Option Macro) (context : Context) → (left_behind it macro unexported context).findings ≡ []
     → (macro ≡ None) × (context.findings ≡ []) × (context.is_over ≡ false → (left_behind it macro unexported context).is_over ≡ false)
-left_none it (Some macro) unexported context none = absurd (one_found context.findings (found_of it macro (start_of it.name.span.range) (left_by macro.is_several)) none)
+left_none it (Some macro) unexported context none = absurd (one_found context.findings (found_of it macro (start_of it.name.span.range) macro.left) none)
 left_none it None (Some macro) context none = absurd (one_found context.findings (found_of it macro (start_of it.name.span.range) wrong.NotExported) none)
 left_none it None None context none = (refl, none, λ goes. goes)
 
@@ -64,7 +70,7 @@ none_before ends none = none
 none_before (on_leaf plain others) none = none_before others none
 none_before (on_node {position = position} {context = context} {inside = inside} {delimiter = delimiter} {children = children} plain held others) none =
     none_before held (inside_none (keeps_macros delimiter.kind children position) context inside (none_before others none))
-none_before {config = config} (on_definition {position = position} {context = context} {it = it} inside going is read others) none = (read_none config position.is_open it context inside read (none_before others none)).0
+none_before {config = config} (on_definition {position = position} {context = context} {it = it} inside going is read others) none = (read_none config position it context inside read (none_before others none)).0
 none_before {config = config} (on_other_call {context = context} {it = it} going is bare unexpanded not_into others) none =
     (behind_none config it context (none_before others none)).1
 none_before {config = config} (into_other_call {context = context} {it = it} going is bare unexpanded into others) none =
@@ -89,7 +95,7 @@ none_left (on_node {position = position} {context = context} {inside = inside} {
     let it = none_left others (inside_goes are_kept context inside within.1) none in
     ((goes, within.0, it.0), it.1)
 none_left {config = config} (on_definition {position = position} {context = context} {it = definition} inside going is read others) goes none =
-    none_left others ((read_none config position.is_open definition context inside read (none_before others none)).1 goes) none
+    none_left others ((read_none config position definition context inside read (none_before others none)).1 goes) none
 none_left {config = config} (on_other_call {context = context} {it = call} going is bare unexpanded not_into others) goes none =
     let quiet = behind_none config call context (none_before others none) in
     let it = none_left others (quiet.2 goes) none in

@@ -14,7 +14,7 @@ use Rattle.expand_text.specs.declared.fault.MacroFault.{MacroFault}
 use Rattle.expand_text.specs.declared.fault.MacroFault.TheVariants as wrong
 use Rattle.expand_text.specs.Contexts.{Config, Context, asks_for, new_context}
 use Rattle.expand_text.specs.Exports.{AreExported, AreRead, IsReadIfExported}
-use Rattle.expand_text.specs.Macros.{IsDefined, IsDefinitionFault, IsPastLimit, IsReadIf, macro_of, macro_with}
+use Rattle.expand_text.specs.Macros.{IsDefined, IsDefinedAt, IsDefinitionFault, IsPastLimit, IsReadIf, macro_of, macro_with}
 use Rattle.expand_text.specs.Roots.{rooted}
 use Rattle.expand_text.specs.Scopes.{Macro}
 use Rattle.expand_text.proofs.OneMacro.{one_spelled, no_rules_error}
@@ -46,7 +46,7 @@ module _ (is_open : Bool) (it : Definition) (trees : Forest) (before other : Con
   one_defined a b (inl (arms, within, spells, is)) (inr (at, fault, bad, was)) = absurd (never_wrong it trees arms at fault within spells bad)
   one_defined a b (inr (at, fault, bad, is)) (inl (arms, within, spells, was)) = absurd (never_wrong it trees arms at fault within spells bad)
   one_defined a b (inr (at, fault, bad, is)) (inr (place, worse, still, was)) =
-      ap (λ c. c.macros) is ∙ ap (λ ms. ms ++ macro_of it false None ∷ []) same ∙ sym (ap (λ c. c.macros) was)
+      ap (λ c. c.macros) is ∙ ap (λ ms. ms ++ macro_of it wrong.Left None ∷ []) same ∙ sym (ap (λ c. c.macros) was)
 
 module _ (config : Config) where
   one_read : (it : Defined) (before other a b : Context) → before.macros ≡ other.macros → (is_exported : Bool) → IsReadIfExported is_exported config it before a
@@ -54,10 +54,14 @@ module _ (config : Config) where
   one_read it before other a b same false is was = ap (λ c. c.macros) is ∙ same ∙ sym (ap (λ c. c.macros) was)
   one_read it before other a b same true is was = by (asks_for config.only it.definition.name.sym) is was
     where
-      by : (asked : Bool) → IsReadIf asked config.root it.position.is_open it.definition before a → IsReadIf asked config.root it.position.is_open it.definition other b
-          → a.macros ≡ b.macros
+      defined : (is_built_in : Bool) → IsDefinedAt is_built_in config.root it.position.is_open it.definition before a
+          → IsDefinedAt is_built_in config.root it.position.is_open it.definition other b → a.macros ≡ b.macros
+      defined true is was = ap (λ c. c.macros) is ∙ ap (λ ms. ms ++ macro_of it.definition wrong.BuiltIn None ∷ []) same ∙ sym (ap (λ c. c.macros) was)
+      defined false is was = one_defined it.position.is_open it.definition (rooted config.root it.definition.arms) before other same a b is was
+
+      by : (asked : Bool) → IsReadIf asked config.root it.position it.definition before a → IsReadIf asked config.root it.position it.definition other b → a.macros ≡ b.macros
       by false is was = ap (λ c. c.macros) is ∙ same ∙ sym (ap (λ c. c.macros) was)
-      by true is was = one_defined it.position.is_open it.definition (rooted config.root it.definition.arms) before other same a b is was
+      by true is was = defined it.position.is_built_in is was
 
   all_read : (its : List Defined) (before other a b : Context) → before.macros ≡ other.macros → AreRead config its before a → AreRead config its other b → a.macros ≡ b.macros
   all_read [] before other a b same is was = ap (λ c. c.macros) is ∙ same ∙ sym (ap (λ c. c.macros) was)

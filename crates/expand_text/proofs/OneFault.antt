@@ -2,12 +2,13 @@
 use Rattle.std.proofs.Common.{◌≡◌, ◌≢◌, ℕ, zero, suc, Bool, true, false, List, None, inl, inr, refl, ap, ap₂, sym, subst, ◌∙◌, true≢false}
 use Rattle.tt.specs.Forest.{Forest, Root}
 use Rattle.tt.specs.Span.{start_of}
+use Rattle.expand_items.specs.declared.position.Position.{Position}
 use Rattle.expand_items.specs.Items.{Definition, Call}
 use Rattle.expand_text.specs.declared.fault.MacroFault.{MacroFault}
 use Rattle.expand_text.specs.declared.fault.MacroFault.TheVariants as wrong
 use Rattle.expand_text.specs.Contexts.{Config, Context, asks_for, with_macro, with_finding}
 use Rattle.expand_text.specs.Limits.{names_limit, KeepLimits}
-use Rattle.expand_text.specs.Macros.{macro_of, macro_with, IsDefinitionFault, found_in, IsDefined, IsReadIf, IsRead, IsInputFault, IsCallFault}
+use Rattle.expand_text.specs.Macros.{macro_of, macro_with, IsDefinitionFault, found_in, IsDefined, IsDefinedAt, IsReadIf, IsRead, IsInputFault, IsCallFault}
 use Rattle.expand_text.specs.Places.{byte_at, definition_byte}
 use Rattle.expand_text.specs.Roots.{rooted}
 use Rattle.expand_text.proofs.KeptLimits.{keep_first}
@@ -29,7 +30,7 @@ arms_wrong it trees at found h free = absurd h
 
 module _ (is_open : Bool) (it : Definition) (trees : Forest) (before : Context) where
   -- The finding of a definition names no limit.
-  limit_kept : (at : ℕ) (fault : MacroFault) (after : Context) → after ≡ with_macro (macro_of it false None) (with_finding (found_in it at fault) before) → KeepLimits after.findings
+  limit_kept : (at : ℕ) (fault : MacroFault) (after : Context) → after ≡ with_macro (macro_of it wrong.Left None) (with_finding (found_in it at fault) before) → KeepLimits after.findings
       → names_limit fault ≡ false
   limit_kept at fault after is keep = (keep_first before.findings (found_in it at fault) (subst (λ context. KeepLimits context.findings) is keep)).1
 
@@ -48,18 +49,23 @@ module _ (is_open : Bool) (it : Definition) (trees : Forest) (before : Context) 
       let that = arms_wrong it trees place other worse (limit_kept place other b was y) in
       let same = one_rules_error trees why.0 that.0 why.1 that.1 why.2 that.2 in
       is
-      ∙ ap₂ (λ n found. with_macro (macro_of it false None) (with_finding (found_in it n found) before))
+      ∙ ap₂ (λ n found. with_macro (macro_of it wrong.Left None) (with_finding (found_in it n found) before))
       (why.3 ∙ ap (λ w. definition_byte trees w (start_of it.delimiter.close.range)) same ∙ sym that.3)
       (why.4 ∙ ap wrong.Definition same ∙ sym that.4)
       ∙ sym was
 
 -- A definition is read in one way.
-pub one_read : (config : Config) (is_open : Bool) (it : Definition) (before a b : Context) → IsRead config is_open it before a → IsRead config is_open it before b → KeepLimits a.findings → KeepLimits b.findings → a ≡ b
-one_read config is_open it before a b = by (asks_for config.only it.name.sym)
+pub one_read : (config : Config) (position : Position) (it : Definition) (before a b : Context) → IsRead config position it before a → IsRead config position it before b → KeepLimits a.findings → KeepLimits b.findings → a ≡ b
+one_read config position it before a b = by (asks_for config.only it.name.sym)
   where
-    by : (asked : Bool) → IsReadIf asked config.root is_open it before a → IsReadIf asked config.root is_open it before b → KeepLimits a.findings → KeepLimits b.findings → a ≡ b
+    defined : (is_built_in : Bool) → IsDefinedAt is_built_in config.root position.is_open it before a → IsDefinedAt is_built_in config.root position.is_open it before b
+        → KeepLimits a.findings → KeepLimits b.findings → a ≡ b
+    defined true is was x y = is ∙ sym was
+    defined false is was x y = one_defined position.is_open it (rooted config.root it.arms) before a b is was x y
+
+    by : (asked : Bool) → IsReadIf asked config.root position it before a → IsReadIf asked config.root position it before b → KeepLimits a.findings → KeepLimits b.findings → a ≡ b
     by false is was x y = is ∙ sym was
-    by true is was x y = one_defined is_open it (rooted config.root it.arms) before a b is was x y
+    by true is was x y = defined position.is_built_in is was x y
 
 module _ (arms : List Arm) (it : Call) where
   -- Arms make one tree of a call.

@@ -4,7 +4,7 @@ use Rattle.tt.specs.Forest.{Forest}
 use Rattle.tt.specs.Types.Delimiter.{Delimiter}
 use Rattle.expand_text.specs.declared.fault.MacroFault.{MacroFault}
 use Rattle.expand_text.specs.declared.fault.MacroFault.TheVariants as wrong
-use Rattle.expand_text.specs.CallSites.{CallSite, PutAs, PutIn, IsTooLarge, IsMisplaced, IsUnshown, IsKept}
+use Rattle.expand_text.specs.CallSites.{CallSite, PutAs, PutIn, IsTooLarge, IsMisplaced, IsUnshown, IsKept, misfit}
 use Rattle.expand_text.specs.Limits.{names_limit}
 use Rattle.expand_text.specs.Macros.{IsTooLargeTree, MayBePut, IsUnwritten}
 use Rattle.expand_text.specs.Places.{byte_at}
@@ -44,10 +44,10 @@ names_too_large call trees (wrong.TooLarge why) h free = true≢false free
 names_too_large call trees found h free = h
 
 module _ (it : CallSite) (trees : Forest) where
-  -- What does not fit its place, and not for a limit, is under conditions.
-  conditional : (found : MacroFault) → IsMisplaced it trees found → names_limit found ≡ false → (found ≡ wrong.Conditional) × PutAs it trees None
-  conditional found (inl h) free = h
-  conditional found (inr h) free = absurd (by it.len h)
+  -- What does not fit its place, and not for a limit, is statements or under conditions.
+  misplaced : (found : MacroFault) → IsMisplaced it trees found → names_limit found ≡ false → (found ≡ misfit it.len) × PutAs it trees None
+  misplaced found (inl h) free = h
+  misplaced found (inr h) free = absurd (by it.len h)
     where
       by : (len : ℕ) → IsTooLarge len it trees found → ⊥
       by zero h = h
@@ -62,13 +62,13 @@ module _ (it : CallSite) (trees : Forest) where
   -- A call stays for one reason.
   pub one_kept : (in_text : Bool) (begin at place : ℕ) (found other : MacroFault) → IsKept in_text it trees begin at found → IsKept in_text it trees begin place other
       → names_limit found ≡ false → names_limit other ≡ false → (at ≡ place) × (found ≡ other)
-  one_kept in_text begin at place found other (inl (x, is)) (inl (y, was)) free none = (is ∙ sym was, (conditional found x free).0 ∙ sym (conditional other y none).0)
+  one_kept in_text begin at place found other (inl (x, is)) (inl (y, was)) free none = (is ∙ sym was, (misplaced found x free).0 ∙ sym (misplaced other y none).0)
   one_kept in_text begin at place found other (inl (x, is)) (inr (text, y)) free none =
       let (shown, (put, so, is_shown), why) = unwritten_there begin place other y none in
-      absurd (cc (one_put it trees None (Some put) (conditional found x free).1 so))
+      absurd (cc (one_put it trees None (Some put) (misplaced found x free).1 so))
   one_kept in_text begin at place found other (inr (text, x)) (inl (y, was)) free none =
       let (shown, (put, so, is_shown), why) = unwritten_there begin at found x free in
-      absurd (cc (one_put it trees None (Some put) (conditional other y none).1 so))
+      absurd (cc (one_put it trees None (Some put) (misplaced other y none).1 so))
   one_kept in_text begin at place found other (inr (text, x)) (inr (again, y)) free none =
       let (shown, so, why) = unwritten_there begin at found x free in
       let (that, thus, because) = unwritten_there begin place other y none in
@@ -78,7 +78,7 @@ module _ (it : CallSite) (trees : Forest) where
   -- A call that may be replaced does not stay.
   pub never_kept : (in_text : Bool) (shown : Forest) (begin at : ℕ) (found : MacroFault) → IsKept in_text it trees begin at found → PutIn in_text it trees shown
       → MayBePut in_text it.delimiter shown → names_limit found ≡ false → ⊥
-  never_kept in_text shown begin at found (inl (x, is)) (put, so, is_shown) may free = cc (one_put it trees None (Some put) (conditional found x free).1 so)
+  never_kept in_text shown begin at found (inl (x, is)) (put, so, is_shown) may free = cc (one_put it trees None (Some put) (misplaced found x free).1 so)
   never_kept in_text shown begin at found (inr (text, x)) so may free =
       let (that, thus, why) = unwritten_there begin at found x free in
       let same : that ≡ shown = one_shown true it trees that shown thus (subst (λ b. PutIn b it trees shown) text so) in

@@ -116,7 +116,7 @@ one_outcome {config = config} (on_node {plain = plain} {position = position} {co
     (same.0, ap₂ (enters delimiter) one.1 same.1 ∙ sym go.5)
 one_outcome {config = config} (on_definition {position = position} {context = context} {it = it} {trees = trees} inside going is read behind) second x y =
     let go = begins_by second (defines it) (item_first config context position trees (defines it) going is) in
-    let known = one_read config position.is_open it context inside go.0 read go.2 (keep_before behind x) (keep_before go.3 y) in
+    let known = one_read config position it context inside go.0 read go.2 (keep_before behind x) (keep_before go.3 y) in
     let same = one_outcome behind (moved known go.3) x y in
     (same.0, ap (stays (front_trees it.len trees)) same.1 ∙ sym go.4)
 one_outcome {config = config} (on_inactive {len = len} {position = position} {context = context} {trees = trees} going is behind) second x y =

@@ -1,7 +1,7 @@
 -- Trees in the place of a call.
 use Rattle.std.proofs.Common.{◌≡◌, ◌<◌, ℕ, zero, suc, Bool, true, false, Some, None, Option, inl, inr, refl, ap, ap₂, sym, subst, ◌∙◌, arith}
 use Rattle.std.proofs.lemmas.Bool.{false≢true}
-use Rattle.std.specs.Prelude.{is_some}
+use Rattle.std.specs.Prelude.{is_some, option_map}
 use Rattle.tt.specs.Building.{BuilderState, Stack, append, bottom, built, empty_builder}
 use Rattle.tt.specs.Forest.{Forest}
 use Rattle.tt.specs.Stored.{IsWithinLimits}
@@ -14,13 +14,13 @@ use Rattle.expand_text.specs.declared.source.Written.TheVariants as made
 use Rattle.expand_text.specs.Expanding.{IsAdded}
 use Rattle.expand_text.specs.Expansion.{IsTextOf, IsCallText}
 use Rattle.expand_text.specs.Macros.{IsPastLimit, tree_of}
-use Rattle.expand_text.specs.Outcomes.{placed}
-use Rattle.expand_text.specs.CallSites.{CallSite, PutAs, PutIn, PutUnder, IsTooLarge}
+use Rattle.expand_text.specs.Outcomes.{brackets_of, placed, placed_in}
+use Rattle.expand_text.specs.CallSites.{CallSite, PutAs, PutIn, PutUnder, IsTooLarge, misfit}
 use Rattle.expand_items.specs.Attributes.{conditions_of}
 
 -- Without attributes, the trees are as they are placed.
-pub free_put : (it : CallSite) (trees : Forest) → it.len ≡ 0 → PutAs it trees (Some (placed it.enclosure it.delimiter trees))
-free_put it trees none = subst (λ n. PutUnder n it trees (Some (placed it.enclosure it.delimiter trees))) (sym none) refl
+pub free_put : (it : CallSite) (trees : Forest) → it.len ≡ 0 → PutAs it trees (placed it.enclosure it.delimiter trees)
+free_put it trees none = subst (λ n. PutUnder n it trees (placed it.enclosure it.delimiter trees)) (sym none) refl
 
 module _ (it : CallSite) (trees : Forest) (some : 0 < it.len) where
   -- With attributes, the trees are under conditions.
@@ -48,6 +48,14 @@ module _ (it : CallSite) (trees : Forest) (some : 0 < it.len) where
       by None under answer added = absurd (false≢true answer)
       by (Some put) under answer added = (put, under_put (Some put) within under, added)
 
+  -- what does not fit is under conditions,
+  conditional : wrong.Conditional ≡ misfit it.len
+  conditional = by it.len some
+    where
+      by : (n : ℕ) → 0 < n → wrong.Conditional ≡ misfit n
+      by zero some = absurd (omega (arith, some))
+      by (suc n) some = refl
+
   -- and if they are not, they cannot be.
   pub kept_under : IsWithinLimits (tree_of it.delimiter trees) → (is_put : Bool) (old new : Stack)
       → IsPutUnder it.position.siblings it.delimiter (conditions_of it.attributes) trees is_put old new → is_put ≡ false → IsAdded it trees (Some wrong.Conditional) old new
@@ -55,8 +63,18 @@ module _ (it : CallSite) (trees : Forest) (some : 0 < it.len) where
     where
       by : (put : Option Forest) → AreUnder it.position.siblings it.delimiter (conditions_of it.attributes) trees put → is_some put ≡ false → new ≡ append_if put old
           → IsAdded it trees (Some wrong.Conditional) old new
-      by None under answer added = (inl (refl, under_put None within under), added)
+      by None under answer added = (inl (conditional, under_put None within under), added)
       by (Some put) under answer added = absurd (false≢true (sym answer))
+
+-- Without attributes, it is refused if it has no place.
+pub refused : (it : CallSite) (trees : Forest) (stack : Stack) → it.len ≡ 0 → brackets_of it.enclosure ≡ None → IsAdded it trees (Some wrong.Statements) stack stack
+refused it trees stack none bad = (
+  inl (
+    sym (ap misfit none),
+    subst (PutAs it trees) (ap (option_map (λ brackets. placed_in brackets it.delimiter trees)) bad) (free_put it trees none),
+  ),
+  refl,
+)
 
 -- A builder that held nothing is a tree of what was added.
 pub built_alone : (top : Delimiter) (first last : BuilderState) (trees : Forest) → first ≡ empty_builder top → last.top ≡ first.top → last.stack ≡ append trees first.stack

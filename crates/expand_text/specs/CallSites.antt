@@ -22,9 +22,9 @@ pub record CallSite : Type 0 where
   pub position : Position
   pub delimiter : Delimiter
 
--- an expansion in its place: as it is, or under the conditions of the call, if possible
+-- an expansion in its place: enclosed, or under the conditions of the call, if possible
 abbrev pub PutUnder : (attributes : ℕ) → CallSite → (trees : Forest) → (put : Option Forest) → Type 0
-PutUnder zero it trees put = put ≡ Some (placed it.enclosure it.delimiter trees)
+PutUnder zero it trees put = put ≡ placed it.enclosure it.delimiter trees
 PutUnder (suc more) it trees put = IsWithinLimits (tree_of it.delimiter trees) × AreUnder it.position.siblings it.delimiter (conditions_of it.attributes) trees put
 
 abbrev pub PutAs : CallSite → (trees : Forest) → (put : Option Forest) → Type 0
@@ -44,9 +44,14 @@ abbrev pub IsTooLarge : (attributes : ℕ) → CallSite → (trees : Forest) →
 IsTooLarge zero it trees fault = ⊥
 IsTooLarge (suc more) it trees fault = IsTooLargeTree it.delimiter trees fault
 
--- why an expansion does not fit its place: the conditions cannot be put before its parts, or it exceeds a limit as a tree
+-- why an expansion does not fit its place: it is statements, and one expression is wanted there; or the conditions of the call cannot be put
+-- before its parts; or it exceeds a limit as a tree
+abbrev pub misfit : (attributes : ℕ) → MacroFault
+misfit zero = wrong.Statements
+misfit (suc more) = wrong.Conditional
+
 abbrev pub IsMisplaced : CallSite → (trees : Forest) → MacroFault → Type 0
-IsMisplaced it trees fault = ((fault ≡ wrong.Conditional) × PutAs it trees None) ⊎ IsTooLarge it.len it trees fault
+IsMisplaced it trees fault = ((fault ≡ misfit it.len) × PutAs it trees None) ⊎ IsTooLarge it.len it trees fault
 
 -- why the expansion of a call that begins at a byte is not written, and its byte: in its place it exceeds a limit as a tree, which shows at
 -- the beginning of the call; or what is shown of it is not written

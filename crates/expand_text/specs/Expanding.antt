@@ -1,6 +1,6 @@
 -- Expansions that are added to a builder.
 use Rattle.std.specs.Prelude.{◌≡◌, ◌⊎◌, ℕ, false, Option, None, Some}
-use Rattle.tt.specs.Building.{Stack, append}
+use Rattle.tt.specs.Building.{BuilderState, Stack, append, built}
 use Rattle.tt.specs.Forest.{Forest}
 use Rattle.tt.specs.Span.{start_of}
 use Rattle.tt.specs.Views.{trees_of}
@@ -8,6 +8,7 @@ use Rattle.expand_text.specs.declared.fault.MacroFault.{MacroFault}
 use Rattle.expand_text.specs.declared.walk.Invocation.{Invocation}
 use Rattle.expand_text.specs.Meaning.{ExpandsTo}
 use Rattle.expand_text.specs.Contexts.{Config, Context, with_finding}
+use Rattle.expand_text.specs.Macros.{tree_of}
 use Rattle.expand_text.specs.Outcomes.{Outcome, trees_left}
 use Rattle.expand_text.specs.CallSites.{CallSite, PutAs, IsMisplaced}
 use Rattle.expand_text.specs.Walks.{body_of, found_by, site_of}
@@ -18,6 +19,12 @@ pub record AreExpanded (config : Config) (limit : ℕ) (position : Position) (tr
   pub outcome : Outcome
   pub expands_to : ExpandsTo config false limit position 0 before trees after outcome
   pub added : new ≡ append (trees_left outcome) old
+
+-- what a call expands to is built apart
+pub record IsApart (config : Config) (limit : ℕ) (it : Invocation) (apart : BuilderState) (before after : Context) : Type 0 where
+  pub outcome : Outcome
+  pub expands_to : ExpandsTo config false limit it.position 0 before (body_of it) after outcome
+  pub whole : built apart ≡ tree_of it.delimiter (trees_left outcome)
 
 -- these trees are added in the place of a call that expands to them; or nothing is added, with the reason why they do not fit there
 abbrev pub IsAdded : CallSite → (trees : Forest) → (misplaced : Option MacroFault) → (old new : Stack) → Type 0

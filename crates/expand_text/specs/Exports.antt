@@ -10,7 +10,7 @@ use Rattle.expand_text.specs.Scopes.{Macro}
 
 -- a definition is read if it exports its macro
 abbrev pub IsReadIfExported : (is_exported : Bool) → Config → Defined → (before after : Context) → Type 0
-IsReadIfExported true config it before after = IsRead config it.position.is_open it.definition before after
+IsReadIfExported true config it before after = IsRead config it.position it.definition before after
 IsReadIfExported false config it before after = after ≡ before
 
 -- the same for all of them, in order

@@ -7,10 +7,12 @@ use Rattle.expand_text.specs.declared.fault.MacroFault.TheVariants as wrong
 abbrev pub is_warning : MacroFault → Bool
 is_warning (wrong.Definition why) = false
 is_warning wrong.Left = true
+is_warning wrong.BuiltIn = true
 is_warning wrong.SeveralDefinitions = true
 is_warning wrong.NotExported = true
 is_warning (wrong.Captured binding) = true
 is_warning wrong.Conditional = true
+is_warning wrong.Statements = false
 is_warning wrong.NoMatch = false
 is_warning (wrong.Ambiguous arm) = false
 is_warning (wrong.Expansion why) = false
@@ -23,10 +25,12 @@ is_warning (wrong.TooLarge why) = false
 abbrev pub is_too_deep : MacroFault → Bool
 is_too_deep (wrong.Definition why) = false
 is_too_deep wrong.Left = false
+is_too_deep wrong.BuiltIn = false
 is_too_deep wrong.SeveralDefinitions = false
 is_too_deep wrong.NotExported = false
 is_too_deep (wrong.Captured binding) = false
 is_too_deep wrong.Conditional = false
+is_too_deep wrong.Statements = false
 is_too_deep wrong.NoMatch = false
 is_too_deep (wrong.Ambiguous arm) = false
 is_too_deep (wrong.Expansion why) = false

@@ -16,10 +16,12 @@ is_limit (error.Tree why) = true
 abbrev pub names_limit : MacroFault → Bool
 names_limit (wrong.Definition why) = false
 names_limit wrong.Left = false
+names_limit wrong.BuiltIn = false
 names_limit wrong.SeveralDefinitions = false
 names_limit wrong.NotExported = false
 names_limit (wrong.Captured binding) = false
 names_limit wrong.Conditional = false
+names_limit wrong.Statements = false
 names_limit wrong.NoMatch = false
 names_limit (wrong.Ambiguous arm) = false
 names_limit (wrong.Expansion why) = is_limit why.fault

@@ -14,6 +14,7 @@ use Rattle.expand_text.specs.declared.fault.MacroFault.TheVariants as wrong
 use Rattle.expand_items.specs.Items.{Definition, Call, is_root}
 use Rattle.expand_items.specs.declared.item.MacroPath.{MacroPath}
 use Rattle.expand_items.specs.declared.item.MacroPath.TheVariants as path
+use Rattle.expand_items.specs.declared.position.Position.{Position}
 use Rattle.expand_text.specs.Contexts.{Config, Context, asks_for, with_macro, with_finding}
 use Rattle.expand_text.specs.Places.{byte_at, definition_byte}
 use Rattle.expand_text.specs.Roots.{rooted}
@@ -29,8 +30,8 @@ use Rattle.syntax_unparse.specs.Writable.{IsWritable, IsWriteFault}
 use Rattle.syntax_unparse.specs.declared.fault.WriteFault.TheVariants as unwritten
 
 -- the macro that is defined
-abbrev pub macro_of : Definition → (is_several : Bool) → Option (List Arm) → Macro
-macro_of it is_several arms = record { name = it.name.sym; defined_at = start_of it.name.span.range; is_several = is_several; arms = arms }
+abbrev pub macro_of : Definition → (left : MacroFault) → Option (List Arm) → Macro
+macro_of it left arms = record { name = it.name.sym; defined_at = start_of it.name.span.range; left = left; arms = arms }
 
 -- a definition under a condition is one of several if another macro of its name is in scope
 abbrev pub is_several : (is_open : Bool) → Definition → List Macro → Bool
@@ -41,9 +42,14 @@ abbrev pub unless_several : (is_several : Bool) → List Arm → Option (List Ar
 unless_several true arms = None
 unless_several false arms = Some arms
 
+-- why a macro is left as it is, if it is: it is one of several, or its definition has a fault
+abbrev pub left_by : (is_several : Bool) → MacroFault
+left_by true = wrong.SeveralDefinitions
+left_by false = wrong.Left
+
 -- a definition that spells these arms is read as this macro
 abbrev pub macro_with : (is_open : Bool) → Definition → List Arm → List Macro → Macro
-macro_with is_open it arms macros = macro_of it (is_several is_open it macros) (unless_several (is_several is_open it macros) arms)
+macro_with is_open it arms macros = macro_of it (left_by (is_several is_open it macros)) (unless_several (is_several is_open it macros) arms)
 
 -- a tree is refused for that reason, which is not memory
 abbrev pub IsPastLimit : Root → TtFault → Type 0
@@ -55,6 +61,8 @@ IsDefinitionFault it trees at (wrong.Definition why) =
     IsRulesError trees why × (why.fault ≢ arm_fault.Memory) × (at ≡ definition_byte trees why (start_of it.delimiter.close.range))
 IsDefinitionFault it trees at (wrong.TooLarge why) = IsPastLimit (under it.delimiter trees) why × (at ≡ start_of it.name.span.range)
 IsDefinitionFault it trees at wrong.Left = ⊥
+IsDefinitionFault it trees at wrong.BuiltIn = ⊥
+IsDefinitionFault it trees at wrong.Statements = ⊥
 IsDefinitionFault it trees at wrong.SeveralDefinitions = ⊥
 IsDefinitionFault it trees at wrong.NotExported = ⊥
 IsDefinitionFault it trees at (wrong.Captured binding) = ⊥
@@ -76,15 +84,21 @@ abbrev pub IsDefined : (is_open : Bool) → Definition → (arms : Forest) → (
 IsDefined is_open it trees before after =
     ((arms : List Arm) × IsWithinLimits (under it.delimiter trees) × Spell trees arms × (after ≡ with_macro (macro_with is_open it arms before.macros) before))
     ⊎ ((at : ℕ) × (fault : MacroFault) × IsDefinitionFault it trees at fault
-    × (after ≡ with_macro (macro_of it false None) (with_finding (found_in it at fault) before)))
+    × (after ≡ with_macro (macro_of it wrong.Left None) (with_finding (found_in it at fault) before)))
 
--- a definition is read if macros of its name are, with the root's word for the root of the crate
-abbrev pub IsReadIf : (asked : Bool) → (root : List ℕ) → (is_open : Bool) → Definition → (before after : Context) → Type 0
-IsReadIf false root is_open it before after = after ≡ before
-IsReadIf true root is_open it before after = IsDefined is_open it (rooted root it.arms) before after
+-- the same for a definition at a position: a macro that is built into the compiler has no arms; others have the root's word for the root of
+-- the crate
+abbrev pub IsDefinedAt : (is_built_in : Bool) → (root : List ℕ) → (is_open : Bool) → Definition → (before after : Context) → Type 0
+IsDefinedAt true root is_open it before after = after ≡ with_macro (macro_of it wrong.BuiltIn None) before
+IsDefinedAt false root is_open it before after = IsDefined is_open it (rooted root it.arms) before after
 
-abbrev pub IsRead : Config → (is_open : Bool) → Definition → (before after : Context) → Type 0
-IsRead config is_open it before after = IsReadIf (asks_for config.only it.name.sym) config.root is_open it before after
+-- a definition is read if macros of its name are
+abbrev pub IsReadIf : (asked : Bool) → (root : List ℕ) → Position → Definition → (before after : Context) → Type 0
+IsReadIf false root position it before after = after ≡ before
+IsReadIf true root position it before after = IsDefinedAt position.is_built_in root position.is_open it before after
+
+abbrev pub IsRead : Config → Position → Definition → (before after : Context) → Type 0
+IsRead config position it before after = IsReadIf (asks_for config.only it.name.sym) config.root position it before after
 
 -- the macro of a name behind a path: the last of its name in scope, or the last that the crate exports
 abbrev pub named_by : MacroPath → (name : List ℕ) → Context → Option Macro
@@ -119,6 +133,8 @@ IsInputFault arms it at (wrong.Expansion why) =
     IsExpandError arms 0 it.input why × (why.fault ≢ transcribe_error.Tree limit.Memory) × (at ≡ start_of it.name.span.range)
 IsInputFault arms it at (wrong.Definition why) = ⊥
 IsInputFault arms it at wrong.Left = ⊥
+IsInputFault arms it at wrong.BuiltIn = ⊥
+IsInputFault arms it at wrong.Statements = ⊥
 IsInputFault arms it at wrong.SeveralDefinitions = ⊥
 IsInputFault arms it at wrong.NotExported = ⊥
 IsInputFault arms it at (wrong.Captured binding) = ⊥
@@ -133,14 +149,9 @@ abbrev pub IsCallFault : (limit : ℕ) → List Arm → Call → (at : ℕ) → 
 IsCallFault zero arms it at fault = (fault ≡ wrong.TooDeep) × (at ≡ start_of it.name.span.range)
 IsCallFault (suc limit) arms it at fault = IsInputFault arms it at fault
 
--- why a macro is left as it is: it is one of several, or its definition has a fault
-abbrev pub left_by : (is_several : Bool) → MacroFault
-left_by true = wrong.SeveralDefinitions
-left_by false = wrong.Left
-
 -- what is known after a call that no macro expands: if its macro is left as it is, or is in scope but not exported, that is found
 abbrev pub left_behind : Call → (called unexported : Option Macro) → Context → Context
-left_behind it (Some macro) unexported context = with_finding (found_of it macro (start_of it.name.span.range) (left_by macro.is_several)) context
+left_behind it (Some macro) unexported context = with_finding (found_of it macro (start_of it.name.span.range) macro.left) context
 left_behind it None (Some macro) context = with_finding (found_of it macro (start_of it.name.span.range) wrong.NotExported) context
 left_behind it None None context = context
 
@@ -172,6 +183,8 @@ IsUnwritten call trees begin at wrong.NotWritable =
     IsWithinLimits (tree_of call trees) × (place : ℕ) × IsWriteFault trees (unwritten.NotWritable place) × (at ≡ byte_at trees place begin)
 IsUnwritten call trees begin at (wrong.Definition why) = ⊥
 IsUnwritten call trees begin at wrong.Left = ⊥
+IsUnwritten call trees begin at wrong.BuiltIn = ⊥
+IsUnwritten call trees begin at wrong.Statements = ⊥
 IsUnwritten call trees begin at wrong.SeveralDefinitions = ⊥
 IsUnwritten call trees begin at wrong.NotExported = ⊥
 IsUnwritten call trees begin at (wrong.Captured binding) = ⊥

@@ -18,7 +18,7 @@ use Rattle.expand_text.specs.Contexts.{Config, Context, with_finding}
 use Rattle.expand_text.specs.Macros.{IsRead, IsCallFault, MayBePut, called_by, arms_of, found_of, context_behind}
 use Rattle.expand_text.specs.Outcomes.{Outcome, nothing, passes, enters, stays, becomes, trees_left}
 use Rattle.expand_items.specs.Expressions.{without_semicolon}
-use Rattle.expand_items.specs.Positions.{enclosure, first_in, first_of_call, behind, behind_subtree, keeps_macros, is_statement, takes_semicolon}
+use Rattle.expand_items.specs.Positions.{enclosure, first_inside, first_of_call, behind, behind_subtree, keeps_macros, is_statement, takes_semicolon}
 use Rattle.expand_text.specs.Scopes.{Macro}
 use Rattle.expand_text.specs.CallSites.{CallSite, PutIn, IsKept}
 use Rattle.expand_text.specs.Capturing.{IsCaptureFound}
@@ -136,13 +136,13 @@ pub data ExpandsTo (config : Config) : (in_text : Bool) → (limit : ℕ) → Po
       → ExpandsTo config in_text limit position plain context (leaf it rest) after (passes it others)
   on_node : {in_text : Bool} {limit plain : ℕ} {position : Position} {context inside after : Context} {delimiter : Delimiter} {children rest : Forest} {held others : Outcome}
       → IsPlain config context position plain (node delimiter children rest)
-      → ExpandsTo config in_text limit (first_in delimiter.kind position) 0 context children inside held
+      → ExpandsTo config in_text limit (first_inside delimiter.kind rest position) 0 context children inside held
       → ExpandsTo config in_text limit (behind_subtree delimiter.kind position) (plain - 1) (context_after (keeps_macros delimiter.kind children position) context inside) rest after others
       → ExpandsTo config in_text limit position plain context (node delimiter children rest) after (enters delimiter held others)
   on_definition : {in_text : Bool} {limit : ℕ} {position : Position} {context after : Context} {it : Definition} {trees : Forest} {others : Outcome} (inside : Context)
       → context.is_over ≡ false
       → IsItemAt config.known config.root position trees (defines it)
-      → IsRead config position.is_open it context inside
+      → IsRead config position it context inside
       → ExpandsTo config in_text limit (behind true position) 0 inside (after_trees it.len trees) after others
       → ExpandsTo config in_text limit position 0 context trees after (stays (front_trees it.len trees) others)
   on_inactive : {in_text : Bool} {limit len : ℕ} {position : Position} {context after : Context} {trees : Forest} {others : Outcome}

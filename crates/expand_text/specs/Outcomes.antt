@@ -1,5 +1,5 @@
 -- What becomes of trees that call macros.
-use Rattle.std.specs.Prelude.{Option, None, Some}
+use Rattle.std.specs.Prelude.{Option, None, Some, option_map}
 use Rattle.tt.specs.Forest.{Forest, end, leaf, node, join}
 use Rattle.tt.specs.Token.{delimiter}
 use Rattle.tt.specs.Types.Delimiter.{Delimiter}
@@ -27,16 +27,17 @@ trees_left (enters delimiter inside behind) = node delimiter (trees_left inside)
 trees_left (stays trees behind) = join trees (trees_left behind)
 trees_left (becomes first last trees behind) = join trees (trees_left behind)
 
--- the brackets that enclose an expansion
-abbrev pub brackets_of : Enclosure → Option DelimiterKind
-brackets_of enclosed.Bare = None
-brackets_of enclosed.Opaque = Some InvisibleOpaque
-brackets_of enclosed.Parentheses = Some Parenthesis
+-- the brackets that enclose an expansion, if there are any, unless it is refused
+abbrev pub brackets_of : Enclosure → Option (Option DelimiterKind)
+brackets_of enclosed.Bare = Some None
+brackets_of enclosed.Opaque = Some (Some InvisibleOpaque)
+brackets_of enclosed.Parentheses = Some (Some Parenthesis)
+brackets_of enclosed.Refused = None
 
 -- an expansion in them, in the place of its call
 abbrev pub placed_in : Option DelimiterKind → Delimiter → Forest → Forest
 placed_in None call trees = trees
 placed_in (Some kind) call trees = node (delimiter kind call.open_span call.close) trees end
 
-abbrev pub placed : Enclosure → Delimiter → Forest → Forest
-placed enclosure call trees = placed_in (brackets_of enclosure) call trees
+abbrev pub placed : Enclosure → Delimiter → Forest → Option Forest
+placed enclosure call trees = option_map (λ brackets. placed_in brackets call trees) (brackets_of enclosure)

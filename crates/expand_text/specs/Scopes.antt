@@ -3,14 +3,14 @@ use Rattle.std.specs.Prelude.{◌≡◌, ℕ, Bool, List, [], ◌∷◌, take, O
 use Rattle.mbe_rules.specs.Arms.{Arm}
 use Rattle.mbe_rules.specs.Expansions.{AreMade}
 use Rattle.mbe_rules.specs.declared.macro_rules.MacroRules.{MacroRules}
+use Rattle.expand_text.specs.declared.fault.MacroFault.{MacroFault}
 use Rattle.expand_text.specs.declared.scope.Macro as rust
 
--- a macro: its name, the byte at which that begins in its definition, whether it is one of several definitions of that name under conditions, and
--- its arms, unless it is left as it is
+-- a macro: its name, the byte at which that begins in its definition, and its arms; or, if it has none, why a call of it is left as it is
 pub record Macro : Type 0 where
   pub name : List ℕ
   pub defined_at : ℕ
-  pub is_several : Bool
+  pub left : MacroFault
   pub arms : Option (List Arm)
 
 -- the one, or else the other
@@ -43,7 +43,7 @@ AreRules (Some arms) (Some rules) = AreMade arms rules.arms.items
 pub record IsReady (macro : Macro) (it : rust.Macro) : Type 0 where
   pub name : it.name ≡ macro.name
   pub defined_at : it.defined_at ≡ macro.defined_at
-  pub is_several : it.is_several ≡ macro.is_several
+  pub left : it.left ≡ macro.left
   pub rules : AreRules macro.arms it.rules
 
 -- all of them are, one by one

@@ -29,7 +29,7 @@ use Rattle.expand_text.specs.Contexts.{Config, Context, IsContext, with_finding,
 use Rattle.expand_text.specs.Macros.{MayBePut}
 use Rattle.expand_text.specs.Outcomes.{Outcome, nothing, passes, enters, stays, becomes, trees_left}
 use Rattle.expand_text.specs.CallSites.{CallSite, PutIn, IsKept}
-use Rattle.expand_items.specs.Positions.{first_in, behind, behind_subtree, keeps_macros}
+use Rattle.expand_items.specs.Positions.{first_inside, behind, behind_subtree, keeps_macros}
 
 -- the trees of a subtree that are left, the position before them, how many are taken as they are, where the subtree closes, and how many
 -- macros stay in scope after it, if not all
@@ -130,14 +130,14 @@ abbrev pub kept_behind : (are_kept : Bool) → ℕ → Option ℕ
 kept_behind true macros = None
 kept_behind false macros = Some macros
 
-abbrev pub inside : Delimiter → (children : Forest) → Position → Option ℕ → Level
-inside delimiter children position kept =
-    record { rest = children; position = first_in delimiter.kind position; plain = 0; close = delimiter.close; kept = kept }
+abbrev pub inside : Delimiter → (children behind : Forest) → Position → Option ℕ → Level
+inside delimiter children behind position kept =
+    record { rest = children; position = first_inside delimiter.kind behind position; plain = 0; close = delimiter.close; kept = kept }
 
 abbrev pub entered : Delimiter → (children : Forest) → (macros : ℕ) → List Level → List Level
 entered delimiter children macros [] = []
 entered delimiter children macros (level ∷ outer) =
-    inside delimiter children level.position (kept_behind (keeps_macros delimiter.kind children level.position) macros) ∷ past_subtree delimiter.kind level ∷ outer
+    inside delimiter children (after_tree level.rest) level.position (kept_behind (keeps_macros delimiter.kind children level.position) macros) ∷ past_subtree delimiter.kind level ∷ outer
 
 -- the level that is left, and the outer levels
 abbrev pub IsLeft : Walk → Option Span → Walk → Type 0

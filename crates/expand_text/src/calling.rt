@@ -6,7 +6,7 @@ ghost use Rattle.expand_items.specs.Items.{call_of};
 ghost use Rattle.expand_text.specs.Contexts.{Context as ContextOf, IsContext, Learns, config_of};
 ghost use Rattle.expand_text.specs.Meaning.{body};
 ghost use Rattle.tt.specs.Views.{trees_of};
-ghost use Rattle.expand_text.specs.Macros.{arms_of, called_by, left_behind, left_by, unexported_by};
+ghost use Rattle.expand_text.specs.Macros.{arms_of, called_by, left_behind, unexported_by};
 ghost use Rattle.expand_text.specs.Scopes.{IsReadyIf};
 ghost use Rattle.mbe_rules.specs.Arms.{Arm};
 ghost use Rattle.mbe_rules.specs.Expansions.{AreMade};
@@ -67,17 +67,6 @@ fn make(
             TranscribeError::Tree(TtFault::Memory) => Err(OutOfMemory),
             _ => Ok(Made::Faulty(at, MacroFault::Expansion(error))),
         },
-    }
-}
-
-// Returns why a macro is left as it is.
-fn left_by(is_several: bool) -> MacroFault
-    ensures { result ≡ left_by is_several }
-{
-    if is_several {
-        MacroFault::SeveralDefinitions
-    } else {
-        MacroFault::Left
     }
 }
 
@@ -162,7 +151,7 @@ pub(crate) fn expand_call(
         return Ok(Called::Other);
     };
     let defined_at = it.defined_at;
-    let left = left_by(it.is_several);
+    let left = it.left;
     let Some(rules) = &it.rules else {
         context.find(name, at, left, Some(defined_at))?;
         return Ok(Called::Other);

@@ -3,8 +3,9 @@ ghost use Rattle.std.specs.Prelude.{◌≡◌, ◌&&◌, List, None, Some, is_so
 ghost use Rattle.tt.specs.Iters.{rest_of};
 ghost use Rattle.expand_text.specs.Defining.{IsRules};
 ghost use Rattle.expand_items.specs.Items.{definition_of};
-ghost use Rattle.expand_text.specs.Contexts.{Learns, config_of};
-ghost use Rattle.expand_text.specs.Macros.{IsDefined, IsRead};
+ghost use Rattle.expand_text.specs.Contexts.{Learns, config_of, with_macro};
+ghost use Rattle.expand_text.specs.Macros.{IsDefined, IsRead, left_by, macro_of};
+ghost use Rattle.expand_text.specs.declared.fault.MacroFault.TheVariants.{BuiltIn};
 ghost use Rattle.expand_text.specs.Roots.{rooted};
 ghost use Rattle.expand_text.specs.Scopes.{Macro as MacroOf, AreReady, last_named};
 
@@ -15,7 +16,7 @@ use crate::memory::OutOfMemory;
 use crate::places::definition_place;
 use crate::root::rooted;
 use crate::scope::{Macro, Scope};
-use expand_items::Definition;
+use expand_items::{Definition, Position};
 use mbe_rules::{ArmFault, MacroRules};
 use syntax_edit::start_of;
 use tt::{Symbol, TtFault};
@@ -67,6 +68,17 @@ fn is_one_of_several(scope: &Scope, is_open: bool, name: &Symbol) -> bool
     }
 }
 
+// Returns why a macro is left as it is, if it is.
+fn left_by(is_several: bool) -> MacroFault
+    ensures { result ≡ left_by is_several }
+{
+    if is_several {
+        MacroFault::SeveralDefinitions
+    } else {
+        MacroFault::Left
+    }
+}
+
 // Returns the rules, unless the macro is one of several.
 fn unless_several(is_several: bool, rules: MacroRules) -> Option<MacroRules>
     ensures { result ≡ (if is_several then None else Some rules) }
@@ -85,10 +97,11 @@ fn define(
     ensures { OnOk result (Learns context.old context.new (IsDefined is_open (definition_of definition.now) (rooted config.now.root (rest_of definition.now.arms)))) }
 {
     let name = definition.name.sym.clone()?;
-    let mut is_several = false;
+    let mut left = MacroFault::Left;
     let rules = match rules_of(config, definition)? {
         Rules::Context(rules) => {
-            is_several = is_one_of_several(&context.scope, is_open, &name);
+            let is_several = is_one_of_several(&context.scope, is_open, &name);
+            left = left_by(is_several);
             unless_several(is_several, rules)
         }
         Rules::Faulty(at, fault) => {
@@ -99,23 +112,40 @@ fn define(
     context.scope.define(Macro {
         name,
         defined_at: start_of(definition.name.span),
-        is_several,
+        left,
         rules,
     })?;
     Ok(())
 }
 
-/// Adds the macro to the scope, if the options ask for macros of its name. Its definition is under a condition if `is_open`.
+// Adds a macro that is built into the compiler to the scope: it has no rules.
+fn define_built_in(context: &mut Context, definition: &Definition<'_>) -> Result<(), OutOfMemory>
+    ensures { OnOk result (Learns context.old context.new (λ before after. after ≡ with_macro (macro_of (definition_of definition.now) BuiltIn None) before)) }
+{
+    context.scope.define(Macro {
+        name: definition.name.sym.clone()?,
+        defined_at: start_of(definition.name.span),
+        left: MacroFault::BuiltIn,
+        rules: None,
+    })?;
+    Ok(())
+}
+
+/// Adds the macro to the scope that a definition at a position defines, if the options ask for macros of its name.
 pub(crate) fn read_definition(
     config: &Config<'_>,
     context: &mut Context,
-    is_open: bool,
+    position: Position,
     definition: &Definition<'_>,
 ) -> Result<(), OutOfMemory>
-    ensures { OnOk result (Learns context.old context.new (IsRead (config_of config.now) is_open (definition_of definition.now))) }
+    ensures { OnOk result (Learns context.old context.new (IsRead (config_of config.now) position (definition_of definition.now))) }
 {
-    if config.asks_for(&definition.name.sym) {
-        define(config, context, is_open, definition)?;
+    if !config.asks_for(&definition.name.sym) {
+        return Ok(());
     }
-    Ok(())
+    if position.is_built_in() {
+        define_built_in(context, definition)
+    } else {
+        define(config, context, position.is_open(), definition)
+    }
 }

@@ -2,7 +2,7 @@
 ghost use Rattle.std.specs.Prelude.{◌≡◌, ◌<◌, IfOk, OnOk};
 ghost use Rattle.tt.specs.Building.{depth};
 ghost use Rattle.tt.specs.Iters.{rest_of};
-ghost use Rattle.expand_text.specs.Expanding.{IsPassed, IsPlaced, AreExpanded};
+ghost use Rattle.expand_text.specs.Expanding.{AreExpanded, IsApart, IsPassed, IsPlaced};
 ghost use Rattle.expand_text.specs.Outcomes.{brackets_of};
 ghost use Rattle.expand_text.specs.Contexts.{Learns, config_of};
 
@@ -14,6 +14,36 @@ use crate::walk::{Event, Invocation, Walk, next};
 use expand_items::{Enclosure, Position, put_under};
 use syntax_edit::start_of;
 use tt::{Delimiter, DelimiterKind, Refused, Span, TopSubtreeBuilder, TtFault, TtIter};
+
+// Expands a call with at most `limit` nested expansions, in a builder of its own.
+#[cycle(expansion)]
+fn expand_apart(
+    config: &Config<'_>,
+    context: &mut Context,
+    limit: usize,
+    invocation: &Invocation<'_>,
+) -> Result<TopSubtreeBuilder, OutOfMemory>
+    ensures { IfOk result (λ apart. Learns context.old context.new (IsApart (config_of config.now) limit invocation.now apart)) }
+{
+    let delimiter = invocation.delimiter;
+    let position = invocation.position;
+    let top = Delimiter {
+        kind: DelimiterKind::Invisible,
+        ..delimiter
+    };
+    let mut apart = TopSubtreeBuilder::new(config.alloc, top)?;
+    let trees = invocation.body().iter();
+    expand_trees(
+        config,
+        context,
+        limit,
+        position,
+        trees,
+        delimiter.close,
+        &mut apart,
+    )?;
+    Ok(apart)
+}
 
 // Adds what a call with attributes expands to, each part under their conditions; or returns why that is impossible.
 #[cycle(expansion)]
@@ -29,24 +59,8 @@ fn expand_under(
     ensures open { OnOk result (depth builder.new.stack ≡ depth builder.old.stack) }
     ensures placed { IfOk result (λ misplaced. Learns context.old context.new (IsPlaced (config_of config.now) limit invocation.now misplaced builder.old.stack builder.new.stack)) }
 {
-    let delimiter = invocation.delimiter;
-    let position = invocation.position;
-    let top = Delimiter {
-        kind: DelimiterKind::Invisible,
-        ..delimiter
-    };
-    let mut inner = TopSubtreeBuilder::new(config.alloc, top)?;
-    let trees = invocation.body().iter();
-    expand_trees(
-        config,
-        context,
-        limit,
-        position,
-        trees,
-        delimiter.close,
-        &mut inner,
-    )?;
-    let held = match inner.build() {
+    let apart = expand_apart(config, context, limit, invocation)?;
+    let held = match apart.build() {
         Ok(tree) => tree,
         Err(
             Refused {
@@ -60,8 +74,8 @@ fn expand_under(
     let trees = held.token_trees();
     if put_under(
         config.alloc,
-        position.siblings(),
-        delimiter,
+        invocation.position.siblings(),
+        invocation.delimiter,
         attributes,
         trees,
         builder,
@@ -72,14 +86,15 @@ fn expand_under(
     }
 }
 
-// Returns the brackets that enclose an expansion, if there are any.
-fn brackets_of(enclosure: Enclosure) -> Option<DelimiterKind>
+// Returns the brackets that enclose an expansion, if there are any, unless it is refused.
+fn brackets_of(enclosure: Enclosure) -> Option<Option<DelimiterKind>>
     ensures { result ≡ brackets_of enclosure }
 {
     match enclosure {
-        Enclosure::Bare => None,
-        Enclosure::Opaque => Some(DelimiterKind::InvisibleOpaque),
-        Enclosure::Parentheses => Some(DelimiterKind::Parenthesis),
+        Enclosure::Bare => Some(None),
+        Enclosure::Opaque => Some(Some(DelimiterKind::InvisibleOpaque)),
+        Enclosure::Parentheses => Some(Some(DelimiterKind::Parenthesis)),
+        Enclosure::Refused => None,
     }
 }
 
@@ -100,11 +115,15 @@ pub(crate) fn expand_invocation(
     if invocation.attributes > 0 {
         return expand_under(config, context, limit, invocation, builder);
     }
+    let Some(brackets) = brackets_of(invocation.enclosure) else {
+        expand_apart(config, context, limit, invocation)?;
+        return Ok(Some(MacroFault::Statements));
+    };
     let delimiter = invocation.delimiter;
     let position = invocation.position;
     let trees = invocation.body().iter();
     let close = delimiter.close;
-    let Some(kind) = brackets_of(invocation.enclosure) else {
+    let Some(kind) = brackets else {
         expand_trees(config, context, limit, position, trees, close, builder)?;
         return Ok(None);
     };

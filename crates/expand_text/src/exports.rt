@@ -24,7 +24,7 @@ fn read_if_exported(
     ensures { OnOk result (Learns context.old context.new (IsReadIfExported it.now.position.is_exported (config_of config.now) (defined_of it.now))) }
 {
     if it.position.is_exported() {
-        read_definition(config, context, it.position.is_open(), &it.definition)?;
+        read_definition(config, context, it.position, &it.definition)?;
     }
     Ok(())
 }

@@ -18,6 +18,10 @@ pub enum MacroFault {
     /// The macro's definition has a fault, so the call is left as it is.
     #[error("its definition is left as it is")]
     Left,
+    /// The macro is built into the compiler: `#[rustc_builtin_macro]` is before its definition, whose arms mean nothing. The call is left as
+    /// it is. The byte is the beginning of the call's name.
+    #[error("it is built into the compiler")]
+    BuiltIn,
     /// The macro has several definitions in scope, the last of them under `#[cfg(..)]`, so the call is left as it is: the text does not say
     /// which of them holds. The byte is the beginning of the call's name.
     #[error("several definitions of it are in scope")]
@@ -34,6 +38,10 @@ pub enum MacroFault {
     /// is left as it is. The byte is the beginning of the call.
     #[error("its result cannot have its condition before each part")]
     Conditional,
+    /// The call is no statement, but its expansion is statements: it begins with `let`, or has a `;` before its end. The call is left as it
+    /// is. The byte is the beginning of the call.
+    #[error("its result is statements")]
+    Statements,
     /// No arm matches the input. The byte is the place at which the arm that comes farthest stops.
     #[error("no arm matches its input")]
     NoMatch,
@@ -96,6 +104,7 @@ impl MacroFault {
         matches!(
             self,
             MacroFault::Left
+                | MacroFault::BuiltIn
                 | MacroFault::SeveralDefinitions
                 | MacroFault::NotExported
                 | MacroFault::Captured(_)

@@ -4,6 +4,7 @@ ghost use Rattle.std.proofs.Props.{props};
 ghost use Rattle.indexmap.specs.IndexMap.{get, Updates};
 ghost use Rattle.expand_text.specs.LastPlaces.{last_place, links_of};
 
+use crate::fault::MacroFault;
 use indexmap::IndexMap;
 use mbe_rules::MacroRules;
 use std::alloc::{AllocError, Global};
@@ -15,8 +16,8 @@ pub(crate) struct Macro {
     pub(crate) name: Symbol,
     /// The byte of the text at which the name begins in the definition.
     pub(crate) defined_at: u32,
-    /// Whether it is left as it is because it is one of several definitions under conditions.
-    pub(crate) is_several: bool,
+    /// Why a call of it is left as it is, if it has no rules.
+    pub(crate) left: MacroFault,
     pub(crate) rules: Option<MacroRules>,
 }
 

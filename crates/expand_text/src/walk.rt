@@ -203,9 +203,10 @@ impl<'a> Walk<'a> {
         let inside = children.remaining().iter();
         let are_kept = position.keeps_macros(delimiter.kind, inside);
         self.level.pass_subtree(delimiter.kind);
+        let behind = self.level.rest.remaining().iter();
         let inner = Level {
             rest: children,
-            position: position.first_in(delimiter.kind),
+            position: position.first_inside(delimiter.kind, behind),
             plain: 0,
             close: delimiter.close,
             kept: if are_kept { None } else { Some(macros) },
@@ -268,8 +269,7 @@ fn next_definition<'a>(
     ensures steps { IfOk result (λ event. IsFirst (defines (definition_of definition.now)) (config_of config.now) walk.old → Steps (levels_of walk.old) event (levels_of walk.new)) }
     ensures next { IfOk result (λ event. (limit : ℕ) → Goes (IsAtItem (defines (definition_of definition.now)) (config_of config.now) walk.old) (config_of config.now) limit walk.old context.old event walk.new context.new) }
 {
-    let is_open = walk.level.position.is_open();
-    read_definition(config, context, is_open, definition)?;
+    read_definition(config, context, walk.level.position, definition)?;
     Ok(Event::Stays(walk.level.take_all(definition.len, true)))
 }
 

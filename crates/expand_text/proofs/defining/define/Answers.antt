@@ -4,11 +4,12 @@ use Rattle.tt.specs.Forest.{Forest}
 use Rattle.tt.specs.Iters.{rest_of}
 use Rattle.tt.specs.Span.{start_of}
 use Rattle.expand_text.specs.declared.fault.Finding.{Finding}
+use Rattle.expand_text.specs.declared.fault.MacroFault.TheVariants as wrong
 use Rattle.expand_text.specs.declared.scope.Macro as rust
 use Rattle.expand_text.specs.Defining.{IsRules}
 use Rattle.expand_items.specs.Items.{Definition, definition_of}
 use Rattle.expand_text.specs.Contexts.{Context, IsContext, with_macro, with_finding}
-use Rattle.expand_text.specs.Macros.{macro_of, macro_with, is_several, unless_several, found_in}
+use Rattle.expand_text.specs.Macros.{macro_of, macro_with, is_several, left_by, unless_several, found_in}
 use Rattle.expand_text.specs.Roots.{rooted}
 use Rattle.expand_text.specs.Scopes.{AreReady, AreRules, last_named}
 use Rattle.expand_text.proofs.Readiness.{ready_more, ready_unless}
@@ -22,7 +23,7 @@ returns c context is =
     let name : c.in_ok-name.name ≡ it.name.sym = search rules in
     let place : c.start_of.result ≡ start_of it.name.span.range = search rules in
     let made : rust.Macro =
-    record { name = c.in_ok-name.name; defined_at = c.start_of.result; is_several = c.match-branch-3.is_several; rules = c.match-branch-3.rules } in
+    record { name = c.in_ok-name.name; defined_at = c.start_of.result; left = c.match-branch-3.left; rules = c.match-branch-3.rules } in
     let more : c.define.new.self.macros.items ≡ c.match-branch-3.context.scope.macros.items ++ made ∷ [] = c.in_ok-define.ensures.ok in
     elim c.match-branch-3.branch [
       | in-Context w ↦
@@ -40,7 +41,7 @@ returns c context is =
               macros =
                   subst (AreReady (context.macros ++ found ∷ [])) (sym more)
                   (ready_more context.macros c.match-branch-3.context.scope.macros.items found made before
-                  (record { name = name; defined_at = place; is_several = w.is_several-is ∙ same; rules = rules_are }));
+                  (record { name = name; defined_at = place; left = w.left-is ∙ w.left_by-left.ensures ∙ ap left_by same; rules = rules_are }));
               exported = subst (λ k. AreReady context.exported k.exported.macros.items) (sym w.context-is) is.exported;
               findings = ap (λ k. k.findings.items) w.context-is ∙ is.findings;
               is_over = ap (λ k. k.is_over) w.context-is ∙ is.is_over;
@@ -56,12 +57,12 @@ returns c context is =
           let found : IsContext then c.match-branch-3.context =
           subst (IsContext then) (sym w.context-is) (subst (λ f. IsContext (with_finding f context) w.find.new.self) same (w.in_ok-find-in-Faulty.ensures context is)) in
           let rules_are : AreRules None c.match-branch-3.rules = subst (AreRules None) (sym w.rules-is) tt in (
-            with_macro (macro_of it false None) then,
+            with_macro (macro_of it wrong.Left None) then,
             record {
               macros =
-                  subst (AreReady (then.macros ++ macro_of it false None ∷ [])) (sym more)
-                  (ready_more then.macros c.match-branch-3.context.scope.macros.items (macro_of it false None) made found.macros
-                  (record { name = name; defined_at = place; is_several = w.is_several-is; rules = rules_are }));
+                  subst (AreReady (then.macros ++ macro_of it wrong.Left None ∷ [])) (sym more)
+                  (ready_more then.macros c.match-branch-3.context.scope.macros.items (macro_of it wrong.Left None) made found.macros
+                  (record { name = name; defined_at = place; left = w.left-is; rules = rules_are }));
               exported = found.exported;
               findings = found.findings;
               is_over = found.is_over;

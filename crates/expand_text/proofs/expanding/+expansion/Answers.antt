@@ -1,4 +1,4 @@
-use Rattle.std.proofs.Common.{rules, inr, ap₂, ◌≢◌, [], ◌≡◌, ◌∙◌, ◌<◌, ◌+◌, ◌-◌, ℕ, false, suc, ◌∷◌, List, length, map, reverse, refl, ap, sym, subst, arith}
+use Rattle.std.proofs.Common.{rules, inr, ap₂, ◌≢◌, [], ◌≡◌, ◌∙◌, ◌<◌, ◌+◌, ◌-◌, ℕ, false, None, suc, ◌∷◌, List, length, map, reverse, refl, ap, sym, subst, arith}
 use Rattle.tt.specs.Building.{Stack, append, built, depth, pushed, opened, closed, extended}
 use Rattle.tt.specs.Forest.{Forest, end, leaf}
 use Rattle.tt.specs.Gluing.{after_trees}
@@ -19,8 +19,8 @@ use Rattle.expand_items.specs.Attributes.{conditions_of}
 use Rattle.mbe_pattern.proofs.Passing.{front_joined}
 use Rattle.mbe_pattern.specs.Units.{front_trees}
 use Rattle.tt_base.proofs.Appending.{append-join}
-use Rattle.expand_text.proofs.Placing.{added_under, built_alone, is_too_large, kept_under}
-use Rattle.expand_text.specs.Outcomes.{nothing, trees_left}
+use Rattle.expand_text.proofs.Placing.{added_under, built_alone, is_too_large, kept_under, refused}
+use Rattle.expand_text.specs.Outcomes.{brackets_of, nothing, trees_left}
 use Rattle.expand_text.specs.Walks.{body_of, Level, level_of, levels_of, site_of, found_by, closes_of, first_leaf, first_subtree, first_stay, Ends, Leads, IsNext, IsWithin, Steps}
 use Rattle.expand_text.proofs.Finishing.{IsGoing, begins, ends_so, goes_on, goes_into, goes_out, goes_past, finished_leaf, finished_stay}
 use Rattle.expand_items.proofs.Rebuilding.{depth_append, is_above, depth_close}
@@ -287,6 +287,31 @@ pass_call-returns-in_ok-extend_with_tt-2-clause-passed t c before is =
       record { inside = now; outcome = put.outcome; expands_to = put.expands_to; passed = inr (fault, misplaced, refl, added) },
     )
 
+pub expand_apart-returns : goal.expand_apart-returns
+expand_apart-returns t c before is =
+    let it = c.args.invocation.now in
+    let (after, ready, all) = c.in_ok-expand_trees.ensures.expanded before is in
+    let held : Forest = trees_left all.outcome in (
+      after,
+      ready,
+      record {
+        outcome = all.outcome;
+        expands_to =
+            subst (λ f. ExpandsTo (config_of c.args.config.now) false c.args.limit it.position 0 before f after all.outcome) (c.iter-trees.ensures ∙ c.body.ensures) all.expands_to;
+        whole =
+            built_alone (record it.delimiter { kind = Invisible }) c.in_ok-apart.apart c.expand_trees.new.builder held c.in_ok-apart.ensures.ok c.in_ok-expand_trees.ensures.top all.added;
+      },
+    )
+
+pub expand_invocation-returns-in_ok-expand_apart-clause-placed : goal.expand_invocation-returns-in_ok-expand_apart-clause-placed
+expand_invocation-returns-in_ok-expand_apart-clause-placed t c before is =
+    let it = c.args.invocation.now in
+    let stack : Stack = c.args.builder.now.stack in
+    let (after, ready, apart) = c.in_ok-expand_apart.ensures before is in
+    let none : it.attributes ≡ 0 = search (rules, arith) in
+    let bad : brackets_of it.enclosure ≡ None = search rules in
+    (after, ready, record { outcome = apart.outcome; expands_to = apart.expands_to; added = refused (site_of it) (trees_left apart.outcome) stack none bad })
+
 pub expand_under-returns-in-Err : goal.expand_under-returns-in-Err
 expand_under-returns-in-Err t c = record {
   top = refl;
@@ -294,20 +319,16 @@ expand_under-returns-in-Err t c = record {
   placed = λ before is.
       let it = c.args.invocation.now in
       let why = c.in-Err.refused.fault in
-      let (after, ready, all) = c.in_ok-expand_trees.ensures.expanded before is in
-      let held : Forest = trees_left all.outcome in
-      let expands_to : ExpandsTo (config_of c.args.config.now) false c.args.limit it.position 0 before (body_of it) after all.outcome =
-      subst (λ f. ExpandsTo (config_of c.args.config.now) false c.args.limit it.position 0 before f after all.outcome) (c.iter-trees.ensures ∙ c.body.ensures) all.expands_to in
-      let whole : built c.expand_trees.new.builder ≡ tree_of it.delimiter held =
-      built_alone (record it.delimiter { kind = Invisible }) c.in_ok-inner.inner c.expand_trees.new.builder held c.in_ok-inner.ensures.ok c.in_ok-expand_trees.ensures.top all.added in
-      let past : IsTreeFault (built c.expand_trees.new.builder) why = search rules in
+      let (after, ready, apart) = c.in_ok-apart.ensures before is in
+      let held : Forest = trees_left apart.outcome in
+      let past : IsTreeFault (built c.in_ok-apart.apart) why = search rules in
       let no_memory : why ≢ limit.Memory = search rules in (
         after,
         ready,
         record {
-          outcome = all.outcome;
-          expands_to = expands_to;
-          added = (inr (is_too_large (site_of it) held c.requires why (subst (λ r. IsTreeFault r why) whole past, no_memory)), refl);
+          outcome = apart.outcome;
+          expands_to = apart.expands_to;
+          added = (inr (is_too_large (site_of it) held c.requires why (subst (λ r. IsTreeFault r why) apart.whole past, no_memory)), refl);
         },
       );
 }
@@ -315,13 +336,9 @@ expand_under-returns-in-Err t c = record {
 pub expand_under-returns-then-branch-clause-placed : goal.expand_under-returns-then-branch-clause-placed
 expand_under-returns-then-branch-clause-placed t c before is =
     let it = c.args.invocation.now in
-    let (after, ready, all) = c.in_ok-expand_trees.ensures.expanded before is in
-    let held : Forest = trees_left all.outcome in
-    let expands_to : ExpandsTo (config_of c.args.config.now) false c.args.limit it.position 0 before (body_of it) after all.outcome =
-    subst (λ f. ExpandsTo (config_of c.args.config.now) false c.args.limit it.position 0 before f after all.outcome) (c.iter-trees.ensures ∙ c.body.ensures) all.expands_to in
-    let whole : built c.expand_trees.new.builder ≡ tree_of it.delimiter held =
-    built_alone (record it.delimiter { kind = Invisible }) c.in_ok-inner.inner c.expand_trees.new.builder held c.in_ok-inner.ensures.ok c.in_ok-expand_trees.ensures.top all.added in
-    let tree : c.in-Ok.tree ≡ tree_of it.delimiter held = c.in-Ok.ensures.ok ∙ whole in
+    let (after, ready, apart) = c.in_ok-apart.ensures before is in
+    let held : Forest = trees_left apart.outcome in
+    let tree : c.in-Ok.tree ≡ tree_of it.delimiter held = c.in-Ok.ensures.ok ∙ apart.whole in
     let trees : trees_of c.token_trees-trees.result ≡ held = c.token_trees-trees.ensures ∙ ap (λ r. r.children) tree in
     let within : IsWithinLimits (tree_of it.delimiter held) = subst IsWithinLimits tree c.in-Ok.ensures.limits in
     let under : IsPutUnder it.position.siblings it.delimiter (conditions_of (site_of it).attributes) held c.in_ok-put_under.field-0 c.args.builder.now.stack c.put_under.new.builder.stack =
@@ -329,18 +346,14 @@ expand_under-returns-then-branch-clause-placed t c before is =
     (subst (λ f. IsPutUnder it.position.siblings it.delimiter (conditions_of f) (trees_of c.token_trees-trees.result) c.in_ok-put_under.field-0 c.args.builder.now.stack c.put_under.new.builder.stack) c.attributes-attributes.ensures
     (subst (λ among. IsPutUnder among it.delimiter (conditions_of (trees_of c.attributes-attributes.result)) (trees_of c.token_trees-trees.result) c.in_ok-put_under.field-0 c.args.builder.now.stack c.put_under.new.builder.stack) c.siblings.ensures
     c.in_ok-put_under.ensures.put)) in
-    (after, ready, record { outcome = all.outcome; expands_to = expands_to; added = added_under (site_of it) held c.requires within c.in_ok-put_under.field-0 c.args.builder.now.stack c.put_under.new.builder.stack under c.if-branch.true })
+    (after, ready, record { outcome = apart.outcome; expands_to = apart.expands_to; added = added_under (site_of it) held c.requires within c.in_ok-put_under.field-0 c.args.builder.now.stack c.put_under.new.builder.stack under c.if-branch.true })
 
 pub expand_under-returns-clause-placed : goal.expand_under-returns-clause-placed
 expand_under-returns-clause-placed t c before is =
     let it = c.args.invocation.now in
-    let (after, ready, all) = c.in_ok-expand_trees.ensures.expanded before is in
-    let held : Forest = trees_left all.outcome in
-    let expands_to : ExpandsTo (config_of c.args.config.now) false c.args.limit it.position 0 before (body_of it) after all.outcome =
-    subst (λ f. ExpandsTo (config_of c.args.config.now) false c.args.limit it.position 0 before f after all.outcome) (c.iter-trees.ensures ∙ c.body.ensures) all.expands_to in
-    let whole : built c.expand_trees.new.builder ≡ tree_of it.delimiter held =
-    built_alone (record it.delimiter { kind = Invisible }) c.in_ok-inner.inner c.expand_trees.new.builder held c.in_ok-inner.ensures.ok c.in_ok-expand_trees.ensures.top all.added in
-    let tree : c.in-Ok.tree ≡ tree_of it.delimiter held = c.in-Ok.ensures.ok ∙ whole in
+    let (after, ready, apart) = c.in_ok-apart.ensures before is in
+    let held : Forest = trees_left apart.outcome in
+    let tree : c.in-Ok.tree ≡ tree_of it.delimiter held = c.in-Ok.ensures.ok ∙ apart.whole in
     let trees : trees_of c.token_trees-trees.result ≡ held = c.token_trees-trees.ensures ∙ ap (λ r. r.children) tree in
     let within : IsWithinLimits (tree_of it.delimiter held) = subst IsWithinLimits tree c.in-Ok.ensures.limits in
     let under : IsPutUnder it.position.siblings it.delimiter (conditions_of (site_of it).attributes) held c.in_ok-put_under.field-0 c.args.builder.now.stack c.put_under.new.builder.stack =
@@ -348,4 +361,4 @@ expand_under-returns-clause-placed t c before is =
     (subst (λ f. IsPutUnder it.position.siblings it.delimiter (conditions_of f) (trees_of c.token_trees-trees.result) c.in_ok-put_under.field-0 c.args.builder.now.stack c.put_under.new.builder.stack) c.attributes-attributes.ensures
     (subst (λ among. IsPutUnder among it.delimiter (conditions_of (trees_of c.attributes-attributes.result)) (trees_of c.token_trees-trees.result) c.in_ok-put_under.field-0 c.args.builder.now.stack c.put_under.new.builder.stack) c.siblings.ensures
     c.in_ok-put_under.ensures.put)) in
-    (after, ready, record { outcome = all.outcome; expands_to = expands_to; added = kept_under (site_of it) held c.requires within c.in_ok-put_under.field-0 c.args.builder.now.stack c.put_under.new.builder.stack under c.if-branch.false })
+    (after, ready, record { outcome = apart.outcome; expands_to = apart.expands_to; added = kept_under (site_of it) held c.requires within c.in_ok-put_under.field-0 c.args.builder.now.stack c.put_under.new.builder.stack under c.if-branch.false })

@@ -3,7 +3,6 @@ use Rattle.tt.specs.Views.{trees_of}
 use Rattle.expand_text.specs.declared.walk.Event.TheVariants as event
 use Rattle.expand_items.specs.Items.{Definition, definition_of}
 use Rattle.expand_text.specs.Contexts.{config_of}
-use Rattle.expand_text.specs.Macros.{IsRead}
 use Rattle.expand_text.specs.Walks.{Level, level_of, past, first_stay, IsNext, Leads, Steps}
 use Rattle.mbe_pattern.specs.Units.{front_trees}
 use Rattle.expand_text.proofs.Leading.{leads_definition}
@@ -17,8 +16,7 @@ returns-clause-next c limit context is there =
     let level : Level = level_of c.args.walk.now.level in
     let outer = map level_of (reverse c.args.walk.now.outer.items) in
     let it : Definition = definition_of c.args.definition.now in
-    let (others, then, read_there) = c.in_ok-read_definition.ensures context is in
-    let read : IsRead config level.position.is_open it context others = subst (λ o. IsRead config o it context others) c.is_open-is_open.ensures read_there in
+    let (others, then, read) = c.in_ok-read_definition.ensures context is in
     let taken : trees_of c.take_all.result ≡ front_trees it.len level.rest = c.take_all.ensures.taken in
     let now : level_of c.take_all.new.self ≡ past it.len true level = c.take_all.ensures.level in (
       others,
