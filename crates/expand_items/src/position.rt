@@ -1,7 +1,7 @@
 //! The position of a tree among its siblings, as far as it matters to the tree.
 ghost use Rattle.std.specs.Prelude.{◌≡◌, true};
 ghost use Rattle.tt.specs.Iters.{rest_of};
-ghost use Rattle.expand_items.specs.Positions.{angles_behind, is_block, begun, siblings_in, first_in, first_inside, behind, behind_attribute_sign, behind_punct, behind_ident, behind_leaf, behind_subtree, keeps_macros, ends_statement, is_statement, takes_semicolon, siblings_of_call, first_of_call, enclosure};
+ghost use Rattle.expand_items.specs.Positions.{angles_behind, is_block, begun, siblings_in, first_in, first_inside, behind, behind_attribute_sign, behind_punct, behind_ident, behind_leaf, behind_subtree, keeps_macros, ends_statement, is_statement, takes_semicolon, first_of_call, enclosure};
 ghost use Rattle.expand_items.specs.Attributes.{begins_attributes};
 ghost use Rattle.expand_items.specs.Inactive.{begins_sign};
 
@@ -322,9 +322,8 @@ impl Position {
         is_at_punct(behind.remaining().iter(), ';') || is_braced && !goes_on(behind)
     }
 
-    /// Returns whether a call is a statement or an item: it has so many trees of attributes and a subtree of a kind, and these trees
-    /// follow it. Without attributes, a call in parentheses or brackets at the end of a block is an expression, unless an expansion
-    /// ends there.
+    /// Returns whether a call with so many trees of attributes and a subtree of a kind is a statement or an item, before these trees. Without
+    /// attributes, one in parentheses or brackets at the end of a block is an expression, unless an expansion ends there.
     pub fn is_statement(self, attributes: usize, kind: DelimiterKind, behind: TtIter<'_>) -> bool
         ensures { result ≡ is_statement attributes kind (rest_of behind.entry) self }
     {
@@ -341,22 +340,6 @@ impl Position {
             && is_at_punct(behind, ';')
     }
 
-    // Returns what the trees that a call expands to are.
-    fn siblings_of_call(
-        self,
-        attributes: usize,
-        kind: DelimiterKind,
-        behind: TtIter<'_>,
-    ) -> Siblings
-        ensures { result ≡ siblings_of_call attributes kind (rest_of behind.entry) self }
-    {
-        if self.is_statement(attributes, kind, behind) {
-            self.siblings
-        } else {
-            Siblings::Others
-        }
-    }
-
     /// Returns the position before the first of the trees that such a call expands to.
     pub fn first_of_call(
         self,
@@ -366,9 +349,14 @@ impl Position {
     ) -> Position
         ensures { result ≡ first_of_call attributes kind (rest_of behind.entry) self }
     {
+        let siblings = if self.is_statement(attributes, kind, behind) {
+            self.siblings
+        } else {
+            Siblings::Others
+        };
         Position {
             front: self.front.of_expansion(self.is_start),
-            ..Position::begun(self.siblings_of_call(attributes, kind, behind))
+            ..Position::begun(siblings)
         }
     }
 
