@@ -1,12 +1,12 @@
 -- Attributes, and calls behind them.
-use Rattle.std.specs.Prelude.{ℕ, ◌+◌, ◌==◌, ◌&&◌, not, Bool, true, false, List, codes, if◌then◌else◌}
+use Rattle.std.specs.Prelude.{ℕ, ◌+◌, ◌&&◌, not, Bool, true, false, List, codes, if◌then◌else◌}
 use Rattle.tt.specs.Forest.{Forest, end, leaf, node, join}
 use Rattle.tt.specs.Gluing.{after_trees}
 use Rattle.tt.specs.Moves.{after_tree}
 use Rattle.tt.specs.Types.Leaf.{Leaf}
-use Rattle.tt.specs.Types.Leaf.TheVariants as leaf_of
 use Rattle.expand_items.specs.Items.{Call, Item, defines, calls, inactive, other, item_in}
 use Rattle.expand_items.specs.Positions.{is_at_attribute_of, is_at_brackets, is_bracket, is_statement}
+use Rattle.expand_items.specs.Predicates.{is_sign}
 use Rattle.expand_items.specs.declared.position.Position.{Position}
 use Rattle.mbe_pattern.specs.Units.{is_at_punct}
 
@@ -16,16 +16,12 @@ attribute_len = 2
 
 -- a `#`
 abbrev pub is_attribute_sign : Leaf → Bool
-is_attribute_sign (leaf_of.Literal it) = false
-is_attribute_sign (leaf_of.Punct it) = it.char == 35
-is_attribute_sign (leaf_of.Ident it) = false
+is_attribute_sign it = is_sign 35 it
 
 -- an attribute comes first: `#` and brackets
 abbrev pub is_at_attribute : Forest → Bool
 is_at_attribute end = false
-is_at_attribute (leaf (leaf_of.Literal it) rest) = false
-is_at_attribute (leaf (leaf_of.Punct it) rest) = (it.char == 35) && is_at_brackets rest
-is_at_attribute (leaf (leaf_of.Ident it) rest) = false
+is_at_attribute (leaf it rest) = is_attribute_sign it && is_at_brackets rest
 is_at_attribute (node delimiter children rest) = false
 
 -- the number of trees of the attributes that come first

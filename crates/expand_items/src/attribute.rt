@@ -2,7 +2,7 @@
 ghost use Rattle.std.specs.Prelude.{◌≡◌, ◌+◌, ◌<◌, ◌^◌, IfOk, false};
 ghost use Rattle.tt.specs.Forest.{size};
 ghost use Rattle.tt.specs.Iters.{rest_of};
-ghost use Rattle.expand_items.specs.Attributes.{attributes_len, is_at_attribute, is_at_condition, item_at, item_behind, with_attributes};
+ghost use Rattle.expand_items.specs.Attributes.{attributes_len, is_at_attribute, is_at_condition, is_attribute_sign, item_at, item_behind, with_attributes};
 ghost use Rattle.expand_items.specs.Cfg.{known_of};
 ghost use Rattle.expand_items.specs.Inactive.{IsItemAt};
 ghost use Rattle.expand_items.specs.Items.{call_of, item_in, item_meant};
@@ -48,12 +48,22 @@ pub(crate) fn is_at_attribute_of(word: &str, mut trees: TtIter<'_>) -> bool
     }
 }
 
+/// Returns whether a leaf is the `#` of an attribute.
+pub fn is_attribute_sign(leaf: &Leaf) -> bool
+    ensures { result ≡ is_attribute_sign leaf.now }
+{
+    match leaf {
+        Leaf::Punct(punct) => punct.char == '#',
+        Leaf::Literal(_) | Leaf::Ident(_) => false,
+    }
+}
+
 /// Returns whether an attribute comes first.
 pub fn is_attribute(mut trees: TtIter<'_>) -> bool
     ensures { result ≡ is_at_attribute (rest_of trees.entry) }
 {
     match trees.next() {
-        Some(TtElement::Leaf(Leaf::Punct(punct))) => punct.char == '#' && is_at_brackets(trees),
+        Some(TtElement::Leaf(leaf)) => is_attribute_sign(&leaf) && is_at_brackets(trees),
         _ => false,
     }
 }

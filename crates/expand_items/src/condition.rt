@@ -4,7 +4,7 @@ ghost use Rattle.tt.specs.Iters.{rest_of};
 ghost use Rattle.expand_items.specs.Cfg.{known_of};
 ghost use Rattle.expand_items.specs.Conditions.{attributes_say, brackets_say, cfg_attr_says, cfg_says, comma_at, condition_says, is_open_condition, meta_says, metas_say};
 
-use crate::attribute::is_attribute;
+use crate::attribute::{is_attribute, is_attribute_sign};
 use crate::cfg::CfgOptions;
 use crate::predicate::{both, either, negated};
 use mbe_pattern::{is_at_punct, is_at_word, pass, take};
@@ -176,10 +176,8 @@ pub fn is_open_condition(
 ) -> Result<bool, AllocError>
     ensures { IfOk result (λ is_open. is_open ≡ is_open_condition (known_of options.now) leaf.now (rest_of trees.entry)) }
 {
-    match leaf {
-        Leaf::Punct(punct) if punct.char == '#' => {
-            Ok(brackets_say(alloc, options, trees)? != Some(true))
-        }
-        Leaf::Punct(_) | Leaf::Literal(_) | Leaf::Ident(_) => Ok(false),
+    if !is_attribute_sign(leaf) {
+        return Ok(false);
     }
+    Ok(brackets_say(alloc, options, trees)? != Some(true))
 }

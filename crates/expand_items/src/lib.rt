@@ -30,7 +30,7 @@ mod position;
 mod predicate;
 mod spread;
 
-pub use attribute::{attributes_len, is_attribute, is_condition, item_at};
+pub use attribute::{attributes_len, is_attribute, is_attribute_sign, is_condition, item_at};
 pub use cfg::{CfgAtom, CfgOptions};
 pub use condition::is_open_condition;
 pub use definitions::{Defined, definitions_in};

@@ -20,13 +20,14 @@ use Rattle.expand_unused.specs.declared.place.Place.{Place}
 use Rattle.expand_unused.specs.declared.place.Place.TheVariants as at
 use Rattle.expand_unused.specs.Parts.{Part, word, rules, leaf_words, words_in, last_span, byte_or, exported_words, first_parts, parts_in, held, rules_from}
 use Rattle.syntax_edit.specs.Places.{begin_at}
-use Rattle.expand_unused.specs.Places.{First, drops, takes, others as plain, first_in, first_from, may_go, begun, no_attributes, passing, taking, is_sign, is_attribute, since_without, exports, behind_sign, signed, attributes_behind_leaf, attributes_behind_subtree, behind_first}
+use Rattle.expand_unused.specs.Places.{First, drops, takes, others as plain, first_in, first_from, may_go, begun, no_attributes, passing, taking, is_attribute, since_without, exports, behind_sign, signed, attributes_behind_leaf, attributes_behind_subtree, behind_first}
 use Rattle.expand_unused.specs.Without.{cut_of, cuts}
 use Rattle.syntax_edit.specs.Laid.{Lies, Laid, byte_behind, lies_leaf, lies_node}
 use Rattle.syntax_edit.specs.Texts.{begun as begun_text, FitAll}
 use Rattle.syntax_edit.proofs.Following.{Follow, none, next, follow_from, follow_both, follow_fit}
 use Rattle.syntax_edit.proofs.LaidFacts.{laid_behind, laid_order, starts_before}
 use Rattle.syntax_edit.proofs.ParsedOrder.{parsed_laid}
+use Rattle.expand_items.specs.Attributes.{is_attribute_sign}
 use Rattle.expand_items.specs.Items.{Definition, Call, definition_from, definition_in, definition_len, defined_as, item_from, call_in, name_in}
 use Rattle.expand_items.specs.Positions.{is_bracket}
 use Rattle.mbe_pattern.specs.Units.{is_at_word, is_brace, is_at_punct}
@@ -211,7 +212,7 @@ module _ (text : List ℕ) (choice : Choice) (goes : List ℕ → Bool) where
   ready_leaf {base} {from} {to} it rest attributes ready = by ready.laid
     where
       by : Laid text from (leaf it rest) to → IsFree text base (byte_behind it) to (attributes_behind_leaf it attributes) rest
-      by (lies_leaf lies behind) = behind_it (is_sign it)
+      by (lies_leaf lies behind) = behind_it (is_attribute_sign it)
         where
           after : from ≤ byte_behind it
           after = omega (arith, lies.after, starts_before it lies.range.order)

@@ -1,15 +1,15 @@
 -- The place of a tree among its siblings, as far as it matters to what is cut, and what comes first there.
-use Rattle.std.specs.Prelude.{◌-◌, ◌==◌, ◌&&◌, ◌||◌, ℕ, zero, suc, Bool, true, false, List, Option, None, Some, codes, bytes_eq, is_some, if◌then◌else◌}
+use Rattle.std.specs.Prelude.{◌-◌, ◌&&◌, ◌||◌, ℕ, zero, suc, Bool, true, false, List, Option, None, Some, codes, bytes_eq, is_some, if◌then◌else◌}
 use Rattle.tt.specs.Forest.{Forest}
 use Rattle.tt.specs.Span.{start_of}
 use Rattle.tt.specs.Types.DelimiterKind.{DelimiterKind}
 use Rattle.tt.specs.Types.Leaf.{Leaf}
-use Rattle.tt.specs.Types.Leaf.TheVariants as leaf_of
 use Rattle.tt.specs.Token.{leaf_span}
 use Rattle.expand_unused.specs.declared.choice.Choice.{Choice}
 use Rattle.expand_unused.specs.declared.place.Attributes.{Attributes}
 use Rattle.expand_unused.specs.declared.place.Place.{Place}
 use Rattle.expand_unused.specs.declared.place.Place.TheVariants as at
+use Rattle.expand_items.specs.Attributes.{is_attribute_sign}
 use Rattle.expand_items.specs.Items.{Definition, Item, defines, calls, inactive, other, item_in}
 use Rattle.expand_items.specs.Positions.{is_bracket}
 use Rattle.mbe_pattern.specs.Units.{is_at_word}
@@ -53,12 +53,6 @@ abbrev pub taking : ℕ → Place
 taking zero = begun
 taking (suc left) = at.Taken left
 
--- a `#`
-abbrev pub is_sign : Leaf → Bool
-is_sign (leaf_of.Literal it) = false
-is_sign (leaf_of.Punct it) = it.char == 35
-is_sign (leaf_of.Ident it) = false
-
 -- where the attributes begin: a `#` with no brackets after it is no attribute
 abbrev pub since_without : (sign since : Option ℕ) → Option ℕ
 since_without None since = since
@@ -93,7 +87,7 @@ is_attribute kind it = is_bracket kind && is_some it.sign
 
 -- after a leaf that is no part of anything else, and after a subtree
 abbrev pub attributes_behind_leaf : Leaf → Attributes → Attributes
-attributes_behind_leaf leaf it = if is_sign leaf then behind_sign (start_of (leaf_span leaf).range) it else no_attributes
+attributes_behind_leaf leaf it = if is_attribute_sign leaf then behind_sign (start_of (leaf_span leaf).range) it else no_attributes
 
 abbrev pub attributes_behind_subtree : DelimiterKind → (inside : Forest) → Attributes → Attributes
 attributes_behind_subtree kind inside it = if is_bracket kind then signed it.sign it.since (it.is_exported || exports inside) else no_attributes

@@ -1,8 +1,9 @@
 //! The place of a tree among its siblings, as far as it matters to what is cut.
 ghost use Rattle.std.specs.Prelude.{◌≡◌};
 ghost use Rattle.tt.specs.Iters.{rest_of};
-ghost use Rattle.expand_unused.specs.Places.{no_attributes, begun, passing, taking, is_sign, is_attribute, attributes_behind_leaf, attributes_behind_subtree, behind_subtree};
+ghost use Rattle.expand_unused.specs.Places.{no_attributes, begun, passing, taking, is_attribute, attributes_behind_leaf, attributes_behind_subtree, behind_subtree};
 
+use expand_items::is_attribute_sign;
 use mbe_pattern::is_at_word;
 use syntax_edit::start_of;
 use tt::{DelimiterKind, Leaf, TtIter};
@@ -29,16 +30,6 @@ pub(crate) enum Place {
     Free(Attributes),
 }
 
-// Returns whether the leaf is a `#`.
-fn is_sign(leaf: &Leaf) -> bool
-    ensures { result ≡ is_sign leaf.now }
-{
-    match leaf {
-        Leaf::Punct(punct) => punct.char == '#',
-        Leaf::Literal(_) | Leaf::Ident(_) => false,
-    }
-}
-
 impl Attributes {
     /// Returns no attributes.
     pub(crate) fn none() -> Attributes
@@ -55,7 +46,7 @@ impl Attributes {
     pub(crate) fn behind_leaf(self, leaf: &Leaf) -> Attributes
         ensures { result ≡ attributes_behind_leaf leaf.now self }
     {
-        if !is_sign(leaf) {
+        if !is_attribute_sign(leaf) {
             return Attributes::none();
         }
         Attributes {
