@@ -381,7 +381,7 @@ def code(names, rules, starts):
     lines += ["", "/// The rules.", f"pub(crate) static RULES: [Rule; {len(rules)}] = rules! {{"]
     ends = [*list(starts.values())[1:], len(rules)]
     for name, end in zip(names, ends):
-        lines += [f"    // {name}, from {starts[name]} on", *filled(map(rule_text, rules[starts[name]:end]))]
+        lines += filled([f"/* {name}, from {starts[name]} on */", *map(rule_text, rules[starts[name]:end])])
     return [*lines, "};"]
 
 

@@ -6,12 +6,12 @@ use Rattle.mbe_grammar.specs.declared.known.Known.{Known}
 use Rattle.mbe_grammar.specs.declared.rule.Rule.{Rule}
 use Rattle.mbe_grammar.specs.Good.{IsGood}
 use Rattle.mbe_grammar.specs.Known.{glance_at, are_right}
-use Rattle.mbe_grammar.specs.Machine.{Frame, State, Next, awaited, begun, resumed, Ends, IsStep}
+use Rattle.mbe_grammar.specs.Machine.{Frame, State, Next, awaited, begun, resumed, entered, Ends, IsStep}
 use Rattle.mbe_grammar.specs.Machine as machine
 use Rattle.mbe_grammar.specs.Parses.{Parses}
 use Rattle.mbe_grammar.specs.Positions.{Position}
 use Rattle.mbe_grammar.proofs.Looking.{agrees}
-use Rattle.mbe_grammar.proofs.Steps.{leads, one_end}
+use Rattle.mbe_grammar.proofs.Steps.{leads, leads_entered, one_end}
 use Rattle.mbe_grammar.proofs.Total.{has, stops}
 
 module _ (noting : Bool) (looks : ℕ → Position → Glance) (rules : List Rule) where
@@ -30,7 +30,7 @@ module _ (noting : Bool) (looks : ℕ → Position → Glance) (rules : List Rul
   goes_on (machine.answered found) [] to after count answer s e = absurd (cc s)
   goes_on (machine.answered found) (frame ∷ before) to after zero answer s e = absurd e
   goes_on (machine.answered found) (frame ∷ before) to after (suc count) answer s e =
-      let same : resumed frame found ≡ to = cc (s.0) in
+      let same : resumed looks frame found ≡ to = cc (s.0) in
       (count, refl, subst (λ fs. Ends noting looks rules count to fs answer) (sym s.1) (subst (λ t. Ends noting looks rules count t before answer) same e))
 
   -- When the machine stops, that is the answer.
@@ -59,6 +59,13 @@ module _ (noting : Bool) (known : List Known) (rules : List Rule) where
     reaches_first at from =
         let it = has noting rules good at from in
         let all = leads noting (glance_at known) rules (agrees noting known rules right) it.0 at from it.1 it.2 [] 0 it.1 refl in
+        record { answer = it.1; parses = (it.0, it.2); count = all.0; ends = all.1 }
+
+    pub reaches_entered : (at : ℕ) (from : Position) → Reaches at from (entered (glance_at known) at from) []
+    unfolding Parses
+    reaches_entered at from =
+        let it = has noting rules good at from in
+        let all = leads_entered noting (glance_at known) rules (agrees noting known rules right) it.0 at from it.1 it.2 [] 0 it.1 refl in
         record { answer = it.1; parses = (it.0, it.2); count = all.0; ends = all.1 }
 
     pub fewer_left : (at : State) (before : List Frame) (to : State) (after : List Frame)

@@ -15,7 +15,7 @@ use Rattle.mbe_grammar.specs.declared.machine.Waiting.TheVariants as waiting
 use Rattle.mbe_grammar.specs.declared.rule.Rule.{Rule}
 use Rattle.mbe_grammar.specs.declared.rule.Rule.TheVariants as rule
 use Rattle.mbe_grammar.specs.Machine as machine
-use Rattle.mbe_grammar.specs.Machine.{awaited, begun_name, begun_behind, begun_sequence_open, begun_sequence, begun_first, begun_choice, begun_repetition, begun_not, begun_open, begun_by, begun, resumed, IsStep}
+use Rattle.mbe_grammar.specs.Machine.{awaited, begun_name, begun_behind, begun_first, begun_sequence, begun_try, begun_choice, begun_by, begun, resumed, IsStep}
 use Rattle.mbe_grammar.specs.Places.{entry, position_of}
 use Rattle.mbe_grammar.specs.Positions.{Position, takes}
 use Rattle.mbe_grammar.specs.Running.{answer_at, state_at, frame_of, room_of, waiting_room, left_in, frames_of, HasRoom, Extends, waiting_at, begun_at}
@@ -36,7 +36,7 @@ module _ (noting : Bool) (looks : ℕ → Position → Glance) (rules : List Rul
       )
 
   pub pops : (trees : Forest) (old new : List Entry) (here there : ℕ) (now : State) (ends : Bool) → now ≡ state.Answered ends → (it : Frame) (before frames : List Frame) → before ≡ it ∷ frames
-      → (next : State) → state_at (position_of trees new there) next ≡ resumed (frame_of trees old it) (answer_at (position_of trees old here) ends) → Extends (left_in old it) new → HasRoom (length old) before
+      → (next : State) → state_at (position_of trees new there) next ≡ resumed looks (frame_of trees old it) (answer_at (position_of trees old here) ends) → Extends (left_in old it) new → HasRoom (length old) before
       → IsStep noting looks rules (state_at (position_of trees old here) now) (frames_of trees old before) (machine.goes (state_at (position_of trees new there) next)) (frames_of trees new frames)
   pops trees old new here there now ends is it before frames was next e x h =
       subst (λ s. IsStep noting looks rules (state_at (position_of trees old here) s) (frames_of trees old before) (machine.goes (state_at (position_of trees new there) next)) (frames_of trees new frames)) (sym is)
@@ -58,63 +58,48 @@ module _ (noting : Bool) (looks : ℕ → Position → Glance) (rules : List Rul
   owns_name true at other = refl
   owns_name false at other = tt
 
-  owns_behind : (second : ℕ) (answer : Option Position) → Owns (begun_behind second answer)
+  owns_behind : (second : ℕ) (answer : Option Position) → Owns (begun_behind looks second answer)
   owns_behind second None = tt
   owns_behind second (Some middle) = tt
 
-  owns_sequence_open : (first second : ℕ) (it : Option Rule) → Owns (begun_sequence_open noting first second from it)
-  owns_sequence_open first second (Some (rule.Unit wanted)) = owns_behind second (takes noting wanted from)
-  owns_sequence_open first second None = tt
-  owns_sequence_open first second (Some rule.Empty) = tt
-  owns_sequence_open first second (Some (rule.Name x)) = tt
-  owns_sequence_open first second (Some (rule.Sequence x y)) = tt
-  owns_sequence_open first second (Some (rule.Choice x y)) = tt
-  owns_sequence_open first second (Some (rule.ZeroOrMore x)) = tt
-  owns_sequence_open first second (Some (rule.Not x)) = tt
+  owns_first : (first second : ℕ) (look : Glance) → Owns (begun_first first second from look)
+  owns_first first second glance.Fails = tt
+  owns_first first second glance.Idles = tt
+  owns_first first second glance.Open = tt
 
-  owns_sequence : (first second : ℕ) (it : Option Rule) (look : Glance) → Owns (begun_sequence noting first second from it look)
-  owns_sequence first second it glance.Fails = tt
-  owns_sequence first second it glance.Idles = tt
-  owns_sequence first second it glance.Open = owns_sequence_open first second it
+  owns_sequence : (first second : ℕ) (it : Option Rule) → Owns (begun_sequence noting looks first second from it)
+  owns_sequence first second (Some (rule.Unit wanted)) = owns_behind second (takes noting wanted from)
+  owns_sequence first second None = owns_first first second (looks first from)
+  owns_sequence first second (Some rule.Empty) = owns_first first second (looks first from)
+  owns_sequence first second (Some (rule.Name x)) = owns_first first second (looks first from)
+  owns_sequence first second (Some (rule.Sequence x y)) = owns_first first second (looks first from)
+  owns_sequence first second (Some (rule.Choice x y)) = owns_first first second (looks first from)
+  owns_sequence first second (Some (rule.ZeroOrMore x)) = owns_first first second (looks first from)
+  owns_sequence first second (Some (rule.Not x)) = owns_first first second (looks first from)
 
-  owns_first : (first other : ℕ) (look : Glance) → Owns (begun_first first other from look)
-  owns_first first other glance.Fails = tt
-  owns_first first other glance.Idles = tt
-  owns_first first other glance.Open = tt
+  owns_try : (first other : ℕ) (look : Glance) → Owns (begun_try first other from look)
+  owns_try first other glance.Fails = tt
+  owns_try first other glance.Idles = tt
+  owns_try first other glance.Open = tt
 
   owns_choice : (first other : ℕ) (look of_other : Glance) → Owns (begun_choice first other from look of_other)
   owns_choice first other glance.Fails of_other = tt
-  owns_choice first other glance.Idles of_other = tt
-  owns_choice first other glance.Open of_other = owns_first first other of_other
+  owns_choice first other glance.Idles of_other = owns_try first other of_other
+  owns_choice first other glance.Open of_other = owns_try first other of_other
 
-  owns_repetition : (at part : ℕ) (look : Glance) → Owns (begun_repetition at part from look)
-  owns_repetition at part glance.Fails = tt
-  owns_repetition at part glance.Idles = tt
-  owns_repetition at part glance.Open = tt
-
-  owns_not : (part : ℕ) (look : Glance) → Owns (begun_not part from look)
-  owns_not part glance.Fails = tt
-  owns_not part glance.Idles = tt
-  owns_not part glance.Open = tt
-
-  owns_open : (at : ℕ) (it : Option Rule) → Owns (begun_open noting looks rules at from it)
-  owns_open at None = tt
-  owns_open at (Some rule.Empty) = tt
-  owns_open at (Some (rule.Unit wanted)) = tt
-  owns_open at (Some (rule.Name other)) = owns_name noting at other
-  owns_open at (Some (rule.Sequence first second)) = owns_sequence first second (slice_get rules first) (looks first from)
-  owns_open at (Some (rule.Choice first other)) = owns_choice first other (looks first from) (looks other from)
-  owns_open at (Some (rule.ZeroOrMore part)) = owns_repetition at part (looks part from)
-  owns_open at (Some (rule.Not part)) = owns_not part (looks part from)
-
-  owns_by : (at : ℕ) (look : Glance) → Owns (begun_by look from (begun_open noting looks rules at from (slice_get rules at)))
-  owns_by at glance.Fails = tt
-  owns_by at glance.Idles = tt
-  owns_by at glance.Open = owns_open at (slice_get rules at)
+  owns_by : (at : ℕ) (it : Option Rule) → Owns (begun_by noting looks rules at from it)
+  owns_by at None = tt
+  owns_by at (Some rule.Empty) = tt
+  owns_by at (Some (rule.Unit wanted)) = tt
+  owns_by at (Some (rule.Name other)) = owns_name noting at other
+  owns_by at (Some (rule.Sequence first second)) = owns_sequence first second (slice_get rules first)
+  owns_by at (Some (rule.Choice first other)) = owns_choice first other (looks first from) (looks other from)
+  owns_by at (Some (rule.ZeroOrMore part)) = tt
+  owns_by at (Some (rule.Not part)) = tt
 
   -- A name begins to wait with the length that the log has before it.
   owns : (at : ℕ) → Owns (begun noting looks rules at from)
-  owns at = owns_by at (looks at from)
+  owns at = owns_by at (slice_get rules at)
 
 own_room : (old new : List Entry) (here there : Position) (it : Waiting) → OwnName (length old) (Some (waiting_at there it)) → (waiting_room (length new) it ≡ length old) ⊎ (waiting_room (length new) it ≡ length new)
 own_room old new here there (waiting.InName since) e = inl e

@@ -176,7 +176,7 @@ module _ (noting : Bool) (rules : List Rule) (good : IsGood rules) where
 
     stops_back : (frames : List Frame) (found : Option Position) → Stops (machine.answered found) frames
     stops_back [] found = (0, found, refl)
-    stops_back (frame ∷ frames) found = let it = stops_at frames (stops_back frames) (resumed frame found) in (suc it.0, it.1, it.2)
+    stops_back (frame ∷ frames) found = let it = stops_at frames (stops_back frames) (resumed looks frame found) in (suc it.0, it.1, it.2)
 
     -- The machine stops in any state.
     pub stops : (at : State) (frames : List Frame) → Stops at frames

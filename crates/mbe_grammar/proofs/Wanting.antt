@@ -12,7 +12,7 @@ use Rattle.tt.specs.Forest.{Forest}
 use Rattle.mbe_grammar.specs.declared.entry.Entry.{Entry}
 use Rattle.mbe_grammar.specs.declared.trying.Wanted.{Wanted}
 use Rattle.mbe_grammar.specs.Known.{glance_at}
-use Rattle.mbe_grammar.specs.Machine.{awaited, begun_behind, begun_sequence_open, begun_open, begun, IsStep}
+use Rattle.mbe_grammar.specs.Machine.{awaited, begun_behind, begun_sequence, begun_by, begun, IsStep}
 use Rattle.mbe_grammar.specs.Machine as machine
 use Rattle.mbe_grammar.specs.Parses.{Parses}
 use Rattle.mbe_grammar.specs.Positions.{Position, takes}
@@ -161,12 +161,12 @@ module _ (rules : List Rule) where
           here unit (inr (same, listed)) = listed
 
   -- How many negations wait after an expression begins.
-  behind_none : (second : ℕ) (answer : Option Position) (frames : List machine.Frame) → negations (awaited (begun_behind second answer).waiting frames) ≡ negations frames
+  behind_none : (second : ℕ) (answer : Option Position) (frames : List machine.Frame) → negations (awaited (begun_behind (glance_at []) second answer).waiting frames) ≡ negations frames
   behind_none second None frames = refl
   behind_none second (Some middle) frames = refl
 
   sequence_none : (first second : ℕ) (from : Position) (it : Option Rule) (frames : List machine.Frame)
-      → negations (awaited (begun_sequence_open false first second from it).waiting frames) ≡ negations frames
+      → negations (awaited (begun_sequence false (glance_at []) first second from it).waiting frames) ≡ negations frames
   sequence_none first second from (Some (rule.Unit wanted)) frames = behind_none second (takes false wanted from) frames
   sequence_none first second from None frames = refl
   sequence_none first second from (Some rule.Empty) frames = refl
@@ -177,7 +177,7 @@ module _ (rules : List Rule) where
   sequence_none first second from (Some (rule.Not x)) frames = refl
 
   begun_more : (at : ℕ) (from : Position) (it : Option Rule) (frames : List machine.Frame)
-      → negations (awaited (begun_open false (glance_at []) rules at from it).waiting frames) ≡ more_negations it (negations frames)
+      → negations (awaited (begun_by false (glance_at []) rules at from it).waiting frames) ≡ more_negations it (negations frames)
   begun_more at from None frames = refl
   begun_more at from (Some rule.Empty) frames = refl
   begun_more at from (Some (rule.Unit wanted)) frames = refl

@@ -5,7 +5,7 @@ use Rattle.mbe_grammar.specs.declared.rule.Rule.{Rule}
 use Rattle.mbe_grammar.specs.declared.rule.Rule.TheVariants as rule
 use Rattle.mbe_grammar.specs.declared.test.Test.{Test}
 use Rattle.mbe_grammar.specs.Known.{glance_at}
-use Rattle.mbe_grammar.specs.Machine.{Frame, State, Begun, awaited, begun_behind, begun_sequence_open, begun_open, begun, resumed, IsStep}
+use Rattle.mbe_grammar.specs.Machine.{Frame, State, Begun, awaited, begun_behind, begun_sequence, begun_by, begun, resumed, IsStep}
 use Rattle.mbe_grammar.specs.Machine as machine
 use Rattle.mbe_grammar.specs.Parses.{Holds, Parses}
 use Rattle.mbe_grammar.specs.Positions.{Position, takes}
@@ -24,7 +24,7 @@ module _ (rules : List Rule) (unit passed : ℕ) where
   -- the frames try the unit there after an answer
   abbrev pub WaitsToTry : List Frame → (found : Option Position) → Type 0
   WaitsToTry [] found = ⊥
-  WaitsToTry (frame ∷ frames) found = TriesFrom (resumed frame found) frames (WaitsToTry frames)
+  WaitsToTry (frame ∷ frames) found = TriesFrom (resumed (glance_at []) frame found) frames (WaitsToTry frames)
 
   -- the rest of a run tries the unit there
   abbrev pub WillTry : State → List Frame → Type 0
@@ -76,7 +76,7 @@ module _ (rules : List Rule) (unit passed : ℕ) where
     -- A sequence tries what is tried when its first part is read.
     module _ (at first second : ℕ) (from : Position) where
       abbrev Begins : Option Rule → Type 0
-      Begins it = Goes (begun_sequence_open false first second from it)
+      Begins it = Goes (begun_sequence false (glance_at []) first second from it)
 
       abbrev Sequence : Type 0
       Sequence = Whole at (Some (rule.Sequence first second)) from
@@ -98,22 +98,22 @@ module _ (rules : List Rule) (unit passed : ℕ) where
       within_join (inr (Some middle, p, inr (answer, q, w))) = inr (answer, inr (middle, p, q), w)
 
       -- the second part is next, after an answer of the first
-      behind_split : Within → ((negations frames ≡ 0) × Tries rules first from unit passed) ⊎ ((answer : Option Position) × Parses false rules first from answer × Goes (begun_behind second answer))
+      behind_split : Within → ((negations frames ≡ 0) × Tries rules first from unit passed) ⊎ ((answer : Option Position) × Parses false rules first from answer × Goes (begun_behind (glance_at []) second answer))
       behind_split (inl h) = inl h
       behind_split (inr (None, p, w)) = inr (None, p, w)
       behind_split (inr (Some middle, p, w)) = inr (Some middle, p, w)
 
-      behind_join : (answer : Option Position) → Parses false rules first from answer → Goes (begun_behind second answer) → Within
+      behind_join : (answer : Option Position) → Parses false rules first from answer → Goes (begun_behind (glance_at []) second answer) → Within
       behind_join None p w = inr (None, p, w)
       behind_join (Some middle) p w = inr (Some middle, p, w)
 
-      unit_split : (wanted : Test) → slice_get rules first ≡ Some (rule.Unit wanted) → Within → Now (Some first) from ⊎ Goes (begun_behind second (takes false wanted from))
+      unit_split : (wanted : Test) → slice_get rules first ≡ Some (rule.Unit wanted) → Within → Now (Some first) from ⊎ Goes (begun_behind (glance_at []) second (takes false wanted from))
       unit_split wanted e w = by (behind_split w)
         where
-          by : ((negations frames ≡ 0) × Tries rules first from unit passed) ⊎ ((answer : Option Position) × Parses false rules first from answer × Goes (begun_behind second answer))
-              → Now (Some first) from ⊎ Goes (begun_behind second (takes false wanted from))
+          by : ((negations frames ≡ 0) × Tries rules first from unit passed) ⊎ ((answer : Option Position) × Parses false rules first from answer × Goes (begun_behind (glance_at []) second answer))
+              → Now (Some first) from ⊎ Goes (begun_behind (glance_at []) second (takes false wanted from))
           by (inl (none, t)) = let it = unit_tried first from wanted e t in inl (none, ap Some (sym it.0), it.1)
-          by (inr (answer, p, g)) = inr (subst (λ a. Goes (begun_behind second a)) (unit_answer first from answer wanted e p) g)
+          by (inr (answer, p, g)) = inr (subst (λ a. Goes (begun_behind (glance_at []) second a)) (unit_answer first from answer wanted e p) g)
 
       open_split : (it : Option Rule) → slice_get rules first ≡ it → Sequence → Now (tried_first first it) from ⊎ Begins it
       open_split (Some (rule.Unit wanted)) e h = unit_split wanted e (within_split h)
@@ -147,7 +147,7 @@ module _ (rules : List Rule) (unit passed : ℕ) where
       open_now (Some (rule.Not x)) e n = absurd (cc (n.1))
 
     abbrev Opens : (at : ℕ) (from : Position) → Option Rule → Type 0
-    Opens at from it = Goes (begun_open false (glance_at []) rules at from it)
+    Opens at from it = Goes (begun_by false (glance_at []) rules at from it)
 
     split_by : (at : ℕ) (from : Position) (it : Option Rule) → Whole at it from → Now (tried_by rules at it) from ⊎ Opens at from it
     split_by at from None (inl h) = absurd h.1
@@ -231,7 +231,7 @@ module _ (rules : List Rule) (unit passed : ℕ) where
           inr (after_as (begun false (glance_at []) rules at from).state to (awaited (begun false (glance_at []) rules at from).waiting before) after same s.1 g)
   step_split (machine.answered found) [] to after s w = absurd w
   step_split (machine.answered found) (frame ∷ before) to after s w =
-      let same : resumed frame found ≡ to = cc (s.0) in inr (after_as (resumed frame found) to before after same s.1 w)
+      let same : resumed (glance_at []) frame found ≡ to = cc (s.0) in inr (after_as (resumed (glance_at []) frame found) to before after same s.1 w)
 
   -- What the step tries, the run tries.
   pub now_tried : (now : State) (before : List Frame) → TriesNow now before → WillTry now before
@@ -247,7 +247,7 @@ module _ (rules : List Rule) (unit passed : ℕ) where
       (before_as (begun false (glance_at []) rules at from).state to (awaited (begun false (glance_at []) rules at from).waiting before) after same s.1 w))
   step_join (machine.answered found) [] to after s w = absurd (cc s)
   step_join (machine.answered found) (frame ∷ before) to after s w =
-      let same : resumed frame found ≡ to = cc (s.0) in before_as (resumed frame found) to before after same s.1 w
+      let same : resumed (glance_at []) frame found ≡ to = cc (s.0) in before_as (resumed (glance_at []) frame found) to before after same s.1 w
 
   -- Nothing is tried when the machine stops.
   pub last_tries : (now : State) (before : List Frame) (found : Option Position) (after : List Frame) → IsStep false (glance_at []) rules now before (machine.ends found) after

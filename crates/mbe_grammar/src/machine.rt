@@ -8,7 +8,7 @@ ghost use Rattle.mbe_grammar.specs.Places.{position_of, trees_in, IsDecoded};
 ghost use Rattle.mbe_grammar.specs.Positions.{closed};
 ghost use Rattle.mbe_grammar.specs.Running.{answer_at, state_at, kept_at, frame_of, room_of, waiting_room, left_in, frames_of, HasRoom, Extends, waiting_at, next_at};
 
-use crate::begin::begin;
+use crate::begin::{begin, enter};
 use crate::entry::Entry;
 use crate::table::Table;
 use crate::units::Units;
@@ -140,6 +140,7 @@ fn close<'t>(since: usize, log: &mut Vec<Entry<'t>>) -> Result<(), AllocError>
 // Returns what is next after an answer to a waiting frame.
 #[inline(always)]
 fn resume<'t>(
+    table: Table<'_>,
     frame: Frame,
     ends: bool,
     units: &mut Units<'t>,
@@ -148,7 +149,7 @@ fn resume<'t>(
 ) -> Result<State, AllocError>
     requires decoded { IsDecoded units.now here.now }
     requires room { room_of (length log.now.items) frame ≤ length log.now.items }
-    ensures state { IfOk result (λ state. state_at (position_of (trees_in units.old) log.new.items here.new) state ≡ resumed (frame_of (trees_in units.old) log.old.items frame) (answer_at (position_of (trees_in units.old) log.old.items here.old) ends)) }
+    ensures state { IfOk result (λ state. state_at (position_of (trees_in units.old) log.new.items here.new) state ≡ resumed (glance_at table.entry.known.now) (frame_of (trees_in units.old) log.old.items frame) (answer_at (position_of (trees_in units.old) log.old.items here.old) ends)) }
     ensures log { IfOk result (λ _. Extends (left_in log.old.items frame) log.new.items) }
     ensures same { trees_in units.new ≡ trees_in units.old }
     ensures decoded { IfOk result (λ _. IsDecoded units.new here.new) }
@@ -160,17 +161,17 @@ fn resume<'t>(
             State::Answered(true)
         }
         (Frame::InSequence(_), false) => State::Answered(false),
-        (Frame::InSequence(second), true) => State::Reading(second),
+        (Frame::InSequence(second), true) => enter(table, second, units, *here, log),
         (Frame::InChoice(other, kept), false) => {
             come_back(kept, units, here, log)?;
-            State::Reading(other)
+            enter(table, other, units, *here, log)
         }
         (Frame::InChoice(_, _), true) => State::Answered(true),
         (Frame::InRepetition(_, kept), false) => {
             come_back(kept, units, here, log)?;
             State::Answered(true)
         }
-        (Frame::InRepetition(at, _), true) => State::Reading(at),
+        (Frame::InRepetition(at, _), true) => enter(table, at, units, *here, log),
         (Frame::InNot(kept), false) => {
             come_back(kept, units, here, log)?;
             State::Answered(true)
@@ -210,7 +211,7 @@ pub(crate) fn step<'t>(
         }
         State::Answered(ends) => match frames.pop() {
             None => Ok(Next::Ends(ends)),
-            Some(frame) => Ok(Next::Goes(resume(frame, ends, units, here, log)?)),
+            Some(frame) => Ok(Next::Goes(resume(table, frame, ends, units, here, log)?)),
         },
     }
 }
@@ -233,7 +234,7 @@ pub(crate) fn parse<'t>(
     frames.truncate(0);
     units.reach(0)?;
     let mut here = 0;
-    let mut state = State::Reading(at);
+    let mut state = enter(table, at, units, here, log);
     loop {
         match step(noting, table, state, units, &mut here, log, frames)? {
             Next::Goes(next) => state = next,

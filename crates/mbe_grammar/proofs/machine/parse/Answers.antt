@@ -6,7 +6,7 @@ use Rattle.mbe_grammar.specs.Machine.{IsStep}
 use Rattle.mbe_grammar.specs.Machine as machine
 use Rattle.mbe_grammar.specs.Places.{position_of, trees_in}
 use Rattle.mbe_grammar.specs.Running.{state_at, frames_of, HasRoom}
-use Rattle.mbe_grammar.proofs.Reaching.{Reaches, reaches_first, reaches_on, fewer_left}
+use Rattle.mbe_grammar.proofs.Reaching.{Reaches, reaches_entered, reaches_on, fewer_left}
 use Rattle.mbe_grammar.proofs.machine.parse.Goals as goal
 
 pub loop-next-init : goal.loop-next-init
@@ -15,9 +15,12 @@ loop-next-init c =
     let trees = trees_in c.reach.new.self in
     let empty : c.truncate.new.self.items ≡ [] = search rules in
     let none : reverse c.truncate.new.self.items ≡ [] = ap reverse empty in
-    let from = position_of trees c.args.log.now.items 0 in record {
-      reaches = subst (λ fs. Reaches c.args.noting c.args.table.known.now c.args.table.rules.now c.args.at from (machine.reading c.args.at from) (frames_of trees c.args.log.now.items fs)) (sym none)
-          (reaches_first c.args.noting c.args.table.known.now c.args.table.rules.now good c.args.table.right c.args.at from);
+    let from = position_of trees c.args.log.now.items 0 in
+    let entered : state_at from c.enter-state.result ≡ machine.entered (glance_at c.args.table.known.now) c.args.at from = c.enter-state.ensures in
+    record {
+      reaches = subst (λ fs. Reaches c.args.noting c.args.table.known.now c.args.table.rules.now c.args.at from (state_at from c.enter-state.result) (frames_of trees c.args.log.now.items fs)) (sym none)
+          (subst (λ s. Reaches c.args.noting c.args.table.known.now c.args.table.rules.now c.args.at from s []) (sym entered)
+          (reaches_entered c.args.noting c.args.table.known.now c.args.table.rules.now good c.args.table.right c.args.at from));
       room = subst (HasRoom (length c.args.log.now.items)) (sym none) tt;
       same = refl;
       decoded = search rules;
