@@ -7,15 +7,6 @@ use expand_text::{Finding, MacroFault};
 use std::alloc::{AllocError, Global};
 use syntax_diagnostic::{Diagnostic, Level, PlacedNote, SourceFile, Style, diagnostic_text};
 
-/// What a report is about, a text of a name with a limit of nested expansions, and the style of the report.
-#[derive(Clone, Copy)]
-pub struct Subject<'a> {
-    pub style: Style,
-    pub name: &'a str,
-    pub text: &'a str,
-    pub limit: usize,
-}
-
 // Returns the level of a fault.
 fn level_of(fault: &MacroFault) -> Level
     ensures { result ≡ level_of_fault fault.now }
@@ -93,21 +84,24 @@ fn one_diagnostic(
     diagnostic_text(alloc, style, &diagnostic)
 }
 
-/// Returns the diagnostics of all findings in a text, in order, with an empty line behind each.
+/// Returns the diagnostics of all findings in a text of that name, in order, with an empty line behind each.
 pub fn diagnostics_text(
     alloc: Global,
-    subject: Subject<'_>,
+    style: Style,
+    name: &str,
+    text: &str,
+    limit: usize,
     findings: &[Finding],
 ) -> Result<String, AllocError>
-    ensures { IfOk result (λ all. AreDiagnosticTexts subject.style subject.name.now subject.text.now subject.limit findings.now (string_bytes all)) }
+    ensures { IfOk result (λ written. AreDiagnosticTexts style name.now text.now limit findings.now (string_bytes written)) }
 {
     let mut all = String::new(alloc);
     if findings.is_empty() {
         return Ok(all);
     }
-    let source = SourceFile::new(alloc, subject.name, subject.text)?;
+    let source = SourceFile::new(alloc, name, text)?;
     for finding in findings {
-        let written = one_diagnostic(alloc, subject.style, &source, subject.limit, finding)?;
+        let written = one_diagnostic(alloc, style, &source, limit, finding)?;
         all.push_str(written.as_str())?;
         all.push_str("\n")?;
     }

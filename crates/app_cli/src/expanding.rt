@@ -1,6 +1,6 @@
 //! The macros of texts: the expansions of calls, and the faults.
 use crate::counts::Counts;
-use crate::diagnostics::{Subject, diagnostics_text};
+use crate::diagnostics::diagnostics_text;
 use crate::dropping::{Drops, without_definitions};
 use crate::failure::Failure;
 use crate::grammar_error::grammar_failure;
@@ -31,13 +31,21 @@ struct Outcome {
     counts: Counts,
 }
 
-// Returns the failure of a text that cannot be expanded.
-fn refused(rt: &HostRuntime, subject: Subject<'_>, error: ExpandTextError) -> Failure {
+// Returns the failure of a text of that name that cannot be expanded.
+fn refused(
+    rt: &HostRuntime,
+    name: &str,
+    text: &str,
+    limit: usize,
+    error: ExpandTextError,
+) -> Failure {
+    let alloc = rt.alloc();
+    let style = style_of(rt);
     match error {
-        ExpandTextError::Text(fault) => syntax_failure(rt, subject.name, subject.text, fault),
+        ExpandTextError::Text(fault) => syntax_failure(rt, name, text, fault),
         ExpandTextError::Memory => Failure::Memory,
         ExpandTextError::Macro(finding) => {
-            Failure::from_text(diagnostics_text(rt.alloc(), subject, &[finding]))
+            Failure::from_text(diagnostics_text(alloc, style, name, text, limit, &[finding]))
         }
     }
 }
@@ -76,21 +84,16 @@ fn expanded(
         None => text,
     };
     let options = options.for_text(source);
-    let subject = Subject {
-        style: style_of(rt),
-        name,
-        text,
-        limit: options.limit,
-    };
+    let limit = options.limit;
     let found = match expand_leniently(rt.alloc(), source, options) {
         Ok(found) => found,
-        Err(error) => return Err(refused(rt, subject, error)),
+        Err(error) => return Err(refused(rt, name, text, limit, error)),
     };
     let Report {
         output,
         diagnostics,
         counts,
-    } = report_on(rt.alloc(), subject, found)?;
+    } = report_on(rt.alloc(), style_of(rt), name, text, limit, found)?;
     let syntax = if checks {
         syntax_counts(rt, name, text, source)?
     } else {

@@ -3,7 +3,7 @@ ghost use Rattle.std.specs.Prelude.{◌≡◌, IfOk, string_bytes, take};
 ghost use Rattle.app_cli.specs.Reports.{most_shown, AreShown, IsMoreText, IsPlainText, IsReport, IsSummary};
 
 use crate::counts::{Counts, counted};
-use crate::diagnostics::{Subject, diagnostics_text};
+use crate::diagnostics::diagnostics_text;
 use expand_text::{Expanded, Finding};
 use std::alloc::{AllocError, Global};
 use syntax_diagnostic::{Diagnostic, Level, Style, diagnostic_text};
@@ -46,30 +46,36 @@ fn more_text(alloc: Global, style: Style, more: usize) -> Result<String, AllocEr
     Ok(text)
 }
 
-// Returns the diagnostics of the first findings in a text, and how many more there are.
+// Returns the diagnostics of the first findings in a text of that name, and how many more there are.
 fn shown_text(
     alloc: Global,
-    subject: Subject<'_>,
+    style: Style,
+    name: &str,
+    text: &str,
+    limit: usize,
     findings: &[Finding],
 ) -> Result<String, AllocError>
-    ensures { IfOk result (λ written. AreShown subject.style subject.name.now subject.text.now subject.limit findings.now (string_bytes written)) }
+    ensures { IfOk result (λ written. AreShown style name.now text.now limit findings.now (string_bytes written)) }
 {
     let shown = first_shown(findings);
-    let mut written = diagnostics_text(alloc, subject, shown)?;
-    let more = more_text(
-        alloc,
-        subject.style,
-        findings.len().saturating_sub(MOST_SHOWN),
-    )?;
+    let mut written = diagnostics_text(alloc, style, name, text, limit, shown)?;
+    let more = more_text(alloc, style, findings.len().saturating_sub(MOST_SHOWN))?;
     written.push_str(more.as_str())?;
     Ok(written)
 }
 
-/// Returns the report on what the library found in a text.
-pub fn report_on(alloc: Global, subject: Subject<'_>, found: Expanded) -> Result<Report, AllocError>
-    ensures { IfOk result (IsReport subject.style subject.name.now subject.text.now subject.limit found) }
+/// Returns the report on what the library found in a text of that name, with `limit` as the limit of nested expansions.
+pub fn report_on(
+    alloc: Global,
+    style: Style,
+    name: &str,
+    text: &str,
+    limit: usize,
+    found: Expanded,
+) -> Result<Report, AllocError>
+    ensures { IfOk result (IsReport style name.now text.now limit found) }
 {
-    let diagnostics = shown_text(alloc, subject, &found.findings)?;
+    let diagnostics = shown_text(alloc, style, name, text, limit, &found.findings)?;
     let counts = Counts::of(&found.findings);
     let output = if counts.has_errors() {
         None

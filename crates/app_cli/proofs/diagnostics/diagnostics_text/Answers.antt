@@ -6,10 +6,10 @@ use Rattle.app_cli.specs.Reports.{AreDiagnosticTexts, IsDiagnosticText}
 
 pub loop-finding-preserved : goal.loop-finding-preserved
 loop-finding-preserved c =
-    let style = c.args.subject.style in
-    let name = c.args.subject.name.now in
-    let text = c.args.subject.text.now in
-    let limit = c.args.subject.limit in
+    let style = c.args.style in
+    let name = c.args.name.now in
+    let text = c.args.text.now in
+    let limit = c.args.limit in
     let findings = c.args.findings.now in
     let index = c.loop-finding.finding-index in
     let finding = c.finding-item.result in
@@ -34,5 +34,5 @@ returns c =
     let findings = c.args.findings.now in
     let index = c.loop-finding.finding-index in
     let all : drop index findings ≡ [] = drop_all index findings c.loop-finding-test.false in
-    subst (AreDiagnosticTexts c.args.subject.style c.args.subject.name.now c.args.subject.text.now c.args.subject.limit findings) (append-nil (string_bytes c.loop-finding.all))
-    (c.loop-finding.invariant.written [] (subst (λ its. AreDiagnosticTexts c.args.subject.style c.args.subject.name.now c.args.subject.text.now c.args.subject.limit its []) (sym all) refl))
+    subst (AreDiagnosticTexts c.args.style c.args.name.now c.args.text.now c.args.limit findings) (append-nil (string_bytes c.loop-finding.all))
+    (c.loop-finding.invariant.written [] (subst (λ its. AreDiagnosticTexts c.args.style c.args.name.now c.args.text.now c.args.limit its []) (sym all) refl))
