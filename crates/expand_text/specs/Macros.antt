@@ -86,10 +86,13 @@ IsDefined is_open it trees before after =
     ⊎ ((at : ℕ) × (fault : MacroFault) × IsDefinitionFault it trees at fault
     × (after ≡ with_macro (macro_of it wrong.Left None) (with_finding (found_in it at fault) before)))
 
--- the same for a definition at a position: a macro that is built into the compiler has no arms; others have the root's word for the root of
--- the crate
+-- a macro that is built into the compiler is defined: it has no arms
+abbrev pub IsBuiltIn : Definition → (before after : Context) → Type 0
+IsBuiltIn it before after = after ≡ with_macro (macro_of it wrong.BuiltIn None) before
+
+-- such a macro is defined, or one of arms with the root's word for the root of the crate
 abbrev pub IsDefinedAt : (is_built_in : Bool) → (root : List ℕ) → (is_open : Bool) → Definition → (before after : Context) → Type 0
-IsDefinedAt true root is_open it before after = after ≡ with_macro (macro_of it wrong.BuiltIn None) before
+IsDefinedAt true root is_open it before after = IsBuiltIn it before after
 IsDefinedAt false root is_open it before after = IsDefined is_open it (rooted root it.arms) before after
 
 -- a definition is read if macros of its name are

@@ -3,9 +3,8 @@ ghost use Rattle.std.specs.Prelude.{◌≡◌, ◌&&◌, List, None, Some, is_so
 ghost use Rattle.tt.specs.Iters.{rest_of};
 ghost use Rattle.expand_text.specs.Defining.{IsRules};
 ghost use Rattle.expand_items.specs.Items.{definition_of};
-ghost use Rattle.expand_text.specs.Contexts.{Learns, config_of, with_macro};
-ghost use Rattle.expand_text.specs.Macros.{IsDefined, IsRead, left_by, macro_of};
-ghost use Rattle.expand_text.specs.declared.fault.MacroFault.TheVariants.{BuiltIn};
+ghost use Rattle.expand_text.specs.Contexts.{Learns, config_of};
+ghost use Rattle.expand_text.specs.Macros.{IsBuiltIn, IsDefined, IsRead, left_by};
 ghost use Rattle.expand_text.specs.Roots.{rooted};
 ghost use Rattle.expand_text.specs.Scopes.{Macro as MacroOf, AreReady, last_named};
 
@@ -120,10 +119,11 @@ fn define(
 
 // Adds a macro that is built into the compiler to the scope: it has no rules.
 fn define_built_in(context: &mut Context, definition: &Definition<'_>) -> Result<(), OutOfMemory>
-    ensures { OnOk result (Learns context.old context.new (λ before after. after ≡ with_macro (macro_of (definition_of definition.now) BuiltIn None) before)) }
+    ensures { OnOk result (Learns context.old context.new (IsBuiltIn (definition_of definition.now))) }
 {
+    let name = definition.name.sym.clone()?;
     context.scope.define(Macro {
-        name: definition.name.sym.clone()?,
+        name,
         defined_at: start_of(definition.name.span),
         left: MacroFault::BuiltIn,
         rules: None,
@@ -144,8 +144,9 @@ pub(crate) fn read_definition(
         return Ok(());
     }
     if position.is_built_in() {
-        define_built_in(context, definition)
+        define_built_in(context, definition)?;
     } else {
-        define(config, context, position.is_open(), definition)
+        define(config, context, position.is_open(), definition)?;
     }
+    Ok(())
 }
