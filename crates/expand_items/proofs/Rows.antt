@@ -171,10 +171,10 @@ ended_statements = refl
 
 -- Braces in the angle brackets of a header end nothing: `impl A<{}>`, `impl A<{}, {}>`, `fn f<F: A -> {}>`; behind `<>`, in an expression, or
 -- behind `;` they end what has begun.
-behind_sign : (char : ℕ) → Position → Position
+abbrev behind_sign : (char : ℕ) → Position → Position
 behind_sign char it = behind_leaf false (punct char Alone) end it
 
-in_angles : List ℕ → Siblings → Position
+abbrev in_angles : List ℕ → Siblings → Position
 in_angles text its = behind_sign 60 (behind_word (codes "A") (behind_word text (begun its)))
 
 generic_braces : held_behind (behind_sign 62 (behind_subtree Brace (in_angles (codes "impl") Items))) ≡ Items
