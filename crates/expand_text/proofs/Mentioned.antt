@@ -17,7 +17,7 @@ use Rattle.expand_items.specs.Cfg.{Known}
 use Rattle.expand_items.specs.Conditions.{behind_leaf_under, is_open_condition}
 use Rattle.expand_items.specs.Definitions.{Defined, AreDefinitions, Unless, defined_by, passed_by}
 use Rattle.expand_items.specs.Items.{Item, defines, calls, inactive, other}
-use Rattle.expand_items.specs.Positions.{begun, behind, behind_attribute_sign, behind_subtree, first_in, is_at_attribute_of, is_bracket}
+use Rattle.expand_items.specs.Positions.{angles_behind, begun, behind, behind_attribute_sign, behind_subtree, first_in, is_at_attribute_of, is_bracket}
 use Rattle.expand_items.specs.declared.position.Position.{Position}
 use Rattle.expand_items.specs.declared.position.Siblings.TheVariants.{Items}
 use Rattle.expand_text.specs.Contexts.{Config, Context, new_context}
@@ -99,7 +99,7 @@ leaf_unexported known (leaf_of.Punct it) rest position none lacks = by (it.char 
     is_open : Bool
     is_open = is_open_condition known (leaf_of.Punct it) rest
 
-    by : (a b : Bool) → (cond a (behind_attribute_sign is_open rest position) (cond b position (behind (it.char == 59) position))).is_exported ≡ false
+    by : (a b : Bool) → (cond a (behind_attribute_sign is_open rest position) (cond b position (record (behind (it.char == 59) position) { angles = angles_behind it.char position }))).is_exported ≡ false
     by true b = ap₂ (λ x y. x || y) none (no_export rest lacks)
     by false true = none
     by false false = refl
@@ -107,7 +107,7 @@ leaf_unexported known (leaf_of.Punct it) rest position none lacks = by (it.char 
 subtree_unexported : (kind : DelimiterKind) (position : Position) → position.is_exported ≡ false → (behind_subtree kind position).is_exported ≡ false
 subtree_unexported kind position none = by position.is_attribute
   where
-    by : (b : Bool) → (cond b (record position { is_attribute = false }) (record (behind (is_brace kind) position) { is_used = position.is_used && is_parenthesis kind })).is_exported ≡ false
+    by : (b : Bool) → (cond b (record position { is_attribute = false }) (record (behind (is_brace kind && (position.angles == 0)) position) { is_used = position.is_used && is_parenthesis kind })).is_exported ≡ false
     by true = none
     by false = refl
 

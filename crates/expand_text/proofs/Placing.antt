@@ -2,7 +2,7 @@
 use Rattle.std.proofs.Common.{◌≡◌, ◌<◌, ℕ, zero, suc, Bool, true, false, Some, None, Option, inl, inr, refl, ap, ap₂, sym, subst, ◌∙◌, arith}
 use Rattle.std.proofs.lemmas.Bool.{false≢true}
 use Rattle.std.specs.Prelude.{is_some, option_map}
-use Rattle.tt.specs.Building.{BuilderState, Stack, append, bottom, built, empty_builder}
+use Rattle.tt.specs.Building.{BuilderState, Stack, lowest, above, append, bottom, built, depth, empty_builder, IsAbove}
 use Rattle.tt.specs.Forest.{Forest}
 use Rattle.tt.specs.Stored.{IsWithinLimits}
 use Rattle.tt.specs.Types.Delimiter.{Delimiter}
@@ -81,6 +81,11 @@ pub built_alone : (top : Delimiter) (first last : BuilderState) (trees : Forest)
     → built last ≡ record { delimiter = top; children = trees }
 built_alone top first last trees begun same added =
     ap₂ (λ d s. record { delimiter = d; children = bottom s }) (same ∙ ap (λ b. b.top) begun) (added ∙ ap (λ b. append trees b.stack) begun)
+
+-- Nothing is open in it.
+pub none_open : (stack : Stack) → depth stack ≡ 0 → IsAbove stack → ⊥
+none_open (lowest trees) none is = is
+none_open (above outer kind open_span trees) none is = absurd (cc none)
 
 -- The text of the trees in place is that of a call.
 pub call_text : (it : CallSite) (trees shown : Forest) (begin : ℕ) (text : Written) → PutIn true it trees shown → IsTextOf it.delimiter shown begin text → IsCallText it trees begin text

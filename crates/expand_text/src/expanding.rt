@@ -1,6 +1,6 @@
 //! Expanding trees into a builder.
 ghost use Rattle.std.specs.Prelude.{◌≡◌, ◌<◌, IfOk, OnOk};
-ghost use Rattle.tt.specs.Building.{depth};
+ghost use Rattle.tt.specs.Building.{depth, IsOpen};
 ghost use Rattle.tt.specs.Iters.{rest_of};
 ghost use Rattle.expand_text.specs.Expanding.{AreExpanded, IsApart, IsPassed, IsPlaced};
 ghost use Rattle.expand_text.specs.Outcomes.{brackets_of};
@@ -23,7 +23,8 @@ fn expand_apart(
     limit: usize,
     invocation: &Invocation<'_>,
 ) -> Result<TopSubtreeBuilder, OutOfMemory>
-    ensures { IfOk result (λ apart. Learns context.old context.new (IsApart (config_of config.now) limit invocation.now apart)) }
+    ensures closed { IfOk result (λ apart. IsOpen apart → ⊥) }
+    ensures apart { IfOk result (λ apart. Learns context.old context.new (IsApart (config_of config.now) limit invocation.now apart)) }
 {
     let delimiter = invocation.delimiter;
     let position = invocation.position;

@@ -19,7 +19,7 @@ use Rattle.expand_items.specs.Attributes.{conditions_of}
 use Rattle.mbe_pattern.proofs.Passing.{front_joined}
 use Rattle.mbe_pattern.specs.Units.{front_trees}
 use Rattle.tt_base.proofs.Appending.{append-join}
-use Rattle.expand_text.proofs.Placing.{added_under, built_alone, is_too_large, kept_under, refused}
+use Rattle.expand_text.proofs.Placing.{added_under, built_alone, is_too_large, kept_under, none_open, refused}
 use Rattle.expand_text.specs.Outcomes.{brackets_of, nothing, trees_left}
 use Rattle.expand_text.specs.Walks.{body_of, Level, level_of, levels_of, site_of, found_by, closes_of, first_leaf, first_subtree, first_stay, Ends, Leads, IsNext, IsWithin, Steps}
 use Rattle.expand_text.proofs.Finishing.{IsGoing, begins, ends_so, goes_on, goes_into, goes_out, goes_past, finished_leaf, finished_stay}
@@ -287,8 +287,12 @@ pass_call-returns-in_ok-extend_with_tt-2-clause-passed t c before is =
       record { inside = now; outcome = put.outcome; expands_to = put.expands_to; passed = inr (fault, misplaced, refl, added) },
     )
 
-pub expand_apart-returns : goal.expand_apart-returns
-expand_apart-returns t c before is =
+pub expand_apart-returns-clause-closed : goal.expand_apart-returns-clause-closed
+expand_apart-returns-clause-closed t c =
+    none_open c.expand_trees.new.builder.stack (c.in_ok-expand_trees.ensures.open ∙ ap (λ b. depth b.stack) c.in_ok-apart.ensures.ok)
+
+pub expand_apart-returns-clause-apart : goal.expand_apart-returns-clause-apart
+expand_apart-returns-clause-apart t c before is =
     let it = c.args.invocation.now in
     let (after, ready, all) = c.in_ok-expand_trees.ensures.expanded before is in
     let held : Forest = trees_left all.outcome in (
@@ -303,11 +307,11 @@ expand_apart-returns t c before is =
       },
     )
 
-pub expand_invocation-returns-in_ok-expand_apart-clause-placed : goal.expand_invocation-returns-in_ok-expand_apart-clause-placed
-expand_invocation-returns-in_ok-expand_apart-clause-placed t c before is =
+pub expand_invocation-returns-in_default-clause-placed : goal.expand_invocation-returns-in_default-clause-placed
+expand_invocation-returns-in_default-clause-placed t c before is =
     let it = c.args.invocation.now in
     let stack : Stack = c.args.builder.now.stack in
-    let (after, ready, apart) = c.in_ok-expand_apart.ensures before is in
+    let (after, ready, apart) = c.in_ok-expand_apart.ensures.apart before is in
     let none : it.attributes ≡ 0 = search (rules, arith) in
     let bad : brackets_of it.enclosure ≡ None = search rules in
     (after, ready, record { outcome = apart.outcome; expands_to = apart.expands_to; added = refused (site_of it) (trees_left apart.outcome) stack none bad })
@@ -319,7 +323,7 @@ expand_under-returns-in-Err t c = record {
   placed = λ before is.
       let it = c.args.invocation.now in
       let why = c.in-Err.refused.fault in
-      let (after, ready, apart) = c.in_ok-apart.ensures before is in
+      let (after, ready, apart) = c.in_ok-apart.ensures.apart before is in
       let held : Forest = trees_left apart.outcome in
       let past : IsTreeFault (built c.in_ok-apart.apart) why = search rules in
       let no_memory : why ≢ limit.Memory = search rules in (
@@ -336,7 +340,7 @@ expand_under-returns-in-Err t c = record {
 pub expand_under-returns-then-branch-clause-placed : goal.expand_under-returns-then-branch-clause-placed
 expand_under-returns-then-branch-clause-placed t c before is =
     let it = c.args.invocation.now in
-    let (after, ready, apart) = c.in_ok-apart.ensures before is in
+    let (after, ready, apart) = c.in_ok-apart.ensures.apart before is in
     let held : Forest = trees_left apart.outcome in
     let tree : c.in-Ok.tree ≡ tree_of it.delimiter held = c.in-Ok.ensures.ok ∙ apart.whole in
     let trees : trees_of c.token_trees-trees.result ≡ held = c.token_trees-trees.ensures ∙ ap (λ r. r.children) tree in
@@ -351,7 +355,7 @@ expand_under-returns-then-branch-clause-placed t c before is =
 pub expand_under-returns-clause-placed : goal.expand_under-returns-clause-placed
 expand_under-returns-clause-placed t c before is =
     let it = c.args.invocation.now in
-    let (after, ready, apart) = c.in_ok-apart.ensures before is in
+    let (after, ready, apart) = c.in_ok-apart.ensures.apart before is in
     let held : Forest = trees_left apart.outcome in
     let tree : c.in-Ok.tree ≡ tree_of it.delimiter held = c.in-Ok.ensures.ok ∙ apart.whole in
     let trees : trees_of c.token_trees-trees.result ≡ held = c.token_trees-trees.ensures ∙ ap (λ r. r.children) tree in
