@@ -29,10 +29,10 @@ uint32_t tt_text_to_bytes(const uint8_t *text, size_t text_len, uint8_t *out, si
 uint32_t tt_bytes_to_text(const uint8_t *bytes, size_t bytes_len, uint8_t *out, size_t out_len, size_t *written, size_t *at);
 
 /* A Rust text with the calls of its own macros expanded. All else stays byte for byte. Up to 128 expansions may be nested, for which
- * 512 KiB of stack were enough when measured, and $crate becomes crate. A call under #[cfg(..)] stays only if the condition cannot apply
- * to each part of its expansion. A call of a macro whose last definition is under #[cfg(..)] stays if another definition of the name is in
- * scope.
- * Faults: 1 to 44; 81 to 92 but for 84, of definitions; 100 to 107, of calls; and 5 to 9 of either. *at is a byte of the text; 0 for faults
+ * 512 KiB of stack were enough when measured; a call with all that comes of it may write 4,000,000 tokens. $crate becomes crate. A call
+ * under #[cfg(..)] stays only if the condition cannot apply to each part of its expansion. A call of a macro whose last definition is under
+ * #[cfg(..)] stays if another definition of the name is in scope.
+ * Faults: 1 to 44; 81 to 92 but for 84, of definitions; 100 to 108, of calls; and 5 to 9 of either. *at is a byte of the text; 0 for faults
  * 1, 2 and 4, and for 5 to 9 if the text itself exceeds the limit. */
 uint32_t tt_expand_text(const uint8_t *text, size_t text_len, uint8_t *out, size_t out_len, size_t *written, size_t *at);
 
@@ -182,6 +182,8 @@ enum cuvolemin_answer {
     CUVOLEMIN_MADE_TOO_LONG = 106,
     /* The expansion of a call that is no statement is statements. */
     CUVOLEMIN_STATEMENTS = 107,
+    /* Too many tokens would be written for a call with all that comes of it. */
+    CUVOLEMIN_OVER_MAX_TOKENS = 108,
 };
 
 #ifdef __cplusplus

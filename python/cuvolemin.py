@@ -76,6 +76,7 @@ FAULTS = {
     105: ('NotWritable', 'A leaf of the tree cannot be written as a text that reads back.'),
     106: ('MadeTooLong', 'The text would have 4,294,967,295 bytes or more.'),
     107: ('Statements', 'The expansion of a call that is no statement is statements.'),
+    108: ('OverMaxTokens', 'Too many tokens would be written for a call with all that comes of it.'),
 }
 
 NO_ROOM = 2

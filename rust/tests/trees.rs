@@ -200,4 +200,12 @@ fn faults_of_expansions_have_places() {
             at: 25
         })
     );
+    let doubling = "macro_rules! m { ($($x:tt)*) => { m!($($x)* $($x)*) } } m!(a)";
+    assert_eq!(
+        expand(doubling),
+        Err(Error {
+            fault: Fault::OverMaxTokens,
+            at: 34
+        })
+    );
 }

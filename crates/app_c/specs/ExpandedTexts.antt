@@ -9,10 +9,12 @@ use Rattle.expand_text.specs.declared.fault.ExpandTextError.{ExpandTextError}
 use Rattle.expand_text.specs.declared.options.ExpandOptions.{ExpandOptions}
 use Rattle.expand_text.specs.declared.text.Expanded.{Expanded}
 
--- all macros are expanded, at most 128 nested, and no condition is known; `$crate` becomes `crate`, and other calls stay as they are
+-- all macros are expanded, at most 128 nested and with 4,000,000 tokens for a call, and no condition is known; `$crate` becomes `crate`, and
+-- other calls stay as they are
 pub record IsUsual (options : ExpandOptions) : Type 0 where
   pub cfg : known_of options.cfg.now ≡ unknown
   pub limit : options.limit ≡ 128
+  pub max_tokens : options.max_tokens ≡ 4000000
   pub root : options.root.now ≡ codes "crate"
   pub others : options.everywhere ≡ false
   pub all : options.only ≡ None

@@ -169,6 +169,7 @@ macro_fault found.NoMatch = answer.NoMatch
 macro_fault (found.Ambiguous _) = answer.Ambiguous
 macro_fault (found.Expansion error) = transcribe_fault error.fault
 macro_fault found.TooDeep = answer.TooDeep
+macro_fault found.OverMaxTokens = answer.OverMaxTokens
 macro_fault found.NotWritable = answer.NotWritable
 macro_fault found.TooLong = answer.MadeTooLong
 macro_fault found.Statements = answer.Statements

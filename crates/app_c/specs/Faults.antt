@@ -72,3 +72,4 @@ number_of fault.TooDeep = 104
 number_of fault.NotWritable = 105
 number_of fault.MadeTooLong = 106
 number_of fault.Statements = 107
+number_of fault.OverMaxTokens = 108

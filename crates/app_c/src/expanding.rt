@@ -6,7 +6,7 @@ ghost use Rattle.app_c.specs.ExpandedTexts.{IsExpandedText, IsNotExpanded, IsUsu
 use crate::failure::{Failure, expand_text_failure};
 use crate::text::text_in;
 use expand_items::CfgOptions;
-use expand_text::{ExpandOptions, USUAL_LIMIT, expand_text};
+use expand_text::{ExpandOptions, USUAL_LIMIT, USUAL_MAX_TOKENS, expand_text};
 use std::alloc::Global;
 
 // Returns the usual options, if no condition is known.
@@ -16,6 +16,7 @@ fn usual(cfg: &CfgOptions) -> ExpandOptions<'_>
 {
     ExpandOptions {
         limit: USUAL_LIMIT,
+        max_tokens: USUAL_MAX_TOKENS,
         cfg,
         root: "crate",
         everywhere: false,

@@ -237,6 +237,7 @@ fn macro_fault(fault: MacroFault) -> Fault
         MacroFault::Ambiguous(_) => Fault::Ambiguous,
         MacroFault::Expansion(error) => transcribe_fault(error.fault),
         MacroFault::TooDeep => Fault::TooDeep,
+        MacroFault::OverMaxTokens => Fault::OverMaxTokens,
         MacroFault::NotWritable => Fault::NotWritable,
         MacroFault::TooLong => Fault::MadeTooLong,
         MacroFault::Statements => Fault::Statements,

@@ -138,6 +138,8 @@ pub enum Fault {
     MadeTooLong = 106,
     /// The expansion of a call that is no statement is statements.
     Statements = 107,
+    /// Too many tokens would be written for a call with all that comes of it.
+    OverMaxTokens = 108,
 }
 
 impl Fault {

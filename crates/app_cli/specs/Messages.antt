@@ -81,6 +81,7 @@ message name wrong.NoMatch = about (codes "no rule of ") name (codes " matches t
 message name (wrong.Ambiguous arm) = about_rule arm name (codes " matches this in two ways")
 message name (wrong.Expansion error) = transcribe_message name error.arm error.fault
 message name wrong.TooDeep = about (codes "recursion limit reached while expanding ") name []
+message name wrong.OverMaxTokens = about (codes "too many tokens are written while expanding ") name []
 message name wrong.NotWritable = about (codes "the expansion of ") name (codes " cannot be written: this would read back as something else")
 message name wrong.TooLong = about (codes "the expansion of ") name (codes " has 4294967295 bytes or more")
 message name (wrong.TooLarge fault) = size_message name fault

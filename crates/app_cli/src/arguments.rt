@@ -16,6 +16,8 @@ const ONLY: &str = "only";
 
 const LIMIT: &str = "limit";
 
+const MAX_TOKENS: &str = "max-tokens";
+
 const CFG: &str = "cfg";
 
 const CFG_FROM: &str = "cfg-from";
@@ -28,6 +30,9 @@ const SYNTAX: &str = "syntax";
 
 /// The largest limit that the options allow for nested expansions: what the usual stack holds.
 pub const MOST_LIMIT: u64 = 1000;
+
+// The largest limit that the options allow for the tokens that are written for a call: as many as a tree may have.
+const MOST_TOKENS: u64 = 4_294_967_295;
 
 // Returns a command that reads a file.
 fn reads<'a>(
@@ -99,11 +104,19 @@ fn expands<'a>(
         .help(
             "How many expansions may be nested, from 1 to 1000; by default what #![recursion_limit] says, or 128",
         );
+    let max_tokens = Arg::new(alloc, MAX_TOKENS)
+        .long(MAX_TOKENS)
+        .value_name("N")
+        .value_parser(ValueParser::unsigned(1, MOST_TOKENS))
+        .help(
+            "How many tokens may be written for a call with all that comes of it; by default 4000000",
+        );
     reads(alloc, name, about, file)?
         .arg(everywhere)?
         .arg(root)?
         .arg(only)?
         .arg(limit)?
+        .arg(max_tokens)?
         .arg(cfg(alloc))?
         .arg(cfg_from(alloc))
 }
@@ -229,6 +242,11 @@ pub fn only_of<'a>(matches: &ArgMatches<'a>) -> Option<&'a str> {
 /// Returns the limit of nested expansions, if one is given.
 pub fn limit_of(matches: &ArgMatches<'_>) -> Option<usize> {
     matches.get_one(LIMIT)
+}
+
+/// Returns the limit of the tokens that are written for a call, if one is given.
+pub fn max_tokens_of(matches: &ArgMatches<'_>) -> Option<usize> {
+    matches.get_one(MAX_TOKENS)
 }
 
 /// Returns what the options take as true in conditions.

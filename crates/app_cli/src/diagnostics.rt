@@ -1,11 +1,13 @@
 //! The diagnostics of findings in the macros of a text.
-ghost use Rattle.std.specs.Prelude.{◌≡◌, ◌++◌, map, IfOk, string_bytes};
-ghost use Rattle.app_cli.specs.Reports.{AreDiagnosticTexts, IsDiagnosticText, IsNoteAt, level_of_fault, notes_on, other_byte, other_message};
+ghost use Rattle.std.specs.Prelude.{◌≡◌, ◌++◌, map, IfOk, OnOk, string_bytes};
+ghost use Rattle.app_cli.specs.Reports.{AreDiagnosticTexts, IsDiagnosticText, hidden_note, level_of_fault, notes_on};
 
-use crate::messages::{about, message};
-use expand_text::{Finding, MacroFault};
+use crate::counts::counted;
+use crate::messages::message;
+use crate::note::{notes_at, placed};
+use expand_text::{Caller, ExpandOptions, Finding, MacroFault};
 use std::alloc::{AllocError, Global};
-use syntax_diagnostic::{Diagnostic, Level, PlacedNote, SourceFile, Style, diagnostic_text};
+use syntax_diagnostic::{Diagnostic, Level, SourceFile, Style, diagnostic_text};
 
 // Returns the level of a fault.
 fn level_of(fault: &MacroFault) -> Level
@@ -18,82 +20,90 @@ fn level_of(fault: &MacroFault) -> Level
     }
 }
 
-// Returns the notes on a fault, with `limit` as the limit of nested expansions.
-fn notes_of(alloc: Global, limit: usize, fault: MacroFault) -> Result<Vec<String>, AllocError>
-    ensures { IfOk result (λ notes. map string_bytes notes.items ≡ notes_on limit fault) }
+// Returns the notes on a fault: the limit of the options that it passes.
+fn notes_of(
+    alloc: Global,
+    options: ExpandOptions<'_>,
+    fault: MacroFault,
+) -> Result<Vec<String>, AllocError>
+    ensures { IfOk result (λ notes. map string_bytes notes.items ≡ notes_on options fault) }
 {
     let mut notes = Vec::new(alloc);
-    if let MacroFault::TooDeep = fault {
-        let note = format!(in alloc;
-            "the limit is {limit}; --limit N sets another one, up to 1000"
-        )?;
-        notes.push(note)?;
+    let limit = options.limit;
+    let most = options.max_tokens;
+    match fault {
+        MacroFault::TooDeep => {
+            let note = format!(in alloc;
+                "the limit is {limit}; --limit N sets another one, up to 1000"
+            )?;
+            notes.push(note)?;
+        }
+        MacroFault::OverMaxTokens => {
+            let note = format!(in alloc;
+                "the limit is {most} tokens for a call with all that comes of it; --max-tokens N sets another one"
+            )?;
+            notes.push(note)?;
+        }
+        _ => {}
     }
     Ok(notes)
 }
 
-// Returns the place that a diagnostic shows beside its own.
-fn other_byte(finding: &Finding) -> Option<u32>
-    ensures { result ≡ other_byte finding.now }
+// Adds the note on how many calls around a place are not shown, if some are not.
+fn add_hidden(alloc: Global, hidden: usize, notes: &mut Vec<String>) -> Result<(), AllocError>
+    ensures { OnOk result (map string_bytes notes.new.items ≡ map string_bytes notes.old.items ++ hidden_note hidden) }
 {
-    match finding.fault {
-        MacroFault::Captured(binding) => Some(binding),
-        _ => finding.defined_at,
+    if hidden == 0 {
+        return Ok(());
     }
+    let one = "call between the last two is not shown";
+    let note = counted(
+        alloc,
+        hidden,
+        one,
+        "calls between the last two are not shown",
+    )?;
+    notes.push(note)?;
+    Ok(())
 }
 
-// Returns what is at that place.
-fn other_message(alloc: Global, name: &str, fault: MacroFault) -> Result<String, AllocError>
-    ensures { IfOk result (λ text. string_bytes text ≡ other_message name.now fault) }
-{
-    match fault {
-        MacroFault::Captured(_) => about(alloc, "", name, " binds it here"),
-        _ => about(alloc, "", name, " is defined here"),
-    }
-}
-
-// Returns a note at a byte, if there is one.
-fn note_at<'x>(source: &SourceFile<'x>, message: &'x str, at: Option<u32>) -> Option<PlacedNote<'x>>
-    ensures { IsNoteAt source.now.name.now source.now.text.now message.entry.now at result }
-{
-    let spot = source.spot(at? as usize);
-    Some(PlacedNote { message, spot })
-}
-
-// Returns the diagnostic of a finding as a text.
+// Returns the diagnostic of a finding in what these callers wrote, as a text.
 fn one_diagnostic(
     alloc: Global,
     style: Style,
     source: &SourceFile<'_>,
-    limit: usize,
+    options: ExpandOptions<'_>,
+    callers: &[Caller],
     finding: &Finding,
 ) -> Result<String, AllocError>
-    ensures { IfOk result (λ written. IsDiagnosticText style source.now.name.now source.now.text.now limit finding.now (string_bytes written)) }
+    ensures { IfOk result (λ written. IsDiagnosticText style source.now.name.now source.now.text.now options callers.now finding.now (string_bytes written)) }
 {
-    let name = finding.name.as_str();
-    let message = message(alloc, name, finding.fault)?;
-    let other = other_message(alloc, name, finding.fault)?;
-    let placed_note = note_at(source, other.as_str(), other_byte(finding));
+    let message = message(alloc, finding.name.as_str(), finding.fault)?;
+    let (places, hidden) = notes_at(alloc, callers, finding)?;
+    let mut notes = notes_of(alloc, options, finding.fault)?;
+    add_hidden(alloc, hidden, &mut notes)?;
     let diagnostic = Diagnostic {
         level: level_of(&finding.fault),
         message: message.as_str(),
         spot: Some(source.spot(finding.at as usize)),
-        notes: notes_of(alloc, limit, finding.fault)?,
-        placed_note,
+        notes,
+        placed_notes: placed(alloc, source, &places)?,
     };
     diagnostic_text(alloc, style, &diagnostic)
 }
 
-/// Returns the diagnostics of all findings in a text of that name, in order, with an empty line behind each.
+/// Returns the diagnostics of these findings in a text of that name, in order, with an empty line behind each. These callers wrote what has
+/// findings.
 pub fn diagnostics_text(
     alloc: Global,
     style: Style,
     name: &str,
     text: &str,
-    limit: usize,
+    options: ExpandOptions<'_>,
+    callers: &[Caller],
     findings: &[Finding],
 ) -> Result<String, AllocError>
-    ensures { IfOk result (λ written. AreDiagnosticTexts style name.now text.now limit findings.now (string_bytes written)) }
+    ensures { IfOk result (λ written. AreDiagnosticTexts style name.now text.now options callers.now findings.now (string_bytes written)) }
 {
     let mut all = String::new(alloc);
     if findings.is_empty() {
@@ -101,7 +111,7 @@ pub fn diagnostics_text(
     }
     let source = SourceFile::new(alloc, name, text)?;
     for finding in findings {
-        let written = one_diagnostic(alloc, style, &source, limit, finding)?;
+        let written = one_diagnostic(alloc, style, &source, options, callers, finding)?;
         all.push_str(written.as_str())?;
         all.push_str("\n")?;
     }

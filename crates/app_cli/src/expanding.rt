@@ -12,7 +12,7 @@ use crate::shebang::{shebang_of, without_shebang};
 use crate::style::style_of;
 use crate::syntax_error::syntax_failure;
 use crate::tree_lines::tree_of;
-use expand_text::{ExpandTextError, expand_leniently};
+use expand_text::{ExpandOptions, ExpandTextError, expand_leniently};
 use mbe_grammar::{ParsedFile, parse_file};
 use std::io::{self, Write};
 use std::process::ExitCode;
@@ -36,7 +36,7 @@ fn refused(
     rt: &HostRuntime,
     name: &str,
     text: &str,
-    limit: usize,
+    options: ExpandOptions<'_>,
     error: ExpandTextError,
 ) -> Failure {
     let alloc = rt.alloc();
@@ -45,7 +45,7 @@ fn refused(
         ExpandTextError::Text(fault) => syntax_failure(rt, name, text, fault),
         ExpandTextError::Memory => Failure::Memory,
         ExpandTextError::Macro(finding) => {
-            Failure::from_text(diagnostics_text(alloc, style, name, text, limit, &[finding]))
+            Failure::from_text(diagnostics_text(alloc, style, name, text, options, &[], &[finding]))
         }
     }
 }
@@ -84,16 +84,15 @@ fn expanded(
         None => text,
     };
     let options = options.for_text(source);
-    let limit = options.limit;
     let found = match expand_leniently(rt.alloc(), source, options) {
         Ok(found) => found,
-        Err(error) => return Err(refused(rt, name, text, limit, error)),
+        Err(error) => return Err(refused(rt, name, text, options, error)),
     };
     let Report {
         output,
         diagnostics,
         counts,
-    } = report_on(rt.alloc(), style_of(rt), name, text, limit, found)?;
+    } = report_on(rt.alloc(), style_of(rt), name, text, options, found)?;
     let syntax = if checks {
         syntax_counts(rt, name, text, source)?
     } else {

@@ -153,6 +153,7 @@ pub fn message(alloc: Global, name: &str, fault: MacroFault) -> Result<String, A
         ),
         MacroFault::NoMatch => ("no rule of ", " matches this"),
         MacroFault::TooDeep => ("recursion limit reached while expanding ", ""),
+        MacroFault::OverMaxTokens => ("too many tokens are written while expanding ", ""),
         MacroFault::NotWritable => (
             "the expansion of ",
             " cannot be written: this would read back as something else",

@@ -1,16 +1,17 @@
 //! The options of macro expansion.
-use crate::arguments::{MOST_LIMIT, is_everywhere, limit_of, only_of, root_of};
+use crate::arguments::{MOST_LIMIT, is_everywhere, limit_of, max_tokens_of, only_of, root_of};
 use crate::failure::Failure;
 use crate::recursion_limit::recursion_limit;
 use clap::ArgMatches;
 use expand_items::CfgOptions;
-use expand_text::{ExpandOptions, USUAL_LIMIT};
+use expand_text::{ExpandOptions, USUAL_LIMIT, USUAL_MAX_TOKENS};
 use syntax_lex::{MOST_TEXT_BYTES, TokenKind, first_token};
 
 /// The options for the expansion of texts.
 #[derive(Clone, Copy)]
 pub struct Options<'a> {
     limit: Option<usize>,
+    max_tokens: usize,
     cfg: &'a CfgOptions,
     root: &'a str,
     /// Whether the walk enters calls that are not expanded.
@@ -69,6 +70,7 @@ impl<'a> Options<'a> {
         wants_name(rt, "--crate", root, root)?;
         Ok(Options {
             limit: limit_of(matches),
+            max_tokens: max_tokens_of(matches).unwrap_or(USUAL_MAX_TOKENS),
             cfg,
             root,
             everywhere: is_everywhere(matches),
@@ -83,6 +85,7 @@ impl<'a> Options<'a> {
                 Some(limit) => limit,
                 None => limit_in(text),
             },
+            max_tokens: self.max_tokens,
             cfg: self.cfg,
             root: self.root,
             everywhere: self.everywhere,

@@ -4,7 +4,7 @@ ghost use Rattle.app_cli.specs.Reports.{most_shown, AreShown, IsMoreText, IsPlai
 
 use crate::counts::{Counts, counted};
 use crate::diagnostics::diagnostics_text;
-use expand_text::{Expanded, Finding};
+use expand_text::{Caller, ExpandOptions, Expanded, Finding};
 use std::alloc::{AllocError, Global};
 use syntax_diagnostic::{Diagnostic, Level, Style, diagnostic_text};
 
@@ -46,36 +46,45 @@ fn more_text(alloc: Global, style: Style, more: usize) -> Result<String, AllocEr
     Ok(text)
 }
 
-// Returns the diagnostics of the first findings in a text of that name, and how many more there are.
+// Returns the diagnostics of the first findings in a text of that name, and how many more there are. These callers wrote what has findings.
 fn shown_text(
     alloc: Global,
     style: Style,
     name: &str,
     text: &str,
-    limit: usize,
+    options: ExpandOptions<'_>,
+    callers: &[Caller],
     findings: &[Finding],
 ) -> Result<String, AllocError>
-    ensures { IfOk result (λ written. AreShown style name.now text.now limit findings.now (string_bytes written)) }
+    ensures { IfOk result (λ written. AreShown style name.now text.now options callers.now findings.now (string_bytes written)) }
 {
     let shown = first_shown(findings);
-    let mut written = diagnostics_text(alloc, style, name, text, limit, shown)?;
+    let mut written = diagnostics_text(alloc, style, name, text, options, callers, shown)?;
     let more = more_text(alloc, style, findings.len().saturating_sub(MOST_SHOWN))?;
     written.push_str(more.as_str())?;
     Ok(written)
 }
 
-/// Returns the report on what the library found in a text of that name, with `limit` as the limit of nested expansions.
+/// Returns the report on what the library found in a text of that name with these options.
 pub fn report_on(
     alloc: Global,
     style: Style,
     name: &str,
     text: &str,
-    limit: usize,
+    options: ExpandOptions<'_>,
     found: Expanded,
 ) -> Result<Report, AllocError>
-    ensures { IfOk result (IsReport style name.now text.now limit found) }
+    ensures { IfOk result (IsReport style name.now text.now options found) }
 {
-    let diagnostics = shown_text(alloc, style, name, text, limit, &found.findings)?;
+    let diagnostics = shown_text(
+        alloc,
+        style,
+        name,
+        text,
+        options,
+        &found.callers,
+        &found.findings,
+    )?;
     let counts = Counts::of(&found.findings);
     let output = if counts.has_errors() {
         None
@@ -103,7 +112,7 @@ pub fn plain_text(
         message,
         spot: None,
         notes: Vec::new(alloc),
-        placed_note: None,
+        placed_notes: Vec::new(alloc),
     };
     diagnostic_text(alloc, style, &diagnostic)
 }

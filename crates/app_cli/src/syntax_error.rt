@@ -56,7 +56,7 @@ pub fn error_text_at<'x>(
         message,
         spot: Some(source.spot(at)),
         notes,
-        placed_note: None,
+        placed_notes: Vec::new(alloc),
     };
     diagnostic_text(alloc, style, &diagnostic)
 }

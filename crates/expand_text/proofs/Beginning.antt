@@ -12,15 +12,13 @@ use Rattle.expand_items.proofs.ItemsAt.{end_other, one_item}
 use Rattle.expand_text.specs.Capturing.{IsCaptureFound}
 use Rattle.expand_text.specs.declared.fault.MacroFault.{MacroFault}
 use Rattle.expand_text.specs.CallSites.{PutIn, IsKept}
-use Rattle.expand_text.specs.Contexts.{Config, Context, with_finding}
-use Rattle.expand_text.specs.Macros.{IsRead, IsCallFault, MayBePut, called_by, arms_of, found_of, context_behind}
-use Rattle.expand_text.specs.Meaning.{ExpandsTo, ends, on_leaf, on_node, on_definition, on_inactive, on_other_call, into_other_call, into_attributes, on_faulty_call, on_call, on_kept_call, IsPlain, plain_behind, plain_behind_part, context_after, behind_call, rest_in, behind_in, begun_by, site_in, begin_in, becomes_in, stays_in, body_in}
+use Rattle.expand_text.specs.Contexts.{Config, Context, outside_call, tokens_left, with_finding}
+use Rattle.expand_text.specs.Macros.{IsRead, IsCallFault, MayBePut, Writes, called_by, arms_of, found_of, context_behind}
+use Rattle.expand_text.specs.Meaning.{ExpandsTo, ends, on_leaf, on_node, on_definition, on_inactive, on_other_call, into_other_call, into_attributes, on_faulty_call, on_call, on_kept_call, IsPlain, plain_behind, plain_behind_part, context_after, behind_call, rest_in, behind_in, begun_by, site_in, entered_in, begin_in, becomes_in, stays_in, body_in}
 use Rattle.expand_text.specs.Outcomes.{Outcome, nothing, passes, enters, stays, trees_left}
 use Rattle.expand_text.specs.Scopes.{Macro}
 use Rattle.mbe_pattern.specs.Units.{front_trees, is_brace}
 use Rattle.mbe_rules.specs.Arms.{Arm}
-use Rattle.mbe_rules.specs.Expansions.{IsExpansion}
-use Rattle.mbe_rules.specs.declared.macro_rules.Expansion.TheVariants as expansion
 
 -- the item at a position, or nothing if no call is expanded any more
 abbrev pub IsItemUnless : (is_over : Bool) → Config → Position → Forest → Item → Type 0
@@ -101,34 +99,39 @@ module _ (config : Config) (in_text : Bool) (limit : ℕ) (position : Position) 
   -- a call has a fault
   abbrev pub IsWrong : List Arm → Call → Forest → Type 0
   IsWrong arms it trees =
-      (macro : Macro) × (at : ℕ) × (fault : MacroFault) × (others : Outcome) × (called_by config context it ≡ Some macro) × IsCallFault limit arms it at fault
+      (macro : Macro) × (at : ℕ) × (fault : MacroFault) × (others : Outcome) × (called_by config context it ≡ Some macro)
+      × IsCallFault limit (tokens_left config context) arms it at fault
       × ExpandsTo config in_text limit (behind (is_brace it.delimiter.kind) position) 0 (with_finding (found_of it macro at fault) context) (behind_call it trees) after others
       × (outcome ≡ stays (front_trees it.len trees) others)
 
   -- a call with that expansion is replaced
-  abbrev pub Changes : (left : ℕ) → Call → Forest → Root → (inside : Context) → (held : Outcome) → Type 0
-  Changes left it trees tree inside held =
+  abbrev pub Changes : (left : ℕ) → Call → Forest → Root → (noted inside : Context) → (held : Outcome) → Type 0
+  Changes left it trees tree noted inside held =
       (put : Forest) × (others : Outcome) × PutIn in_text (site_in position it trees tree) (trees_left held) put × MayBePut in_text it.delimiter put
-      × ExpandsTo config in_text (suc left) (behind_in position it trees) 0 inside (rest_in position it trees) after others
+      × ExpandsTo config in_text (suc left) (behind_in position it trees) 0 (outside_call noted inside) (rest_in position it trees) after others
       × (outcome ≡ becomes_in position it trees put others)
 
   -- a call with that expansion stays
-  abbrev pub Stays : (left : ℕ) → Call → Forest → Root → (inside : Context) → (held : Outcome) → Type 0
-  Stays left it trees tree inside held =
+  abbrev pub Stays : (left : ℕ) → Call → Forest → Root → (noted inside : Context) → (held : Outcome) → Type 0
+  Stays left it trees tree noted inside held =
       (macro : Macro) × (at : ℕ) × (fault : MacroFault) × (others : Outcome) × (called_by config context it ≡ Some macro)
       × IsKept in_text (site_in position it trees tree) (trees_left held) (start_of (begin_in it trees).range) at fault
-      × ExpandsTo config in_text (suc left) (behind_in position it trees) 0 (with_finding (found_of it macro at fault) inside) (rest_in position it trees) after others
+      × ExpandsTo config in_text (suc left) (behind_in position it trees) 0 (with_finding (found_of it macro at fault) (outside_call noted inside)) (rest_in position it trees) after others
       × (outcome ≡ stays_in position it trees others)
+
+  -- the one or the other
+  abbrev pub Settles : (left : ℕ) → Call → Forest → Root → (noted inside : Context) → (held : Outcome) → Type 0
+  Settles left it trees tree noted inside held = Changes left it trees tree noted inside held ⊎ Stays left it trees tree noted inside held
 
   -- a call is expanded
   abbrev pub Tries : (limit : ℕ) → List Arm → Call → Forest → Type 0
   Tries zero arms it trees = ⊥
   Tries (suc left) arms it trees =
       (tree : Root) × (macro : Macro) × (noted inside : Context) × (held : Outcome) × (called_by config context it ≡ Some macro)
-      × IsExpansion arms 0 0 it.input (expansion.Tree tree)
+      × Writes (tokens_left config context) arms it tree
       × IsCaptureFound macro.defined_at it (begun_by position it trees) (body_in position it trees tree) context noted
-      × ExpandsTo config false left (begun_by position it trees) 0 noted (body_in position it trees tree) inside held
-      × (Changes left it trees tree inside held ⊎ Stays left it trees tree inside held)
+      × ExpandsTo config false left (begun_by position it trees) 0 (entered_in config it trees tree noted) (body_in position it trees tree) inside held
+      × Settles left it trees tree noted inside held
 
   -- a call
   abbrev pub Calls : Option (List Arm) → Call → Forest → Type 0

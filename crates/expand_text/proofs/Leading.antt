@@ -12,19 +12,17 @@ use Rattle.expand_text.specs.Scopes.{Macro}
 use Rattle.expand_text.specs.declared.walk.Event.{Event}
 use Rattle.expand_text.specs.declared.walk.Event.TheVariants as event
 use Rattle.expand_text.specs.Calling.{IsFaulty}
-use Rattle.expand_text.specs.Meaning.{IsPlain, ExpandsTo, ends, on_leaf, on_node, on_definition, on_inactive, on_other_call, into_other_call, into_attributes, on_faulty_call, on_call, on_kept_call, attributes_in, begin_in, begun_by, behind_in, end_in, rest_in, site_in, whole_in, context_after, body_in}
+use Rattle.expand_text.specs.Meaning.{IsPlain, ExpandsTo, ends, on_leaf, on_node, on_definition, on_inactive, on_other_call, into_other_call, into_attributes, on_faulty_call, on_call, on_kept_call, attributes_in, begin_in, begun_by, behind_in, end_in, entered_in, rest_in, site_in, whole_in, context_after, body_in}
 use Rattle.expand_items.specs.Inactive.{IsItemAt}
 use Rattle.expand_items.specs.Items.{Definition, Call, defines, calls, inactive}
 use Rattle.expand_text.specs.Capturing.{IsCaptureFound}
-use Rattle.expand_text.specs.Contexts.{Config, Context, with_finding, left_in_scope}
-use Rattle.expand_text.specs.Macros.{IsRead, MayBePut, called_by, arms_of, found_of, context_behind}
+use Rattle.expand_text.specs.Contexts.{Config, Context, with_finding, left_in_scope, outside_call, tokens_left}
+use Rattle.expand_text.specs.Macros.{IsRead, MayBePut, Writes, called_by, arms_of, found_of, context_behind}
 use Rattle.expand_text.specs.Outcomes.{Outcome, nothing, passes, enters, stays, becomes, trees_left}
 use Rattle.expand_text.specs.CallSites.{PutIn, IsKept}
 use Rattle.expand_items.specs.Positions.{behind as past_end, behind_subtree, keeps_macros}
 use Rattle.expand_text.specs.Walks.{Level, site_of, past_leaf, past_subtree, past, past_call, past_part, kept_behind, inside, Leads, first_leaf, first_subtree, first_stay, first_becomes, IsNext}
 use Rattle.mbe_rules.specs.Arms.{Arm}
-use Rattle.mbe_rules.specs.Expansions.{IsExpansion}
-use Rattle.mbe_rules.specs.declared.macro_rules.Expansion.TheVariants as expansion
 use Rattle.mbe_pattern.specs.Units.{front_trees, is_brace}
 
 module _ (config : Config) (in_text : Bool) (limit : ℕ) (level : Level) (outer : List Level) (context : Context) where
@@ -138,32 +136,32 @@ module _ (config : Config) (in_text : Bool) (limit : ℕ) (level : Level) (outer
 -- Passes a call that expands to a tree, which expands to `held` in turn.
 module _ (config : Config) (in_text : Bool) (left : ℕ) (level : Level) (outer : List Level) (context : Context) (first : level.plain ≡ 0) (goes_on : context.is_over ≡ false) (it : Call)
     (macro : Macro) (arms : List Arm) (tree : Root) (there : IsItemAt config.known config.root level.position level.rest (calls it)) (called : called_by config context it ≡ Some macro)
-    (expands : macro.arms ≡ Some arms) (makes : IsExpansion arms 0 0 it.input (expansion.Tree tree)) (noted within : Context) (held : Outcome)
+    (expands : macro.arms ≡ Some arms) (makes : Writes (tokens_left config context) arms it tree) (noted within : Context) (held : Outcome)
     (captures : IsCaptureFound macro.defined_at it (begun_by level.position it level.rest) (body_in level.position it level.rest tree) context noted)
-    (expands_to : ExpandsTo config false left (begun_by level.position it level.rest) 0 noted (body_in level.position it level.rest tree) within held) where
+    (expands_to : ExpandsTo config false left (begun_by level.position it level.rest) 0 (entered_in config it level.rest tree noted) (body_in level.position it level.rest tree) within held) where
   -- The expansion takes the place of the call.
   pub leads_call : (put : Forest) → PutIn in_text (site_in level.position it level.rest tree) (trees_left held) put → MayBePut in_text it.delimiter put
       → Leads config in_text (suc left) (level ∷ outer) context
-      (first_becomes (attributes_in level.position it level.rest) (begin_in it level.rest) (end_in level.position it level.rest) put) (past_call it level ∷ outer) within
+      (first_becomes (attributes_in level.position it level.rest) (begin_in it level.rest) (end_in level.position it level.rest) put) (past_call it level ∷ outer) (outside_call noted within)
   leads_call put so may after [] e = absurd e
   leads_call put so may after (others ∷ more) (beyond, then, behind) = (
     beyond,
     subst (λ n. ExpandsTo config in_text (suc left) level.position n context level.rest beyond
         (stays (attributes_in level.position it level.rest) (becomes (begin_in it level.rest) (end_in level.position it level.rest) put others))) (sym first)
         (on_call tree put goes_on there called expands makes captures expands_to so may
-        (subst (λ n. ExpandsTo config in_text (suc left) (behind_in level.position it level.rest) n within (rest_in level.position it level.rest) beyond others) first then)),
+        (subst (λ n. ExpandsTo config in_text (suc left) (behind_in level.position it level.rest) n (outside_call noted within) (rest_in level.position it level.rest) beyond others) first then)),
     behind,
   )
 
   -- The call stays, if the expansion does not fit there or is not written.
   pub leads_kept : (at : ℕ) (fault : MacroFault) → IsKept in_text (site_in level.position it level.rest tree) (trees_left held) (start_of (begin_in it level.rest).range) at fault
-      → Leads config in_text (suc left) (level ∷ outer) context (first_stay (whole_in level.position it level.rest)) (past_call it level ∷ outer) (with_finding (found_of it macro at fault) within)
+      → Leads config in_text (suc left) (level ∷ outer) context (first_stay (whole_in level.position it level.rest)) (past_call it level ∷ outer) (with_finding (found_of it macro at fault) (outside_call noted within))
   leads_kept at fault kept after [] e = absurd e
   leads_kept at fault kept after (others ∷ more) (beyond, then, behind) = (
     beyond,
     subst (λ n. ExpandsTo config in_text (suc left) level.position n context level.rest beyond (stays (whole_in level.position it level.rest) others)) (sym first)
         (on_kept_call tree at fault goes_on there called expands makes captures expands_to kept
-        (subst (λ n. ExpandsTo config in_text (suc left) (behind_in level.position it level.rest) n (with_finding (found_of it macro at fault) within) (rest_in level.position it level.rest) beyond others) first then)),
+        (subst (λ n. ExpandsTo config in_text (suc left) (behind_in level.position it level.rest) n (with_finding (found_of it macro at fault) (outside_call noted within)) (rest_in level.position it level.rest) beyond others) first then)),
     behind,
   )
 

@@ -1,6 +1,7 @@
 pub mod Beginning
 pub mod CallParts
 pub mod CallPlaces
+pub mod CallerRows
 pub mod Calls
 pub mod Finishing
 pub mod FirstFaults

@@ -1,5 +1,6 @@
 -- If nothing is found, no call of a macro in scope is left.
 use Rattle.std.proofs.Common.{◌≡◌, ◌++◌, Bool, true, false, List, [], ◌∷◌, ℕ, Option, None, Some, inl, inr, refl, sym, ap, ◌∙◌}
+use Rattle.std.specs.Prelude.{◌&&◌, is_some}
 use Rattle.tt.specs.Forest.{Forest}
 use Rattle.tt.specs.Span.{start_of}
 use Rattle.expand_items.specs.declared.position.Position.{Position}
@@ -7,7 +8,7 @@ use Rattle.expand_items.specs.Items.{Definition, Call}
 use Rattle.expand_items.specs.Positions.{keeps_macros}
 use Rattle.expand_text.specs.declared.fault.Finding.{Finding}
 use Rattle.expand_text.specs.declared.fault.MacroFault.TheVariants as wrong
-use Rattle.expand_text.specs.Contexts.{Config, Context, asks_for}
+use Rattle.expand_text.specs.Contexts.{Config, Context, asks_for, outside_call, with_finding}
 use Rattle.expand_text.specs.Left.{NoneIsLeft}
 use Rattle.expand_text.specs.Capturing.{IsCaptureFound, capture_found}
 use Rattle.expand_text.specs.Macros.{IsDefinedAt, IsReadIf, IsRead, called_by, context_behind, found_in, found_of, left_behind, unexported_by}
@@ -20,6 +21,10 @@ one_found : (findings : List Finding) (it : Finding) → findings ++ it ∷ [] �
 one_found [] it none = cc none
 one_found (first ∷ others) it none = cc none
 
+-- The same of a finding in what a caller wrote.
+one_there : (it : Finding) (context : Context) → (with_finding it context).findings ≡ [] → ⊥
+one_there it context none = one_found context.findings (record it { caller = context.caller }) none
+
 -- Nothing was found inside a subtree.
 inside_none : (are_kept : Bool) (before inside : Context) → (context_after are_kept before inside).findings ≡ [] → inside.findings ≡ []
 inside_none true before inside none = none
@@ -28,6 +33,10 @@ inside_none false before inside none = none
 inside_goes : (are_kept : Bool) (before inside : Context) → inside.is_over ≡ false → (context_after are_kept before inside).is_over ≡ false
 inside_goes true before inside goes = goes
 inside_goes false before inside goes = goes
+
+-- Calls are still expanded behind a call.
+outside_goes : (before inside : Context) → inside.is_over ≡ false → (outside_call before inside).is_over ≡ false
+outside_goes before inside goes = ap (λ over. over && is_some before.caller) goes
 
 -- A definition in which nothing is found.
 read_none : (config : Config) (position : Position) (it : Definition) (before inside : Context) → IsRead config position it before inside → inside.findings ≡ []
@@ -38,7 +47,7 @@ read_none config position it before inside = by (asks_for config.only it.name.sy
         → (before.findings ≡ []) × (before.is_over ≡ false → inside.is_over ≡ false)
     defined true is none = (sym (ap (λ context. context.findings) is) ∙ none, λ goes. ap (λ context. context.is_over) is ∙ goes)
     defined false (inl (arms, within, spells, is)) none = (sym (ap (λ context. context.findings) is) ∙ none, λ goes. ap (λ context. context.is_over) is ∙ goes)
-    defined false (inr (at, fault, bad, is)) none = absurd (one_found before.findings (found_in it at fault) (sym (ap (λ context. context.findings) is) ∙ none))
+    defined false (inr (at, fault, bad, is)) none = absurd (one_there (found_in it at fault) before (sym (ap (λ context. context.findings) is) ∙ none))
 
     by : (asked : Bool) → IsReadIf asked config.root position it before inside → inside.findings ≡ [] → (before.findings ≡ []) × (before.is_over ≡ false → inside.is_over ≡ false)
     by false is none = (sym (ap (λ context. context.findings) is) ∙ none, λ goes. ap (λ context. context.is_over) is ∙ goes)
@@ -47,8 +56,8 @@ read_none config position it before inside = by (asks_for config.only it.name.sy
 -- A call that stays names no macro in scope, and none that is not exported.
 left_none : (it : Call) (macro unexported : Option Macro) (context : Context) → (left_behind it macro unexported context).findings ≡ []
     → (macro ≡ None) × (context.findings ≡ []) × (context.is_over ≡ false → (left_behind it macro unexported context).is_over ≡ false)
-left_none it (Some macro) unexported context none = absurd (one_found context.findings (found_of it macro (start_of it.name.span.range) macro.left) none)
-left_none it None (Some macro) context none = absurd (one_found context.findings (found_of it macro (start_of it.name.span.range) wrong.NotExported) none)
+left_none it (Some macro) unexported context none = absurd (one_there (found_of it macro (start_of it.name.span.range) macro.left) context none)
+left_none it None (Some macro) context none = absurd (one_there (found_of it macro (start_of it.name.span.range) wrong.NotExported) context none)
 left_none it None None context none = (refl, none, λ goes. goes)
 
 behind_none : (config : Config) (it : Call) (context : Context) → (context_behind config it context).findings ≡ []
@@ -61,7 +70,7 @@ capture_none : (defined_at : ℕ) (it : Call) (position : Position) (body : Fore
 capture_none defined_at it position body before after (None, is, same) none =
     (sym (ap (λ context. context.findings) same) ∙ none, λ goes. ap (λ context. context.is_over) same ∙ goes)
 capture_none defined_at it position body before after (Some found, is, same) none =
-    absurd (one_found before.findings (capture_found defined_at it found) (sym (ap (λ context. context.findings) same) ∙ none))
+    absurd (one_there (capture_found defined_at it found) before (sym (ap (λ context. context.findings) same) ∙ none))
 
 -- Nothing was found before.
 none_before : {config : Config} {in_text : Bool} {limit plain : ℕ} {position : Position} {context after : Context} {trees : Forest} {outcome : Outcome}
@@ -78,11 +87,11 @@ none_before {config = config} (into_other_call {context = context} {it = it} goi
 none_before (on_inactive going is others) none = none_before others none
 none_before (into_attributes going is some unexpanded others) none = none_before others none
 none_before (on_faulty_call {context = context} {it = it} {macro = macro} at fault going is called some faulty others) none =
-    absurd (one_found context.findings (found_of it macro at fault) (none_before others none))
+    absurd (one_there (found_of it macro at fault) context (none_before others none))
 none_before (on_call {position = position} {context = context} {noted = noted} {it = it} {macro = macro} {trees = trees} tree put going is called some expands captures held so may others) none =
     (capture_none macro.defined_at it (begun_by position it trees) (body_in position it trees tree) context noted captures (none_before held (none_before others none))).0
-none_before (on_kept_call {inside = inside} {it = it} {macro = macro} tree at fault going is called some expands captures held kept others) none =
-    absurd (one_found inside.findings (found_of it macro at fault) (none_before others none))
+none_before (on_kept_call {noted = noted} {inside = inside} {it = it} {macro = macro} tree at fault going is called some expands captures held kept others) none =
+    absurd (one_there (found_of it macro at fault) (outside_call noted inside) (none_before others none))
 
 -- No call is left, and calls are still expanded.
 pub none_left : {config : Config} {in_text : Bool} {limit plain : ℕ} {position : Position} {context after : Context} {trees : Forest} {outcome : Outcome}
@@ -107,11 +116,11 @@ none_left {config = config} (into_other_call {context = context} {it = call} goi
 none_left (on_inactive going is others) goes none = none_left others goes none
 none_left (into_attributes going is some unexpanded others) goes none = none_left others goes none
 none_left (on_faulty_call {context = context} {it = call} {macro = macro} at fault going is called some faulty others) goes none =
-    absurd (one_found context.findings (found_of call macro at fault) (none_before others none))
-none_left (on_call {position = position} {context = context} {noted = noted} {it = call} {macro = macro} {trees = trees} tree put going is called some expands captures held so may others) goes none =
+    absurd (one_there (found_of call macro at fault) context (none_before others none))
+none_left (on_call {position = position} {context = context} {noted = noted} {inside = inside} {it = call} {macro = macro} {trees = trees} tree put going is called some expands captures held so may others) goes none =
     let known = capture_none macro.defined_at call (begun_by position call trees) (body_in position call trees tree) context noted captures (none_before held (none_before others none)) in
     let within = none_left held (known.1 goes) (none_before others none) in
-    let it = none_left others within.1 none in
+    let it = none_left others (outside_goes noted inside within.1) none in
     ((within.0, it.0), it.1)
-none_left (on_kept_call {inside = inside} {it = call} {macro = macro} tree at fault going is called some expands captures held kept others) goes none =
-    absurd (one_found inside.findings (found_of call macro at fault) (none_before others none))
+none_left (on_kept_call {noted = noted} {inside = inside} {it = call} {macro = macro} tree at fault going is called some expands captures held kept others) goes none =
+    absurd (one_there (found_of call macro at fault) (outside_call noted inside) (none_before others none))

@@ -1,6 +1,6 @@
 -- A definition is read in one way, and the input of a call has one fault, if no finding names a limit of trees.
-use Rattle.std.proofs.Common.{◌≡◌, ◌≢◌, ℕ, zero, suc, Bool, true, false, List, None, inl, inr, refl, ap, ap₂, sym, subst, ◌∙◌, true≢false}
-use Rattle.tt.specs.Forest.{Forest, Root}
+use Rattle.std.proofs.Common.{◌≡◌, ◌≢◌, ℕ, zero, suc, Bool, true, false, List, None, inl, inr, refl, ap, ap₂, sym, subst, ◌∙◌, arith, true≢false}
+use Rattle.tt.specs.Forest.{Forest, Root, size}
 use Rattle.tt.specs.Span.{start_of}
 use Rattle.expand_items.specs.declared.position.Position.{Position}
 use Rattle.expand_items.specs.Items.{Definition, Call}
@@ -8,10 +8,10 @@ use Rattle.expand_text.specs.declared.fault.MacroFault.{MacroFault}
 use Rattle.expand_text.specs.declared.fault.MacroFault.TheVariants as wrong
 use Rattle.expand_text.specs.Contexts.{Config, Context, asks_for, with_macro, with_finding}
 use Rattle.expand_text.specs.Limits.{names_limit, KeepLimits}
-use Rattle.expand_text.specs.Macros.{macro_of, macro_with, IsDefinitionFault, found_in, IsDefined, IsDefinedAt, IsReadIf, IsRead, IsInputFault, IsCallFault}
+use Rattle.expand_text.specs.Macros.{macro_of, macro_with, IsDefinitionFault, found_in, IsDefined, IsDefinedAt, IsReadIf, IsRead, IsInputFault, IsCallFault, Writes}
 use Rattle.expand_text.specs.Places.{byte_at, definition_byte}
 use Rattle.expand_text.specs.Roots.{rooted}
-use Rattle.expand_text.proofs.KeptLimits.{keep_first}
+use Rattle.expand_text.proofs.KeptLimits.{keep_found}
 use Rattle.expand_text.proofs.OneExpansion.{one_expansion, no_error, one_error}
 use Rattle.expand_text.proofs.OneMacro.{one_spelled, no_rules_error, one_rules_error}
 use Rattle.mbe_rules.specs.Arms.{Arm}
@@ -32,7 +32,7 @@ module _ (is_open : Bool) (it : Definition) (trees : Forest) (before : Context) 
   -- The finding of a definition names no limit.
   limit_kept : (at : ℕ) (fault : MacroFault) (after : Context) → after ≡ with_macro (macro_of it wrong.Left None) (with_finding (found_in it at fault) before) → KeepLimits after.findings
       → names_limit fault ≡ false
-  limit_kept at fault after is keep = (keep_first before.findings (found_in it at fault) (subst (λ context. KeepLimits context.findings) is keep)).1
+  limit_kept at fault after is keep = (keep_found (found_in it at fault) before (subst (λ context. KeepLimits context.findings) is keep)).1
 
   -- A definition makes one thing known.
   one_defined : (a b : Context) → IsDefined is_open it trees before a → IsDefined is_open it trees before b → KeepLimits a.findings → KeepLimits b.findings → a ≡ b
@@ -67,22 +67,23 @@ one_read config position it before a b = by (asks_for config.only it.name.sym)
     by false is was x y = is ∙ sym was
     by true is was x y = defined position.is_built_in is was x y
 
-module _ (arms : List Arm) (it : Call) where
-  -- Arms make one tree of a call.
+module _ (allowed : ℕ) (arms : List Arm) (it : Call) where
+  -- Arms write one tree for a call.
   pub one_tree : (a b : Root) → IsExpansion arms 0 0 it.input (expansion.Tree a) → IsExpansion arms 0 0 it.input (expansion.Tree b) → a ≡ b
   one_tree a b h k =
       let same = one_expansion arms 0 0 it.input (expansion.Tree a) (expansion.Tree b) h k in
       cc same
 
-  -- If they make a tree, the input has no fault.
-  pub no_fault : (tree : Root) (at : ℕ) (found : MacroFault) → IsExpansion arms 0 0 it.input (expansion.Tree tree) → IsInputFault arms it at found → names_limit found ≡ false → ⊥
-  no_fault tree at wrong.NoMatch h k free = cc (one_expansion arms 0 0 it.input (expansion.Tree tree) (expansion.NoMatch k.0) h k.1)
-  no_fault tree at (wrong.Ambiguous n) h k free = cc (one_expansion arms 0 0 it.input (expansion.Tree tree) (expansion.Ambiguous n) h k.0)
-  no_fault tree at (wrong.Expansion why) h k free = no_error arms 0 0 it.input (expansion.Tree tree) why h k.0 free
+  -- If they write a tree, the input has no fault.
+  pub no_fault : (tree : Root) (at : ℕ) (found : MacroFault) → Writes allowed arms it tree → IsInputFault allowed arms it at found → names_limit found ≡ false → ⊥
+  no_fault tree at wrong.NoMatch h k free = cc (one_expansion arms 0 0 it.input (expansion.Tree tree) (expansion.NoMatch k.0) h.0 k.1)
+  no_fault tree at (wrong.Ambiguous n) h k free = cc (one_expansion arms 0 0 it.input (expansion.Tree tree) (expansion.Ambiguous n) h.0 k.0)
+  no_fault tree at (wrong.Expansion why) h k free = no_error arms 0 0 it.input (expansion.Tree tree) why h.0 k.0 free
+  no_fault tree at wrong.OverMaxTokens h k free = omega (arith, h.1, k.2, ap (λ t. size t.children) (one_tree tree k.0 h.0 k.1))
   no_fault tree at found h k free = k
 
   -- An input has one fault.
-  one_input : (at place : ℕ) (found other : MacroFault) → IsInputFault arms it at found → IsInputFault arms it place other → names_limit found ≡ false → names_limit other ≡ false
+  one_input : (at place : ℕ) (found other : MacroFault) → IsInputFault allowed arms it at found → IsInputFault allowed arms it place other → names_limit found ≡ false → names_limit other ≡ false
       → (at ≡ place) × (found ≡ other)
   one_input at place wrong.NoMatch wrong.NoMatch h k free none =
       let both = one_expansion arms 0 0 it.input (expansion.NoMatch h.0) (expansion.NoMatch k.0) h.1 k.1 in
@@ -91,6 +92,8 @@ module _ (arms : List Arm) (it : Call) where
   one_input at place wrong.NoMatch (wrong.Ambiguous m) h k free none =
       absurd (cc (one_expansion arms 0 0 it.input (expansion.NoMatch h.0) (expansion.Ambiguous m) h.1 k.0))
   one_input at place wrong.NoMatch (wrong.Expansion why) h k free none = absurd (no_error arms 0 0 it.input (expansion.NoMatch h.0) why h.1 k.0 none)
+  one_input at place wrong.NoMatch wrong.OverMaxTokens h k free none =
+      absurd (cc (one_expansion arms 0 0 it.input (expansion.NoMatch h.0) (expansion.Tree k.0) h.1 k.1))
   one_input at place wrong.NoMatch other h k free none = absurd k
   one_input at place (wrong.Ambiguous n) wrong.NoMatch h k free none =
       absurd (cc (one_expansion arms 0 0 it.input (expansion.Ambiguous n) (expansion.NoMatch k.0) h.0 k.1))
@@ -99,16 +102,26 @@ module _ (arms : List Arm) (it : Call) where
       let same : n ≡ m = cc both in
       (h.1 ∙ sym k.1, ap wrong.Ambiguous same)
   one_input at place (wrong.Ambiguous n) (wrong.Expansion why) h k free none = absurd (no_error arms 0 0 it.input (expansion.Ambiguous n) why h.0 k.0 none)
+  one_input at place (wrong.Ambiguous n) wrong.OverMaxTokens h k free none =
+      absurd (cc (one_expansion arms 0 0 it.input (expansion.Ambiguous n) (expansion.Tree k.0) h.0 k.1))
   one_input at place (wrong.Ambiguous n) other h k free none = absurd k
   one_input at place (wrong.Expansion why) wrong.NoMatch h k free none = absurd (no_error arms 0 0 it.input (expansion.NoMatch k.0) why k.1 h.0 free)
   one_input at place (wrong.Expansion why) (wrong.Ambiguous m) h k free none = absurd (no_error arms 0 0 it.input (expansion.Ambiguous m) why k.0 h.0 free)
   one_input at place (wrong.Expansion why) (wrong.Expansion that) h k free none =
       (h.2 ∙ sym k.2, ap wrong.Expansion (one_error arms 0 it.input why that h.0 k.0 free none))
+  one_input at place (wrong.Expansion why) wrong.OverMaxTokens h k free none = absurd (no_error arms 0 0 it.input (expansion.Tree k.0) why k.1 h.0 free)
   one_input at place (wrong.Expansion why) other h k free none = absurd k
+  one_input at place wrong.OverMaxTokens wrong.OverMaxTokens h k free none = (h.3 ∙ sym k.3, refl)
+  one_input at place wrong.OverMaxTokens wrong.NoMatch h k free none =
+      absurd (cc (one_expansion arms 0 0 it.input (expansion.Tree h.0) (expansion.NoMatch k.0) h.1 k.1))
+  one_input at place wrong.OverMaxTokens (wrong.Ambiguous m) h k free none =
+      absurd (cc (one_expansion arms 0 0 it.input (expansion.Tree h.0) (expansion.Ambiguous m) h.1 k.0))
+  one_input at place wrong.OverMaxTokens (wrong.Expansion why) h k free none = absurd (no_error arms 0 0 it.input (expansion.Tree h.0) why h.1 k.0 none)
+  one_input at place wrong.OverMaxTokens other h k free none = absurd k
   one_input at place found other h k free none = absurd h
 
   -- A call has one fault.
-  pub one_fault : (limit at place : ℕ) (found other : MacroFault) → IsCallFault limit arms it at found → IsCallFault limit arms it place other
+  pub one_fault : (limit at place : ℕ) (found other : MacroFault) → IsCallFault limit allowed arms it at found → IsCallFault limit allowed arms it place other
       → names_limit found ≡ false → names_limit other ≡ false → (at ≡ place) × (found ≡ other)
   one_fault zero at place found other h k free none = (h.1 ∙ sym k.1, h.0 ∙ sym k.0)
   one_fault (suc limit) at place found other h k free none = one_input at place found other h k free none

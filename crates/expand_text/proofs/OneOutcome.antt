@@ -8,22 +8,20 @@ use Rattle.expand_items.specs.Positions.{keeps_macros}
 use Rattle.expand_text.specs.declared.fault.MacroFault.{MacroFault}
 use Rattle.expand_text.specs.CallSites.{PutIn, IsKept}
 use Rattle.expand_text.specs.Capturing.{IsCaptureFound}
-use Rattle.expand_text.specs.Contexts.{Config, Context, with_finding}
+use Rattle.expand_text.specs.Contexts.{Config, Context, outside_call, tokens_left, with_finding}
 use Rattle.expand_text.specs.Limits.{names_limit, KeepLimits}
-use Rattle.expand_text.specs.Macros.{IsCallFault, MayBePut, called_by, arms_of, found_of}
-use Rattle.expand_text.specs.Meaning.{ExpandsTo, ends, on_leaf, on_node, on_definition, on_inactive, on_other_call, into_other_call, into_attributes, on_faulty_call, on_call, on_kept_call, context_after, begun_by, site_in, begin_in, becomes_in, stays_in, body_in}
+use Rattle.expand_text.specs.Macros.{IsCallFault, MayBePut, Writes, called_by, arms_of, found_of}
+use Rattle.expand_text.specs.Meaning.{ExpandsTo, ends, on_leaf, on_node, on_definition, on_inactive, on_other_call, into_other_call, into_attributes, on_faulty_call, on_call, on_kept_call, context_after, begun_by, site_in, entered_in, begin_in, becomes_in, stays_in, body_in}
 use Rattle.expand_text.specs.Outcomes.{Outcome, passes, enters, stays, trees_left}
 use Rattle.expand_text.specs.Scopes.{Macro}
-use Rattle.expand_text.proofs.Beginning.{plain_first, end_first, item_first, Leaves, IsWrong, Changes, Stays, Tries, goes_out, begins_by, begins_call}
-use Rattle.expand_text.proofs.KeptLimits.{keep_first, keep_inside, keep_before}
+use Rattle.expand_text.proofs.Beginning.{plain_first, end_first, item_first, Leaves, IsWrong, Changes, Stays, Settles, Tries, goes_out, begins_by, begins_call}
+use Rattle.expand_text.proofs.KeptLimits.{keep_found, keep_inside, keep_before}
 use Rattle.expand_text.proofs.OneCapture.{one_capture}
 use Rattle.expand_text.proofs.OneFault.{one_read, one_tree, no_fault, one_fault}
 use Rattle.expand_text.proofs.OneKept.{one_kept, never_kept}
 use Rattle.expand_text.proofs.OnePlacing.{one_shown}
 use Rattle.mbe_pattern.specs.Units.{front_trees}
 use Rattle.mbe_rules.specs.Arms.{Arm}
-use Rattle.mbe_rules.specs.Expansions.{IsExpansion}
-use Rattle.mbe_rules.specs.declared.macro_rules.Expansion.TheVariants as expansion
 
 -- The same is known before.
 moved : {config : Config} {in_text : Bool} {limit plain : ℕ} {position : Position} {a b after : Context} {trees : Forest} {outcome : Outcome} → a ≡ b
@@ -37,18 +35,22 @@ one_called config context it a b is was =
     let both : Some a ≡ Some b = sym is ∙ was in
     cc both
 
--- The same expansion, in which the same names are captured, expands to the same.
-same_held : (config : Config) (left : ℕ) (position : Position) (context : Context) (it : Call) (trees : Forest) (macro : Macro) (tree made : Root) (noted : Context) (its : Macro) (known inside : Context) (held : Outcome)
+-- The same names are captured.
+same_noted : (position : Position) (context : Context) (it : Call) (trees : Forest) (macro : Macro) (tree made : Root) (noted : Context) (its : Macro) (known : Context)
     → tree ≡ made → macro ≡ its → IsCaptureFound macro.defined_at it (begun_by position it trees) (body_in position it trees tree) context noted
-    → IsCaptureFound its.defined_at it (begun_by position it trees) (body_in position it trees made) context known
-    → ExpandsTo config false left (begun_by position it trees) 0 known (body_in position it trees made) inside held
-    → ExpandsTo config false left (begun_by position it trees) 0 noted (body_in position it trees tree) inside held
-same_held config left position context it trees macro tree made noted its known inside held filled one captures captured within =
-    let there : IsCaptureFound macro.defined_at it (begun_by position it trees) (body_in position it trees tree) context known =
-    subst (λ m. IsCaptureFound m.defined_at it (begun_by position it trees) (body_in position it trees tree) context known) (sym one)
-    (subst (λ t. IsCaptureFound its.defined_at it (begun_by position it trees) (body_in position it trees t) context known) (sym filled) captured) in
-    moved (one_capture macro.defined_at it (begun_by position it trees) (body_in position it trees tree) context noted known captures there)
-    (subst (λ t. ExpandsTo config false left (begun_by position it trees) 0 known (body_in position it trees t) inside held) (sym filled) within)
+    → IsCaptureFound its.defined_at it (begun_by position it trees) (body_in position it trees made) context known → noted ≡ known
+same_noted position context it trees macro tree made noted its known filled one captures captured =
+    one_capture macro.defined_at it (begun_by position it trees) (body_in position it trees tree) context noted known captures
+    (subst (λ m. IsCaptureFound m.defined_at it (begun_by position it trees) (body_in position it trees tree) context known) (sym one)
+    (subst (λ t. IsCaptureFound its.defined_at it (begun_by position it trees) (body_in position it trees t) context known) (sym filled) captured))
+
+-- The same expansion expands to the same.
+same_held : (config : Config) (left : ℕ) (position : Position) (it : Call) (trees : Forest) (tree made : Root) (noted known inside : Context) (held : Outcome) → tree ≡ made → noted ≡ known
+    → ExpandsTo config false left (begun_by position it trees) 0 (entered_in config it trees made known) (body_in position it trees made) inside held
+    → ExpandsTo config false left (begun_by position it trees) 0 (entered_in config it trees tree noted) (body_in position it trees tree) inside held
+same_held config left position it trees tree made noted known inside held filled same within =
+    moved (ap₂ (entered_in config it trees) filled same)
+    (subst (λ t. ExpandsTo config false left (begun_by position it trees) 0 (entered_in config it trees made known) (body_in position it trees t) inside held) (sym filled) within)
 
 -- The same finding makes the same known.
 same_found : (it : Call) (context : Context) (a b : Macro) (at place : ℕ) (found wrong : MacroFault) → a ≡ b → (at ≡ place) × (found ≡ wrong)
@@ -58,44 +60,50 @@ same_found it context a b at place found wrong macro same =
 
 module _ (config : Config) (in_text : Bool) (position : Position) (context after : Context) (outcome : Outcome) (arms : List Arm) (it : Call) (trees : Forest) where
   -- If a call has a fault, it is not expanded.
-  wrong_only : (limit at : ℕ) (fault : MacroFault) → IsCallFault limit arms it at fault → names_limit fault ≡ false
+  wrong_only : (limit at : ℕ) (fault : MacroFault) → IsCallFault limit (tokens_left config context) arms it at fault → names_limit fault ≡ false
       → IsWrong config in_text limit position context after outcome arms it trees ⊎ Tries config in_text limit position context after outcome limit arms it trees
       → IsWrong config in_text limit position context after outcome arms it trees
   wrong_only limit at fault bad free (inl so) = so
   wrong_only zero at fault bad free (inr so) = absurd so
-  wrong_only (suc left) at fault bad free (inr so) = absurd (no_fault arms it so.0 at fault so.6 bad free)
+  wrong_only (suc left) at fault bad free (inr so) = absurd (no_fault (tokens_left config context) arms it so.0 at fault so.6 bad free)
 
   -- If a call is expanded, it has no fault.
-  tries_only : (left : ℕ) (tree : Root) → IsExpansion arms 0 0 it.input (expansion.Tree tree) → KeepLimits after.findings
+  tries_only : (left : ℕ) (tree : Root) → Writes (tokens_left config context) arms it tree → KeepLimits after.findings
       → IsWrong config in_text (suc left) position context after outcome arms it trees ⊎ Tries config in_text (suc left) position context after outcome (suc left) arms it trees
       → Tries config in_text (suc left) position context after outcome (suc left) arms it trees
   tries_only left tree makes keep (inl so) =
-      absurd (no_fault arms it tree so.1 so.2 makes so.5 (keep_first context.findings (found_of it so.0 so.1 so.2) (keep_before so.6 keep)).1)
+      absurd (no_fault (tokens_left config context) arms it tree so.1 so.2 makes so.5 (keep_found (found_of it so.0 so.1 so.2) context (keep_before so.6 keep)).1)
   tries_only left tree makes keep (inr so) = so
 
-  module _ (limit left : ℕ) (tree : Root) (inside : Context) (held : Outcome) where
+  module _ (limit left : ℕ) (tree : Root) (noted inside : Context) (held : Outcome) where
     -- The findings of the expansion of a call name no limit.
-    keep_held : KeepLimits after.findings
-        → Changes config in_text limit position context after outcome left it trees tree inside held ⊎ Stays config in_text limit position context after outcome left it trees tree inside held
-        → KeepLimits inside.findings
+    keep_held : KeepLimits after.findings → Settles config in_text limit position context after outcome left it trees tree noted inside held → KeepLimits inside.findings
     keep_held keep (inl so) = keep_before so.4 keep
-    keep_held keep (inr so) = (keep_first inside.findings (found_of it so.0 so.1 so.2) (keep_before so.6 keep)).0
+    keep_held keep (inr so) = (keep_found (found_of it so.0 so.1 so.2) (outside_call noted inside) (keep_before so.6 keep)).0
 
     -- A call that may be replaced is.
     changes_only : (put : Forest) → PutIn in_text (site_in position it trees tree) (trees_left held) put → MayBePut in_text it.delimiter put → KeepLimits after.findings
-        → Changes config in_text limit position context after outcome left it trees tree inside held ⊎ Stays config in_text limit position context after outcome left it trees tree inside held
-        → Changes config in_text limit position context after outcome left it trees tree inside held
+        → Settles config in_text limit position context after outcome left it trees tree noted inside held
+        → Changes config in_text limit position context after outcome left it trees tree noted inside held
     changes_only put fits may keep (inl so) = so
     changes_only put fits may keep (inr so) =
         absurd (never_kept (site_in position it trees tree) (trees_left held) in_text put (start_of (begin_in it trees).range) so.1 so.2 so.5 fits may
-        (keep_first inside.findings (found_of it so.0 so.1 so.2) (keep_before so.6 keep)).1)
+        (keep_found (found_of it so.0 so.1 so.2) (outside_call noted inside) (keep_before so.6 keep)).1)
 
     -- A call that has a reason to stay does.
     stays_only : (at : ℕ) (fault : MacroFault) → IsKept in_text (site_in position it trees tree) (trees_left held) (start_of (begin_in it trees).range) at fault → names_limit fault ≡ false
-        → Changes config in_text limit position context after outcome left it trees tree inside held ⊎ Stays config in_text limit position context after outcome left it trees tree inside held
-        → Stays config in_text limit position context after outcome left it trees tree inside held
+        → Settles config in_text limit position context after outcome left it trees tree noted inside held
+        → Stays config in_text limit position context after outcome left it trees tree noted inside held
     stays_only at fault kept free (inl so) = absurd (never_kept (site_in position it trees tree) (trees_left held) in_text so.0 (start_of (begin_in it trees).range) at fault kept so.2 so.3 free)
     stays_only at fault kept free (inr so) = so
+
+  -- The same tree, in which the same names are captured, and which expands to the same, settles alike.
+  same_settled : (limit left : ℕ) (tree made : Root) (noted known inside within : Context) (held others : Outcome) → tree ≡ made → noted ≡ known → inside ≡ within → held ≡ others
+      → Settles config in_text limit position context after outcome left it trees made known within others
+      → Settles config in_text limit position context after outcome left it trees tree noted inside held
+  same_settled limit left tree made noted known inside within held others filled same one that so =
+      subst₂ (λ t n. Settles config in_text limit position context after outcome left it trees t n inside held) (sym filled) (sym same)
+      (subst₂ (λ i h. Settles config in_text limit position context after outcome left it trees made known i h) (sym one) (sym that) so)
 
 -- Trees expand to one thing, and one thing is known then.
 pub one_outcome : {config : Config} {in_text : Bool} {limit plain : ℕ} {position : Position} {context after again : Context} {trees : Forest} {outcome that : Outcome}
@@ -134,36 +142,36 @@ one_outcome {config = config} {in_text = in_text} {limit = limit} {again = again
     let go = goes_out config in_text limit position context again that it.attributes config.everywhere it trees some (begins_call second it None going is none) in
     one_outcome behind go x y
 one_outcome {config = config} {in_text = in_text} {limit = limit} {again = again} {that = that} (on_faulty_call {position = position} {context = context} {it = it} {macro = macro} {arms = arms} {trees = trees} at fault going is called expands bad behind) second x y =
-    let free = (keep_first context.findings (found_of it macro at fault) (keep_before behind x)).1 in
+    let free = (keep_found (found_of it macro at fault) context (keep_before behind x)).1 in
     let go = wrong_only config in_text position context again that arms it trees limit at fault bad free (begins_call second it (Some arms) going is (ap arms_of called ∙ expands)) in
-    let none = (keep_first context.findings (found_of it go.0 go.1 go.2) (keep_before go.6 y)).1 in
-    let known = same_found it context macro go.0 at go.1 fault go.2 (one_called config context it macro go.0 called go.4) (one_fault arms it limit at go.1 fault go.2 bad go.5 free none) in
+    let none = (keep_found (found_of it go.0 go.1 go.2) context (keep_before go.6 y)).1 in
+    let known = same_found it context macro go.0 at go.1 fault go.2 (one_called config context it macro go.0 called go.4) (one_fault (tokens_left config context) arms it limit at go.1 fault go.2 bad go.5 free none) in
     let same = one_outcome behind (moved known go.6) x y in
     (same.0, ap (stays (front_trees it.len trees)) same.1 ∙ sym go.7)
 one_outcome {config = config} {in_text = in_text} {again = again} {that = that} (on_call {limit = left} {position = position} {context = context} {noted = noted} {inside = inside} {it = it} {macro = macro} {arms = arms} {trees = trees} {held = held} tree put going is called expands makes captures within fits may behind) second x y =
     let go = tries_only config in_text position context again that arms it trees left tree makes y (begins_call second it (Some arms) going is (ap arms_of called ∙ expands)) in
-    let filled = one_tree arms it tree go.0 makes go.6 in
-    let held_there = same_held config left position context it trees macro tree go.0 noted go.1 go.2 go.3 go.4 filled (one_called config context it macro go.1 called go.5) captures go.7 go.8 in
-    let one = one_outcome within held_there (keep_before behind x) (keep_held config in_text position context again that arms it trees (suc left) left go.0 go.3 go.4 y go.9) in
+    let filled = one_tree (tokens_left config context) arms it tree go.0 makes.0 go.6.0 in
+    let same_there = same_noted position context it trees macro tree go.0 noted go.1 go.2 filled (one_called config context it macro go.1 called go.5) captures go.7 in
+    let held_there = same_held config left position it trees tree go.0 noted go.2 go.3 go.4 filled same_there go.8 in
+    let one = one_outcome within held_there (keep_before behind x) (keep_held config in_text position context again that arms it trees (suc left) left go.0 go.2 go.3 go.4 y go.9) in
     let so =
-    changes_only config in_text position context again that arms it trees (suc left) left tree inside held put fits may y
-    (subst₂ (λ i h. Changes config in_text (suc left) position context again that left it trees tree i h ⊎ Stays config in_text (suc left) position context again that left it trees tree i h) (sym one.0) (sym one.1)
-    (subst (λ t. Changes config in_text (suc left) position context again that left it trees t go.3 go.4 ⊎ Stays config in_text (suc left) position context again that left it trees t go.3 go.4) (sym filled) go.9)) in
+    changes_only config in_text position context again that arms it trees (suc left) left tree noted inside held put fits may y
+    (same_settled config in_text position context again that arms it trees (suc left) left tree go.0 noted go.2 inside go.3 held go.4 filled same_there one.0 one.1 go.9) in
     let placed : put ≡ so.0 = one_shown in_text (site_in position it trees tree) (trees_left held) put so.0 fits so.2 in
     let same = one_outcome behind so.4 x y in
     (same.0, ap₂ (becomes_in position it trees) placed same.1 ∙ sym so.5)
 one_outcome {config = config} {in_text = in_text} {again = again} {that = that} (on_kept_call {limit = left} {position = position} {context = context} {noted = noted} {inside = inside} {it = it} {macro = macro} {arms = arms} {trees = trees} {held = held} tree at fault going is called expands makes captures within kept behind) second x y =
     let go = tries_only config in_text position context again that arms it trees left tree makes y (begins_call second it (Some arms) going is (ap arms_of called ∙ expands)) in
-    let filled = one_tree arms it tree go.0 makes go.6 in
-    let held_there = same_held config left position context it trees macro tree go.0 noted go.1 go.2 go.3 go.4 filled (one_called config context it macro go.1 called go.5) captures go.7 go.8 in
-    let first = keep_first inside.findings (found_of it macro at fault) (keep_before behind x) in
-    let one = one_outcome within held_there first.0 (keep_held config in_text position context again that arms it trees (suc left) left go.0 go.3 go.4 y go.9) in
+    let filled = one_tree (tokens_left config context) arms it tree go.0 makes.0 go.6.0 in
+    let same_there = same_noted position context it trees macro tree go.0 noted go.1 go.2 filled (one_called config context it macro go.1 called go.5) captures go.7 in
+    let held_there = same_held config left position it trees tree go.0 noted go.2 go.3 go.4 filled same_there go.8 in
+    let first = keep_found (found_of it macro at fault) (outside_call noted inside) (keep_before behind x) in
+    let one = one_outcome within held_there first.0 (keep_held config in_text position context again that arms it trees (suc left) left go.0 go.2 go.3 go.4 y go.9) in
     let so =
-    stays_only config in_text position context again that arms it trees (suc left) left tree inside held at fault kept first.1
-    (subst₂ (λ i h. Changes config in_text (suc left) position context again that left it trees tree i h ⊎ Stays config in_text (suc left) position context again that left it trees tree i h) (sym one.0) (sym one.1)
-    (subst (λ t. Changes config in_text (suc left) position context again that left it trees t go.3 go.4 ⊎ Stays config in_text (suc left) position context again that left it trees t go.3 go.4) (sym filled) go.9)) in
-    let none = (keep_first inside.findings (found_of it so.0 so.1 so.2) (keep_before so.6 y)).1 in
+    stays_only config in_text position context again that arms it trees (suc left) left tree noted inside held at fault kept first.1
+    (same_settled config in_text position context again that arms it trees (suc left) left tree go.0 noted go.2 inside go.3 held go.4 filled same_there one.0 one.1 go.9) in
+    let none = (keep_found (found_of it so.0 so.1 so.2) (outside_call noted inside) (keep_before so.6 y)).1 in
     let reason = one_kept (site_in position it trees tree) (trees_left held) in_text (start_of (begin_in it trees).range) at so.1 fault so.2 kept so.5 first.1 none in
-    let known = same_found it inside macro so.0 at so.1 fault so.2 (one_called config context it macro so.0 called so.4) reason in
+    let known = same_found it (outside_call noted inside) macro so.0 at so.1 fault so.2 (one_called config context it macro so.0 called so.4) reason in
     let same = one_outcome behind (moved known so.6) x y in
     (same.0, ap (stays_in position it trees) same.1 ∙ sym so.7)

@@ -13,15 +13,15 @@ use Rattle.expand_text.specs.declared.walk.Invocation.{Invocation}
 use Rattle.expand_text.specs.declared.walk.Event.TheVariants as event
 use Rattle.expand_text.specs.declared.walk.Walk.{Walk}
 use Rattle.expand_text.specs.Calling.{IsFaulty, IsExpanded}
-use Rattle.expand_text.specs.Meaning.{begin_in, begun_by, body_in, end_in, site_in, takes_in, whole_in, ExpandsTo}
+use Rattle.expand_text.specs.Meaning.{begin_in, begun_by, body_in, end_in, entered_in, site_in, takes_in, whole_in, ExpandsTo}
 use Rattle.expand_items.specs.Items.{Call, calls, inactive}
-use Rattle.expand_text.specs.Contexts.{Config, Context, with_finding}
+use Rattle.expand_text.specs.Contexts.{Config, Context, inside_call, outside_call, with_finding}
 use Rattle.expand_text.specs.Macros.{MayBePut, called_by, arms_of, found_of, context_behind}
 use Rattle.expand_text.specs.Outcomes.{Outcome, trees_left}
 use Rattle.expand_text.specs.CallSites.{CallSite, PutIn, IsKept}
 use Rattle.expand_text.specs.Capturing.{IsCaptureFound}
 use Rattle.expand_text.specs.Passing.{IsPartPassed, IsStay, IsInvoked}
-use Rattle.expand_text.specs.Walks.{body_of, Level, level_of, levels_of, past, past_call, past_part, first_stay, first_becomes, Leads, GoesPast, found_by, site_of, closes_of, work_in, IsNext, IsFirst, IsAtItem, Steps}
+use Rattle.expand_text.specs.Walks.{body_of, Level, level_of, levels_of, past, past_call, past_part, first_stay, first_becomes, Leads, GoesPast, entered_by, found_by, site_of, closes_of, work_in, IsNext, IsFirst, IsAtItem, Steps}
 use Rattle.expand_text.proofs.Leading.{leads_inactive, leads_other, leads_faulty, leads_call, leads_kept}
 use Rattle.expand_items.proofs.Conditions.{call_at_less}
 use Rattle.expand_items.proofs.ItemsAt.{calls_at, inactive_less}
@@ -93,14 +93,22 @@ module _ (config : Config) (in_text : Bool) (limit : ℕ) (old : Walk) (context 
       found at fault = ap₂ finding is.name (is.defined ∙ sym from.defined)
         where
           finding : List ℕ → ℕ → Finding
-          finding name place = record { name = name; at = at; fault = fault; defined_at = Some place }
+          finding name place = record { name = name; at = at; fault = fault; defined_at = Some place; caller = None }
 
-      by : (inside : Context) (held : Outcome) → ExpandsTo config false from.left i.position 0 others (body_of i) inside held
-          → GoesPast config in_text limit (levels_of old) context i (trees_left held) nexts inside
+      entered : entered_by config i others ≡ entered_in config it trees tree others
+      entered =
+          ap (λ name. inside_call config name (start_of i.first_span.range) (size i.tree.children) others) is.name
+          ∙ ap₂ (λ first made. inside_call config it.name.sym (start_of first.range) (size made.children) others) is.first is.tree
+
+      by : (inside : Context) (held : Outcome) → ExpandsTo config false from.left i.position 0 (entered_by config i others) (body_of i) inside held
+          → GoesPast config in_text limit (levels_of old) context i (trees_left held) nexts (outside_call others inside)
       by inside held expands_to = record { puts = puts; stays = stays }
         where
           body : Forest
           body = body_in old.level.position it trees tree
+
+          behind : Context
+          behind = outside_call others inside
 
           noted : IsCaptureFound from.macro.defined_at it (begun_by old.level.position it trees) body context others
           noted =
@@ -109,28 +117,29 @@ module _ (config : Config) (in_text : Bool) (limit : ℕ) (old : Walk) (context 
               (subst (λ f. IsCaptureFound i.defined_at it (begun_by old.level.position it trees) f same others) is.makes
               (subst (λ p. IsCaptureFound i.defined_at it p (body_of i) same others) is.begins captures)))
 
-          came : ExpandsTo config false from.left (begun_by old.level.position it trees) 0 others body inside held
+          came : ExpandsTo config false from.left (begun_by old.level.position it trees) 0 (entered_in config it trees tree others) body inside held
           came =
-              subst (λ f. ExpandsTo config false from.left (begun_by old.level.position it trees) 0 others f inside held) is.makes
-              (subst (λ p. ExpandsTo config false from.left p 0 others (body_of i) inside held) is.begins expands_to)
+              subst (λ f. ExpandsTo config false from.left (begun_by old.level.position it trees) 0 (entered_in config it trees tree others) f inside held) is.makes
+              (subst (λ p. ExpandsTo config false from.left p 0 (entered_in config it trees tree others) (body_of i) inside held) is.begins
+              (subst (λ k. ExpandsTo config false from.left i.position 0 k (body_of i) inside held) entered expands_to))
 
           puts : (put : Forest) → PutIn in_text (site_of i) (trees_left held) put → MayBePut in_text i.delimiter put
-              → Leads config in_text limit (levels_of old) context (first_becomes (site_of i).attributes i.first_span i.last_span put) nexts inside
+              → Leads config in_text limit (levels_of old) context (first_becomes (site_of i).attributes i.first_span i.last_span put) nexts behind
           puts put so may =
-              subst (λ s. Leads config in_text limit (levels_of old) context (first_becomes s.attributes i.first_span i.last_span put) nexts inside) (sym is.site)
-              (subst (λ s. Leads config in_text limit (levels_of old) context (first_becomes site.attributes s i.last_span put) nexts inside) (sym is.first)
-              (subst (λ s. Leads config in_text limit (levels_of old) context (first_becomes site.attributes begin s put) nexts inside) (sym is.last)
-              (subst (λ n. Leads config in_text n (levels_of old) context (first_becomes site.attributes begin end put) nexts inside) (sym from.fits)
+              subst (λ s. Leads config in_text limit (levels_of old) context (first_becomes s.attributes i.first_span i.last_span put) nexts behind) (sym is.site)
+              (subst (λ s. Leads config in_text limit (levels_of old) context (first_becomes site.attributes s i.last_span put) nexts behind) (sym is.first)
+              (subst (λ s. Leads config in_text limit (levels_of old) context (first_becomes site.attributes begin s put) nexts behind) (sym is.last)
+              (subst (λ n. Leads config in_text n (levels_of old) context (first_becomes site.attributes begin end put) nexts behind) (sym from.fits)
               (leads_call config in_text from.left (level_of old.level) (map level_of (reverse old.outer.items)) context there.first there.goes_on it from.macro from.arms tree there.item
               from.called from.expands from.makes others inside held noted came put
               (subst (λ s. PutIn in_text s (trees_left held) put) is.site so) (subst (λ s. MayBePut in_text s.delimiter put) is.site may)))))
 
           stays : (at : ℕ) (fault : MacroFault) → IsKept in_text (site_of i) (trees_left held) (start_of i.first_span.range) at fault
-              → Leads config in_text limit (levels_of old) context (first_stay (trees_of i.whole)) nexts (with_finding (found_by i at fault) inside)
+              → Leads config in_text limit (levels_of old) context (first_stay (trees_of i.whole)) nexts (with_finding (found_by i at fault) behind)
           stays at fault kept =
-              subst (λ f. Leads config in_text limit (levels_of old) context (first_stay f) nexts (with_finding (found_by i at fault) inside)) (sym is.whole)
-              (subst (λ n. Leads config in_text n (levels_of old) context (first_stay (whole_in old.level.position it trees)) nexts (with_finding (found_by i at fault) inside)) (sym from.fits)
-              (subst (λ f. Leads config in_text (suc from.left) (levels_of old) context (first_stay (whole_in old.level.position it trees)) nexts (with_finding f inside)) (sym (found at fault))
+              subst (λ f. Leads config in_text limit (levels_of old) context (first_stay f) nexts (with_finding (found_by i at fault) behind)) (sym is.whole)
+              (subst (λ n. Leads config in_text n (levels_of old) context (first_stay (whole_in old.level.position it trees)) nexts (with_finding (found_by i at fault) behind)) (sym from.fits)
+              (subst (λ f. Leads config in_text (suc from.left) (levels_of old) context (first_stay (whole_in old.level.position it trees)) nexts (with_finding f behind)) (sym (found at fault))
               (leads_kept config in_text from.left (level_of old.level) (map level_of (reverse old.outer.items)) context there.first there.goes_on it from.macro from.arms tree there.item
               from.called from.expands from.makes others inside held noted came at fault
               (subst (λ s. IsKept in_text site (trees_left held) (start_of s.range) at fault) is.first

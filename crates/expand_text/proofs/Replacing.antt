@@ -10,12 +10,12 @@ use Rattle.expand_text.specs.declared.walk.Event.{Event}
 use Rattle.expand_text.specs.declared.walk.Event.TheVariants as event
 use Rattle.expand_text.specs.Meaning.{ExpandsTo}
 use Rattle.expand_text.specs.Expansion.{replacement, replacements, IsSame, IsPut, IsEventWritten, GoesOn}
-use Rattle.expand_text.specs.Contexts.{Config, Context, with_finding}
+use Rattle.expand_text.specs.Contexts.{Config, Context, outside_call, with_finding}
 use Rattle.expand_text.specs.Outcomes.{Outcome, nothing, trees_left}
 use Rattle.expand_items.specs.Positions.{begun as begun_among}
 use Rattle.expand_items.specs.declared.position.Siblings.TheVariants.{Items}
 use Rattle.syntax_edit.specs.Texts.{Replacement, Writing, finished, with_all, FitAll, IsReplaced, AreReplaced}
-use Rattle.expand_text.specs.Walks.{Level, body_of, begun, Ends, Leads, first_leaf, first_subtree, first_stay, first_becomes, GoesPast, found_by, site_of, work_in, IsNext, Steps}
+use Rattle.expand_text.specs.Walks.{Level, body_of, begun, Ends, Leads, first_leaf, first_subtree, first_stay, first_becomes, GoesPast, entered_by, found_by, site_of, work_in, IsNext, Steps}
 
 -- all replacements of what levels expand to
 abbrev pub all_replacements : List Outcome → List Replacement
@@ -128,11 +128,14 @@ module _ (config : Config) (limit : ℕ) (trees : Forest) (before now others the
   reads_event (event.Stays stay) next goes is = same (reads_stay config limit trees before now others level outer nexts done reading (trees_of stay) next) is
   reads_event (event.Invocation it) (left, fits, goes_past) goes is =
       let back : limit - 1 ≡ left = omega (arith, fits) in
-      let expands_to : ExpandsTo config false left it.position 0 others (body_of it) is.inside is.outcome =
-      subst (λ n. ExpandsTo config false n it.position 0 others (body_of it) is.inside is.outcome) back is.expands_to in
+      let expands_to : ExpandsTo config false left it.position 0 (entered_by config it others) (body_of it) is.inside is.outcome =
+      subst (λ n. ExpandsTo config false n it.position 0 (entered_by config it others) (body_of it) is.inside is.outcome) back is.expands_to in
       by (goes_past is.inside is.outcome expands_to) is.put
     where
-      by : GoesPast config true limit (level ∷ outer) now it (trees_left is.outcome) nexts is.inside → IsPut it (trees_left is.outcome) is.inside then old new → IsRead
+      behind : Context
+      behind = outside_call others is.inside
+
+      by : GoesPast config true limit (level ∷ outer) now it (trees_left is.outcome) nexts behind → IsPut it (trees_left is.outcome) behind then old new → IsRead
       by past (inl (put, so, may, context, replaced)) = (
         done ++ replacement it.first_span it.last_span put ∷ [],
         reads_call config limit trees before now then level outer nexts done reading (site_of it).attributes it.first_span it.last_span put
@@ -140,7 +143,7 @@ module _ (config : Config) (limit : ℕ) (trees : Forest) (before now others the
         replaced_more done source old new (replacement it.first_span it.last_span put) are replaced,
       )
       by past (inr (at, fault, kept, context, written)) =
-          let found = with_finding (found_by it at fault) is.inside in (
+          let found = with_finding (found_by it at fault) behind in (
             done,
             subst (λ k. IsReading config limit trees before nexts k done) (sym context)
                 (reads_stay config limit trees before now found level outer nexts done reading (trees_of it.whole) (past.stays at fault kept)),

@@ -7,17 +7,15 @@ use Rattle.expand_text.specs.declared.calling.Made.{Made}
 use Rattle.expand_text.specs.declared.calling.Made.TheVariants as made
 use Rattle.expand_text.specs.declared.fault.MacroFault.{MacroFault}
 use Rattle.expand_items.specs.Items.{Call}
-use Rattle.expand_text.specs.Contexts.{Config, Context, with_finding}
-use Rattle.expand_text.specs.Macros.{IsCallFault, called_by, arms_of, found_of, context_behind}
+use Rattle.expand_text.specs.Contexts.{Config, Context, with_finding, tokens_left}
+use Rattle.expand_text.specs.Macros.{IsCallFault, Writes, called_by, arms_of, found_of, context_behind}
 use Rattle.expand_text.specs.Scopes.{Macro}
 use Rattle.mbe_rules.specs.Arms.{Arm}
-use Rattle.mbe_rules.specs.Expansions.{IsExpansion}
-use Rattle.mbe_rules.specs.declared.macro_rules.Expansion.TheVariants as expansion
 
--- what arms make of a call, with at most so many nested expansions: a tree, or a fault and its byte
-abbrev pub IsMade : (limit : ℕ) → List Arm → Call → Made → Type 0
-IsMade limit arms it (made.Tree tree) = (left : ℕ) × (limit ≡ suc left) × IsExpansion arms 0 0 it.input (expansion.Tree tree)
-IsMade limit arms it (made.Faulty at fault) = IsCallFault limit arms it at fault
+-- what arms make of a call, with at most so many nested expansions and so many tokens: a tree, or a fault and its byte
+abbrev pub IsMade : (limit allowed : ℕ) → List Arm → Call → Made → Type 0
+IsMade limit allowed arms it (made.Tree tree) = (left : ℕ) × (limit ≡ suc left) × Writes allowed arms it tree
+IsMade limit allowed arms it (made.Faulty at fault) = IsCallFault limit allowed arms it at fault
 
 -- a tree is made only if one expansion more is allowed
 abbrev pub IsMadeWithin : (limit : ℕ) → Made → Type 0
@@ -37,7 +35,7 @@ pub record IsFaulty (config : Config) (limit : ℕ) (it : Call) (before after : 
   pub fault : MacroFault
   pub called : called_by config before it ≡ Some macro
   pub expands : macro.arms ≡ Some arms
-  pub wrong : IsCallFault limit arms it at fault
+  pub wrong : IsCallFault limit (tokens_left config before) arms it at fault
   pub found : after ≡ with_finding (found_of it macro at fault) before
 
 -- a call of a macro whose name begins at that byte in its definition expands to a tree
@@ -49,7 +47,7 @@ pub record IsExpanded (config : Config) (limit : ℕ) (it : Call) (tree : Root) 
   pub called : called_by config before it ≡ Some macro
   pub defined : macro.defined_at ≡ defined_at
   pub expands : macro.arms ≡ Some arms
-  pub makes : IsExpansion arms 0 0 it.input (expansion.Tree tree)
+  pub makes : Writes (tokens_left config before) arms it tree
   pub context : after ≡ before
 
 -- what becomes of a call, and what is known then: nothing if no arms expand it, a fault, or a tree

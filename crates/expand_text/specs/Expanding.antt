@@ -7,11 +7,11 @@ use Rattle.tt.specs.Views.{trees_of}
 use Rattle.expand_text.specs.declared.fault.MacroFault.{MacroFault}
 use Rattle.expand_text.specs.declared.walk.Invocation.{Invocation}
 use Rattle.expand_text.specs.Meaning.{ExpandsTo}
-use Rattle.expand_text.specs.Contexts.{Config, Context, with_finding}
+use Rattle.expand_text.specs.Contexts.{Config, Context, with_finding, outside_call}
 use Rattle.expand_text.specs.Macros.{tree_of}
 use Rattle.expand_text.specs.Outcomes.{Outcome, trees_left}
 use Rattle.expand_text.specs.CallSites.{CallSite, PutAs, IsMisplaced}
-use Rattle.expand_text.specs.Walks.{body_of, found_by, site_of}
+use Rattle.expand_text.specs.Walks.{body_of, entered_by, found_by, site_of}
 use Rattle.expand_items.specs.declared.position.Position.{Position}
 
 -- what trees from a position on expand to, with at most so many nested expansions, is added to the innermost level of the builder
@@ -37,16 +37,22 @@ pub record IsPlaced (config : Config) (limit : ℕ) (it : Invocation) (misplaced
   pub expands_to : ExpandsTo config false limit it.position 0 before (body_of it) after outcome
   pub added : IsAdded (site_of it) (trees_left outcome) misplaced old new
 
+-- a call is entered, its expansion is added, and the call is left
+pub record IsPlacedInside (config : Config) (limit : ℕ) (it : Invocation) (misplaced : Option MacroFault) (old new : Stack) (before after : Context) : Type 0 where
+  pub inside : Context
+  pub placed : IsPlaced config limit it misplaced old new (entered_by config it before) inside
+  pub behind : after ≡ outside_call before inside
+
 -- these trees are added after a call's attributes, in its place; or all of the call is added, which is found
-abbrev pub IsPutOrKept : Invocation → (trees : Forest) → (inside after : Context) → (old new : Stack) → Type 0
-IsPutOrKept it trees inside after old new =
-    ((put : Forest) × PutAs (site_of it) trees (Some put) × (after ≡ inside) × (new ≡ append put (append (site_of it).attributes old)))
-    ⊎ ((fault : MacroFault) × IsMisplaced (site_of it) trees fault × (after ≡ with_finding (found_by it (start_of it.first_span.range) fault) inside)
+abbrev pub IsPutOrKept : Invocation → (trees : Forest) → (behind after : Context) → (old new : Stack) → Type 0
+IsPutOrKept it trees behind after old new =
+    ((put : Forest) × PutAs (site_of it) trees (Some put) × (after ≡ behind) × (new ≡ append put (append (site_of it).attributes old)))
+    ⊎ ((fault : MacroFault) × IsMisplaced (site_of it) trees fault × (after ≡ with_finding (found_by it (start_of it.first_span.range) fault) behind)
     × (new ≡ append (trees_of it.whole) old))
 
 -- the expansion of a call takes its place, or the call stays
 pub record IsPassed (config : Config) (limit : ℕ) (it : Invocation) (old new : Stack) (before after : Context) : Type 0 where
   pub inside : Context
   pub outcome : Outcome
-  pub expands_to : ExpandsTo config false limit it.position 0 before (body_of it) inside outcome
-  pub passed : IsPutOrKept it (trees_left outcome) inside after old new
+  pub expands_to : ExpandsTo config false limit it.position 0 (entered_by config it before) (body_of it) inside outcome
+  pub passed : IsPutOrKept it (trees_left outcome) (outside_call before inside) after old new

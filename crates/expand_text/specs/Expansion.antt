@@ -18,7 +18,7 @@ use Rattle.expand_text.specs.declared.walk.Event.TheVariants as event
 use Rattle.expand_text.specs.declared.walk.Invocation.{Invocation}
 use Rattle.expand_text.specs.Meaning.{ExpandsTo}
 use Rattle.expand_text.specs.Findings.{is_warning}
-use Rattle.expand_text.specs.Contexts.{Config, Context, new_context, with_finding}
+use Rattle.expand_text.specs.Contexts.{Config, Context, new_context, with_finding, outside_call}
 use Rattle.expand_text.specs.Exports.{AreExported}
 use Rattle.expand_text.specs.Macros.{MayBePut, IsUnwritten}
 use Rattle.expand_text.specs.Outcomes.{Outcome, nothing, passes, enters, stays, becomes, trees_left}
@@ -30,7 +30,7 @@ use Rattle.syntax_edit.specs.Texts.{Replacement, Writing, begun, finished, with_
 use Rattle.expand_text.specs.Reading.{sorts_left}
 use Rattle.expand_text.specs.Scopes.{Macro}
 use Rattle.expand_text.specs.CallSites.{CallSite, PutIn, IsKept}
-use Rattle.expand_text.specs.Walks.{body_of, found_by, site_of}
+use Rattle.expand_text.specs.Walks.{body_of, entered_by, found_by, site_of}
 use Rattle.syntax_parse.specs.Parsed.{IsParse}
 use Rattle.syntax_parse.specs.Refusal.{IsFaultOf, IsRefusal}
 use Rattle.syntax_parse.specs.Spelled.{Sort, spelled}
@@ -62,24 +62,26 @@ IsCallText it trees begin (made.Faulty at fault) = IsKept true it trees begin at
 
 -- what a call expands to is written as Rust, or cannot be
 pub record IsInvocationText (config : Config) (limit : ℕ) (it : Invocation) (result : Written) (before after : Context) : Type 0 where
+  pub inside : Context
   pub outcome : Outcome
-  pub expands_to : ExpandsTo config false limit it.position 0 before (body_of it) after outcome
+  pub expands_to : ExpandsTo config false limit it.position 0 (entered_by config it before) (body_of it) inside outcome
+  pub behind : after ≡ outside_call before inside
   pub text : IsCallText (site_of it) (trees_left outcome) (start_of it.first_span.range) result
 
 -- an expansion replaces its call, if that part of the source is left; or the call stays, and that is found
-abbrev pub IsPut : Invocation → (trees : Forest) → (inside after : Context) → (old new : Writing) → Type 0
-IsPut it trees inside after old new =
-    ((put : Forest) × PutIn true (site_of it) trees put × MayBePut true it.delimiter put × (after ≡ inside)
+abbrev pub IsPut : Invocation → (trees : Forest) → (behind after : Context) → (old new : Writing) → Type 0
+IsPut it trees behind after old new =
+    ((put : Forest) × PutIn true (site_of it) trees put × MayBePut true it.delimiter put × (after ≡ behind)
     × IsReplaced (replacement it.first_span it.last_span put) old new)
     ⊎ ((at : ℕ) × (fault : MacroFault) × IsKept true (site_of it) trees (start_of it.first_span.range) at fault
-    × (after ≡ with_finding (found_by it at fault) inside) × (new ≡ old))
+    × (after ≡ with_finding (found_by it at fault) behind) × (new ≡ old))
 
 -- a call is replaced by its expansion
 pub record IsInvocationWritten (config : Config) (limit : ℕ) (it : Invocation) (old new : Writing) (before after : Context) : Type 0 where
   pub inside : Context
   pub outcome : Outcome
-  pub expands_to : ExpandsTo config false limit it.position 0 before (body_of it) inside outcome
-  pub put : IsPut it (trees_left outcome) inside after old new
+  pub expands_to : ExpandsTo config false limit it.position 0 (entered_by config it before) (body_of it) inside outcome
+  pub put : IsPut it (trees_left outcome) (outside_call before inside) after old new
 
 -- nothing is written, and nothing more is known
 abbrev pub IsSame : (before after : Context) (old new : Writing) → Type 0
@@ -113,7 +115,7 @@ pub record IsSourceText (config : Config) (limit : ℕ) (source : List ℕ) (tre
 
 -- the setting of the options
 abbrev pub config_by : ExpandOptions → Config
-config_by it = record { known = known_of it.cfg.now; root = it.root.now; everywhere = it.everywhere; only = option_map (λ name. name.now) it.only }
+config_by it = record { known = known_of it.cfg.now; root = it.root.now; everywhere = it.everywhere; max_tokens = it.max_tokens; only = option_map (λ name. name.now) it.only }
 
 -- a text reads back as what is left: it has no fault of syntax, and any tree that it is read as spells what is left
 pub record ReadsAs (text : List ℕ) (left : List Sort) : Type 0 where
@@ -134,6 +136,7 @@ pub record IsExpanded (options : ExpandOptions) (source : List ℕ) (it : Expand
   pub text : string_bytes it.text ≡ with_all (replacements outcome) (begun source)
   pub back : ReadsAs (string_bytes it.text) (sorts_left outcome)
   pub findings : it.findings.items ≡ after.findings
+  pub callers : it.callers.items ≡ after.callers
 
 -- the first finding that is no warning
 abbrev pub fault_or : (is_warning : Bool) → Finding → Option Finding → Option Finding

@@ -17,24 +17,26 @@ is_warning wrong.NoMatch = false
 is_warning (wrong.Ambiguous arm) = false
 is_warning (wrong.Expansion why) = false
 is_warning wrong.TooDeep = false
+is_warning wrong.OverMaxTokens = false
 is_warning wrong.NotWritable = false
 is_warning wrong.TooLong = false
 is_warning (wrong.TooLarge why) = false
 
--- no call is expanded any more
-abbrev pub is_too_deep : MacroFault → Bool
-is_too_deep (wrong.Definition why) = false
-is_too_deep wrong.Left = false
-is_too_deep wrong.BuiltIn = false
-is_too_deep wrong.SeveralDefinitions = false
-is_too_deep wrong.NotExported = false
-is_too_deep (wrong.Captured binding) = false
-is_too_deep wrong.Conditional = false
-is_too_deep wrong.Statements = false
-is_too_deep wrong.NoMatch = false
-is_too_deep (wrong.Ambiguous arm) = false
-is_too_deep (wrong.Expansion why) = false
-is_too_deep wrong.TooDeep = true
-is_too_deep wrong.NotWritable = false
-is_too_deep wrong.TooLong = false
-is_too_deep (wrong.TooLarge why) = false
+-- no other call is expanded in what comes of the call of the text
+abbrev pub ends_call : MacroFault → Bool
+ends_call (wrong.Definition why) = false
+ends_call wrong.Left = false
+ends_call wrong.BuiltIn = false
+ends_call wrong.SeveralDefinitions = false
+ends_call wrong.NotExported = false
+ends_call (wrong.Captured binding) = false
+ends_call wrong.Conditional = false
+ends_call wrong.Statements = false
+ends_call wrong.NoMatch = false
+ends_call (wrong.Ambiguous arm) = false
+ends_call (wrong.Expansion why) = false
+ends_call wrong.TooDeep = true
+ends_call wrong.OverMaxTokens = true
+ends_call wrong.NotWritable = false
+ends_call wrong.TooLong = false
+ends_call (wrong.TooLarge why) = false

@@ -26,6 +26,7 @@ names_limit wrong.NoMatch = false
 names_limit (wrong.Ambiguous arm) = false
 names_limit (wrong.Expansion why) = is_limit why.fault
 names_limit wrong.TooDeep = false
+names_limit wrong.OverMaxTokens = false
 names_limit wrong.NotWritable = false
 names_limit wrong.TooLong = false
 names_limit (wrong.TooLarge why) = true

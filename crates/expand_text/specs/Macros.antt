@@ -1,6 +1,6 @@
 -- What is defined, and what calls expand to.
-use Rattle.std.specs.Prelude.{◌≡◌, ◌≢◌, ◌⊎◌, ◌<◌, ◌+◌, ◌^◌, ◌&&◌, ℕ, suc, zero, Bool, true, false, List, length, Option, None, Some, is_some, if◌then◌else◌}
-use Rattle.tt.specs.Forest.{Forest, Root}
+use Rattle.std.specs.Prelude.{◌≡◌, ◌≢◌, ◌⊎◌, ◌<◌, ◌≤◌, ◌+◌, ◌^◌, ◌&&◌, ℕ, suc, zero, Bool, true, false, List, length, Option, None, Some, is_some, if◌then◌else◌}
+use Rattle.tt.specs.Forest.{Forest, Root, size}
 use Rattle.tt.specs.Span.{start_of}
 use Rattle.tt.specs.Stored.{IsWithinLimits}
 use Rattle.tt.specs.TreeFault.{under, IsTreeFault}
@@ -71,12 +71,13 @@ IsDefinitionFault it trees at wrong.NoMatch = ⊥
 IsDefinitionFault it trees at (wrong.Ambiguous arm) = ⊥
 IsDefinitionFault it trees at (wrong.Expansion why) = ⊥
 IsDefinitionFault it trees at wrong.TooDeep = ⊥
+IsDefinitionFault it trees at wrong.OverMaxTokens = ⊥
 IsDefinitionFault it trees at wrong.NotWritable = ⊥
 IsDefinitionFault it trees at wrong.TooLong = ⊥
 
 -- a finding in the definition
 abbrev pub found_in : Definition → (at : ℕ) → MacroFault → Finding
-found_in it at fault = record { name = it.name.sym; at = at; fault = fault; defined_at = None }
+found_in it at fault = record { name = it.name.sym; at = at; fault = fault; defined_at = None; caller = None }
 
 -- what is known after a definition with these arms, which is under a condition if `is_open`: they spell arms; or the definition has a fault,
 -- and is left as it is
@@ -124,33 +125,39 @@ arms_of (Some macro) = macro.arms
 
 -- a finding in a call of a macro
 abbrev pub found_of : Call → Macro → (at : ℕ) → MacroFault → Finding
-found_of it macro at fault = record { name = it.name.sym; at = at; fault = fault; defined_at = Some macro.defined_at }
+found_of it macro at fault = record { name = it.name.sym; at = at; fault = fault; defined_at = Some macro.defined_at; caller = None }
 
--- the fault of an input, and its byte: no arm matches it, which shows where the farthest arm stops; or an arm matches it in two ways or is
--- not filled, which shows at the name of the call
-abbrev pub IsInputFault : List Arm → Call → (at : ℕ) → MacroFault → Type 0
-IsInputFault arms it at wrong.NoMatch =
+-- arms write that tree for a call, and it has at most so many tokens
+abbrev pub Writes : (allowed : ℕ) → List Arm → Call → Root → Type 0
+Writes allowed arms it tree = IsExpansion arms 0 0 it.input (expansion.Tree tree) × (size tree.children ≤ allowed)
+
+-- the fault of an input for which an arm may write so many tokens, and its byte: no arm matches it, which shows where the farthest arm stops;
+-- or an arm matches it in two ways, is not filled, or would write more tokens, which shows at the name of the call
+abbrev pub IsInputFault : (allowed : ℕ) → List Arm → Call → (at : ℕ) → MacroFault → Type 0
+IsInputFault allowed arms it at wrong.NoMatch =
     (place : ℕ) × IsExpansion arms 0 0 it.input (expansion.NoMatch place) × (at ≡ byte_at it.input place (start_of it.delimiter.close.range))
-IsInputFault arms it at (wrong.Ambiguous arm) = IsExpansion arms 0 0 it.input (expansion.Ambiguous arm) × (at ≡ start_of it.name.span.range)
-IsInputFault arms it at (wrong.Expansion why) =
+IsInputFault allowed arms it at (wrong.Ambiguous arm) = IsExpansion arms 0 0 it.input (expansion.Ambiguous arm) × (at ≡ start_of it.name.span.range)
+IsInputFault allowed arms it at (wrong.Expansion why) =
     IsExpandError arms 0 it.input why × (why.fault ≢ transcribe_error.Tree limit.Memory) × (at ≡ start_of it.name.span.range)
-IsInputFault arms it at (wrong.Definition why) = ⊥
-IsInputFault arms it at wrong.Left = ⊥
-IsInputFault arms it at wrong.BuiltIn = ⊥
-IsInputFault arms it at wrong.Statements = ⊥
-IsInputFault arms it at wrong.SeveralDefinitions = ⊥
-IsInputFault arms it at wrong.NotExported = ⊥
-IsInputFault arms it at (wrong.Captured binding) = ⊥
-IsInputFault arms it at wrong.Conditional = ⊥
-IsInputFault arms it at wrong.TooDeep = ⊥
-IsInputFault arms it at wrong.NotWritable = ⊥
-IsInputFault arms it at wrong.TooLong = ⊥
-IsInputFault arms it at (wrong.TooLarge why) = ⊥
+IsInputFault allowed arms it at (wrong.Definition why) = ⊥
+IsInputFault allowed arms it at wrong.Left = ⊥
+IsInputFault allowed arms it at wrong.BuiltIn = ⊥
+IsInputFault allowed arms it at wrong.Statements = ⊥
+IsInputFault allowed arms it at wrong.SeveralDefinitions = ⊥
+IsInputFault allowed arms it at wrong.NotExported = ⊥
+IsInputFault allowed arms it at (wrong.Captured binding) = ⊥
+IsInputFault allowed arms it at wrong.Conditional = ⊥
+IsInputFault allowed arms it at wrong.OverMaxTokens =
+    (tree : Root) × IsExpansion arms 0 0 it.input (expansion.Tree tree) × (allowed < size tree.children) × (at ≡ start_of it.name.span.range)
+IsInputFault allowed arms it at wrong.TooDeep = ⊥
+IsInputFault allowed arms it at wrong.NotWritable = ⊥
+IsInputFault allowed arms it at wrong.TooLong = ⊥
+IsInputFault allowed arms it at (wrong.TooLarge why) = ⊥
 
--- the fault of a call that arms expand, with at most so many nested expansions
-abbrev pub IsCallFault : (limit : ℕ) → List Arm → Call → (at : ℕ) → MacroFault → Type 0
-IsCallFault zero arms it at fault = (fault ≡ wrong.TooDeep) × (at ≡ start_of it.name.span.range)
-IsCallFault (suc limit) arms it at fault = IsInputFault arms it at fault
+-- the fault of a call that arms expand, with at most so many nested expansions and so many tokens
+abbrev pub IsCallFault : (limit allowed : ℕ) → List Arm → Call → (at : ℕ) → MacroFault → Type 0
+IsCallFault zero allowed arms it at fault = (fault ≡ wrong.TooDeep) × (at ≡ start_of it.name.span.range)
+IsCallFault (suc limit) allowed arms it at fault = IsInputFault allowed arms it at fault
 
 -- what is known after a call that no macro expands: if its macro is left as it is, or is in scope but not exported, that is found
 abbrev pub left_behind : Call → (called unexported : Option Macro) → Context → Context
@@ -196,3 +203,4 @@ IsUnwritten call trees begin at wrong.NoMatch = ⊥
 IsUnwritten call trees begin at (wrong.Ambiguous arm) = ⊥
 IsUnwritten call trees begin at (wrong.Expansion why) = ⊥
 IsUnwritten call trees begin at wrong.TooDeep = ⊥
+IsUnwritten call trees begin at wrong.OverMaxTokens = ⊥

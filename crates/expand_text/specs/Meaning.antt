@@ -1,6 +1,6 @@
 -- What trees expand to in which macros are defined and called.
 use Rattle.std.specs.Prelude.{◌≡◌, ◌⊎◌, ◌<◌, ◌-◌, ℕ, suc, Bool, true, false, List, length, take, None, Some, codes, max, ◌==◌, if◌then◌else◌}
-use Rattle.tt.specs.Forest.{Forest, Root, end, leaf, node}
+use Rattle.tt.specs.Forest.{Forest, Root, end, leaf, node, size}
 use Rattle.tt.specs.Gluing.{after_trees}
 use Rattle.tt.specs.Moves.{after_tree}
 use Rattle.tt.specs.Span.{start_of}
@@ -14,8 +14,8 @@ use Rattle.expand_items.specs.declared.position.Position.{Position}
 use Rattle.expand_items.specs.Conditions.{behind_leaf_under}
 use Rattle.expand_items.specs.Inactive.{IsItemAt}
 use Rattle.expand_items.specs.Items.{Definition, Call, defines, calls, inactive, other}
-use Rattle.expand_text.specs.Contexts.{Config, Context, with_finding}
-use Rattle.expand_text.specs.Macros.{IsRead, IsCallFault, MayBePut, called_by, arms_of, found_of, context_behind}
+use Rattle.expand_text.specs.Contexts.{Config, Context, with_finding, inside_call, outside_call, tokens_left}
+use Rattle.expand_text.specs.Macros.{IsRead, IsCallFault, MayBePut, Writes, called_by, arms_of, found_of, context_behind}
 use Rattle.expand_text.specs.Outcomes.{Outcome, nothing, passes, enters, stays, becomes, trees_left}
 use Rattle.expand_items.specs.Expressions.{without_semicolon}
 use Rattle.expand_items.specs.Positions.{enclosure, first_inside, first_of_call, behind, behind_subtree, keeps_macros, is_statement, takes_semicolon}
@@ -23,8 +23,6 @@ use Rattle.expand_text.specs.Scopes.{Macro}
 use Rattle.expand_text.specs.CallSites.{CallSite, PutIn, IsKept}
 use Rattle.expand_text.specs.Capturing.{IsCaptureFound}
 use Rattle.mbe_rules.specs.Arms.{Arm}
-use Rattle.mbe_rules.specs.Expansions.{IsExpansion}
-use Rattle.mbe_rules.specs.declared.macro_rules.Expansion.TheVariants as expansion
 use Rattle.mbe_pattern.specs.Units.{front_trees, is_brace, is_at_punct}
 
 -- the first tree is taken as it is: no call is expanded any more, or it is one of the plain
@@ -116,6 +114,10 @@ site_in position it trees tree =
 abbrev pub begin_in : Call → (trees : Forest) → Span
 begin_in it trees = begin_at (after_trees it.attributes trees) it.name.span
 
+-- what is known inside its expansion, if an arm made that tree of it
+abbrev pub entered_in : Config → Call → (trees : Forest) → Root → Context → Context
+entered_in config it trees tree context = inside_call config it.name.sym (start_of (begin_in it trees).range) (size tree.children) context
+
 -- its attributes stay, and these trees replace the call
 abbrev pub becomes_in : Position → Call → (trees put : Forest) → Outcome → Outcome
 becomes_in position it trees put others = stays (attributes_in position it trees) (becomes (begin_in it trees) (end_in position it trees) put others)
@@ -178,7 +180,7 @@ pub data ExpandsTo (config : Config) : (in_text : Bool) → (limit : ℕ) → Po
       → IsItemAt config.known config.root position trees (calls it)
       → called_by config context it ≡ Some macro
       → macro.arms ≡ Some arms
-      → IsCallFault limit arms it at fault
+      → IsCallFault limit (tokens_left config context) arms it at fault
       → ExpandsTo config in_text limit (behind (is_brace it.delimiter.kind) position) 0 (with_finding (found_of it macro at fault) context) (behind_call it trees) after others
       → ExpandsTo config in_text limit position 0 context trees after (stays (front_trees it.len trees) others)
   on_call : {in_text : Bool} {limit : ℕ} {position : Position} {context noted inside after : Context} {it : Call} {macro : Macro} {arms : List Arm} {trees : Forest} {held others : Outcome} (tree : Root) (put : Forest)
@@ -186,21 +188,21 @@ pub data ExpandsTo (config : Config) : (in_text : Bool) → (limit : ℕ) → Po
       → IsItemAt config.known config.root position trees (calls it)
       → called_by config context it ≡ Some macro
       → macro.arms ≡ Some arms
-      → IsExpansion arms 0 0 it.input (expansion.Tree tree)
+      → Writes (tokens_left config context) arms it tree
       → IsCaptureFound macro.defined_at it (begun_by position it trees) (body_in position it trees tree) context noted
-      → ExpandsTo config false limit (begun_by position it trees) 0 noted (body_in position it trees tree) inside held
+      → ExpandsTo config false limit (begun_by position it trees) 0 (entered_in config it trees tree noted) (body_in position it trees tree) inside held
       → PutIn in_text (site_in position it trees tree) (trees_left held) put
       → MayBePut in_text it.delimiter put
-      → ExpandsTo config in_text (suc limit) (behind_in position it trees) 0 inside (rest_in position it trees) after others
+      → ExpandsTo config in_text (suc limit) (behind_in position it trees) 0 (outside_call noted inside) (rest_in position it trees) after others
       → ExpandsTo config in_text (suc limit) position 0 context trees after (becomes_in position it trees put others)
   on_kept_call : {in_text : Bool} {limit : ℕ} {position : Position} {context noted inside after : Context} {it : Call} {macro : Macro} {arms : List Arm} {trees : Forest} {held others : Outcome} (tree : Root) (at : ℕ) (fault : MacroFault)
       → context.is_over ≡ false
       → IsItemAt config.known config.root position trees (calls it)
       → called_by config context it ≡ Some macro
       → macro.arms ≡ Some arms
-      → IsExpansion arms 0 0 it.input (expansion.Tree tree)
+      → Writes (tokens_left config context) arms it tree
       → IsCaptureFound macro.defined_at it (begun_by position it trees) (body_in position it trees tree) context noted
-      → ExpandsTo config false limit (begun_by position it trees) 0 noted (body_in position it trees tree) inside held
+      → ExpandsTo config false limit (begun_by position it trees) 0 (entered_in config it trees tree noted) (body_in position it trees tree) inside held
       → IsKept in_text (site_in position it trees tree) (trees_left held) (start_of (begin_in it trees).range) at fault
-      → ExpandsTo config in_text (suc limit) (behind_in position it trees) 0 (with_finding (found_of it macro at fault) inside) (rest_in position it trees) after others
+      → ExpandsTo config in_text (suc limit) (behind_in position it trees) 0 (with_finding (found_of it macro at fault) (outside_call noted inside)) (rest_in position it trees) after others
       → ExpandsTo config in_text (suc limit) position 0 context trees after (stays_in position it trees others)

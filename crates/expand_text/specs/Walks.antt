@@ -25,7 +25,7 @@ use Rattle.expand_items.specs.Cfg.{Known}
 use Rattle.expand_items.specs.Conditions.{behind_leaf_under}
 use Rattle.expand_items.specs.Inactive.{IsItemAt}
 use Rattle.expand_items.specs.Items.{Item, Call}
-use Rattle.expand_text.specs.Contexts.{Config, Context, IsContext, with_finding, left_in_scope}
+use Rattle.expand_text.specs.Contexts.{Config, Context, IsContext, with_finding, inside_call, left_in_scope, outside_call}
 use Rattle.expand_text.specs.Macros.{MayBePut}
 use Rattle.expand_text.specs.Outcomes.{Outcome, nothing, passes, enters, stays, becomes, trees_left}
 use Rattle.expand_text.specs.CallSites.{CallSite, PutIn, IsKept}
@@ -161,16 +161,20 @@ body_of it = body it.is_statement it.tree
 
 -- a finding in a call
 abbrev pub found_by : Invocation → (at : ℕ) → MacroFault → Finding
-found_by it at fault = record { name = it.name; at = at; fault = fault; defined_at = Some it.defined_at }
+found_by it at fault = record { name = it.name; at = at; fault = fault; defined_at = Some it.defined_at; caller = None }
+
+-- what is known inside its expansion
+abbrev pub entered_by : Config → Invocation → Context → Context
+entered_by config it context = inside_call config it.name (start_of it.first_span.range) (size it.tree.children) context
 
 -- what comes next after a call that expands to these trees: they replace it if they fit and are allowed; or the call stays, which is found
-pub record GoesPast (config : Config) (in_text : Bool) (limit : ℕ) (levels : List Level) (context : Context) (it : Invocation) (trees : Forest) (nexts : List Level) (inside : Context) : Type 0 where
+pub record GoesPast (config : Config) (in_text : Bool) (limit : ℕ) (levels : List Level) (context : Context) (it : Invocation) (trees : Forest) (nexts : List Level) (behind : Context) : Type 0 where
   pub puts :
       (put : Forest) → PutIn in_text (site_of it) trees put → MayBePut in_text it.delimiter put
-      → Leads config in_text limit levels context (first_becomes (site_of it).attributes it.first_span it.last_span put) nexts inside
+      → Leads config in_text limit levels context (first_becomes (site_of it).attributes it.first_span it.last_span put) nexts behind
   pub stays :
       (at : ℕ) (fault : MacroFault) → IsKept in_text (site_of it) trees (start_of it.first_span.range) at fault
-      → Leads config in_text limit levels context (first_stay (trees_of it.whole)) nexts (with_finding (found_by it at fault) inside)
+      → Leads config in_text limit levels context (first_stay (trees_of it.whole)) nexts (with_finding (found_by it at fault) behind)
 
 -- the next event of a walk, and what follows
 abbrev pub IsNext : Config → (in_text : Bool) → (limit : ℕ) → List Level → Context → Event → List Level → Context → Type 0
@@ -181,8 +185,8 @@ IsNext config in_text limit levels context (event.Closes close) nexts others = L
 IsNext config in_text limit levels context (event.Stays trees) nexts others = Leads config in_text limit levels context (first_stay (trees_of trees)) nexts others
 IsNext config in_text limit levels context (event.Invocation it) nexts others =
     (left : ℕ) × (limit ≡ suc left)
-    × ((inside : Context) (held : Outcome) → ExpandsTo config false left it.position 0 others (body_of it) inside held
-    → GoesPast config in_text limit levels context it (trees_left held) nexts inside)
+    × ((inside : Context) (held : Outcome) → ExpandsTo config false left it.position 0 (entered_by config it others) (body_of it) inside held
+    → GoesPast config in_text limit levels context it (trees_left held) nexts (outside_call others inside))
 
 -- how levels become others: which are entered and left, and that less is left to do
 abbrev pub Steps : List Level → Event → List Level → Type 0

@@ -41,22 +41,28 @@ pub(crate) enum Called {
     Tree(TopSubtree, u32),
 }
 
-// Expands a call by rules, with at most `limit` nested expansions.
+// Expands a call by rules, with at most `limit` nested expansions and `allowed` tokens.
 fn make(
     alloc: Global,
     limit: usize,
+    allowed: usize,
     rules: &MacroRules,
     call: &Call<'_>,
 ) -> Result<Made, OutOfMemory>
     ensures limit { IfOk result (IsMadeWithin limit) }
-    ensures made { IfOk result (λ made. (arms : List Arm) → AreMade arms rules.now.arms.items → IsMade limit arms (call_of call.now) made) }
+    ensures made { IfOk result (λ made. (arms : List Arm) → AreMade arms rules.now.arms.items → IsMade limit allowed arms (call_of call.now) made) }
 {
     let at = start_of(call.name.span);
     if limit == 0 {
         return Ok(Made::Faulty(at, MacroFault::TooDeep));
     }
     match rules.expand(alloc, call.input.remaining().iter()) {
-        Ok(Expansion::Tree(tree)) => Ok(Made::Tree(tree)),
+        Ok(Expansion::Tree(tree)) => {
+            if tree.token_trees().len() > allowed {
+                return Ok(Made::Faulty(at, MacroFault::OverMaxTokens));
+            }
+            Ok(Made::Tree(tree))
+        }
         Ok(Expansion::NoMatch(place)) => {
             let behind = start_of(call.header.delimiter.close);
             let stop = start_at(call.input.remaining(), place, behind);
@@ -146,6 +152,7 @@ pub(crate) fn expand_call(
 {
     let name = &call.name.sym;
     let at = start_of(call.name.span);
+    let allowed = context.tokens_left(config);
     let Some(it) = called_by(config, context, call) else {
         find_unexported(config, context, call)?;
         return Ok(Called::Other);
@@ -156,7 +163,7 @@ pub(crate) fn expand_call(
         context.find(name, at, left, Some(defined_at))?;
         return Ok(Called::Other);
     };
-    match make(config.alloc, limit, rules, call)? {
+    match make(config.alloc, limit, allowed, rules, call)? {
         Made::Tree(tree) => Ok(Called::Tree(tree, defined_at)),
         Made::Faulty(place, fault) => {
             context.find(name, place, fault, Some(defined_at))?;

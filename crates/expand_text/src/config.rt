@@ -16,6 +16,8 @@ pub(crate) struct Config<'a> {
     pub(crate) root: Symbol,
     /// Whether the walk enters calls that are not expanded.
     pub(crate) everywhere: bool,
+    /// How many tokens arms may write for one call of the text, with all calls in what they write.
+    pub(crate) max_tokens: usize,
     /// The name of the only macros that are read and expanded; `None` for all macros.
     pub(crate) only: Option<Symbol>,
 }

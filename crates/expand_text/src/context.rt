@@ -2,8 +2,10 @@
 ghost use Rattle.std.specs.Prelude.{◌≡◌, List, IfOk, OnOk};
 ghost use Rattle.tt.specs.Iters.{rest_of};
 ghost use Rattle.expand_text.specs.Scopes.{Macro, AreReady};
-ghost use Rattle.expand_text.specs.Contexts.{Context as ContextOf, IsContext, new_context, with_finding, left_in_scope, config_of};
+ghost use Rattle.expand_text.specs.Contexts.{Context as ContextOf, IsContext, IsOutside, new_context, with_finding, left_in_scope, tokens_left, inside_call, outside_call, config_of};
 
+use crate::caller::Caller;
+use crate::config::Config;
 use crate::fault::{Finding, MacroFault};
 use crate::scope::Scope;
 use std::alloc::{AllocError, Global};
@@ -17,8 +19,22 @@ pub(crate) struct Context {
     pub(crate) exported: Scope,
     /// The findings, in order.
     pub(crate) findings: Vec<Finding>,
-    /// Whether no call is expanded any more, because the expansions were nested too deeply.
+    /// Whether no other call is expanded in what comes of the call of the text.
     pub(crate) is_over: bool,
+    /// The calls that wrote what has findings, and those that wrote what is expanded now.
+    pub(crate) callers: Vec<Caller>,
+    // the number of the caller that wrote what is expanded now; none in the text itself
+    caller: Option<usize>,
+    // how many tokens more may be written for the call of the text
+    left: usize,
+}
+
+/// What is restored behind a call: how many findings and callers there were, and the caller.
+#[derive(Clone, Copy)]
+pub(crate) struct Outside {
+    findings: usize,
+    callers: usize,
+    caller: Option<usize>,
 }
 
 impl Context {
@@ -31,6 +47,9 @@ impl Context {
             exported,
             findings: Vec::new(alloc),
             is_over: false,
+            callers: Vec::new(alloc),
+            caller: None,
+            left: 0,
         }
     }
 
@@ -42,18 +61,19 @@ impl Context {
         fault: MacroFault,
         defined_at: Option<u32>,
     ) -> Result<(), AllocError>
-        ensures { OnOk result ((context : ContextOf) → IsContext context self.old → IsContext (with_finding (record { name = name.now; at = at; fault = fault; defined_at = defined_at }) context) self.new) }
+        ensures { OnOk result ((context : ContextOf) → IsContext context self.old → IsContext (with_finding (record { name = name.now; at = at; fault = fault; defined_at = defined_at; caller = None }) context) self.new) }
     {
         let finding = Finding {
             name: name.clone()?,
             at,
             fault,
             defined_at,
+            caller: self.caller,
         };
         if self.findings.push(finding).is_err() {
             return Err(AllocError);
         }
-        self.is_over = self.is_over || fault.is_too_deep();
+        self.is_over = self.is_over || (fault.ends_call() && self.caller.is_some());
         Ok(())
     }
 
@@ -64,5 +84,57 @@ impl Context {
         if let Some(len) = kept {
             self.scope.leave(len);
         }
+    }
+
+    /// Returns how many tokens an arm may write for the next call.
+    pub(crate) fn tokens_left(&self, config: &Config<'_>) -> usize
+        ensures { (context : ContextOf) → IsContext context self.now → result ≡ tokens_left (config_of config.now) context }
+    {
+        match self.caller {
+            None => config.max_tokens,
+            Some(_) => self.left,
+        }
+    }
+
+    /// Enters the expansion of a call of the macro of that name that begins at a byte, for which an arm wrote so many tokens. Returns what
+    /// `leave_call` restores.
+    pub(crate) fn enter_call(
+        &mut self,
+        config: &Config<'_>,
+        name: &Symbol,
+        at: u32,
+        tokens: usize,
+    ) -> Result<Outside, AllocError>
+        ensures entered { OnOk result ((context : ContextOf) → IsContext context self.old → IsContext (inside_call (config_of config.now) name.now at tokens context) self.new) }
+        ensures outside { IfOk result (λ outside. (context : ContextOf) → IsContext context self.old → IsOutside context outside) }
+    {
+        let outside = Outside {
+            findings: self.findings.len(),
+            callers: self.callers.len(),
+            caller: self.caller,
+        };
+        let left = self.tokens_left(config).saturating_sub(tokens);
+        let caller = Caller {
+            name: name.clone()?,
+            at,
+            caller: self.caller,
+        };
+        if self.callers.push(caller).is_err() {
+            return Err(AllocError);
+        }
+        self.left = left;
+        self.caller = Some(outside.callers);
+        Ok(outside)
+    }
+
+    /// Leaves the expansion of a call. The call is no caller any more if nothing was found in its expansion.
+    pub(crate) fn leave_call(&mut self, outside: Outside)
+        ensures { (before inside : ContextOf) → IsOutside before outside → IsContext inside self.old → IsContext (outside_call before inside) self.new }
+    {
+        if self.findings.len() == outside.findings {
+            self.callers.truncate(outside.callers);
+        }
+        self.caller = outside.caller;
+        self.is_over = self.is_over && self.caller.is_some();
     }
 }

@@ -2,7 +2,7 @@
 ghost use Rattle.std.specs.Prelude.{◌≡◌, ◌<◌, IfOk, OnOk};
 ghost use Rattle.tt.specs.Building.{depth, IsOpen};
 ghost use Rattle.tt.specs.Iters.{rest_of};
-ghost use Rattle.expand_text.specs.Expanding.{AreExpanded, IsApart, IsPassed, IsPlaced};
+ghost use Rattle.expand_text.specs.Expanding.{AreExpanded, IsApart, IsPassed, IsPlaced, IsPlacedInside};
 ghost use Rattle.expand_text.specs.Outcomes.{brackets_of};
 ghost use Rattle.expand_text.specs.Contexts.{Learns, config_of};
 
@@ -99,10 +99,10 @@ fn brackets_of(enclosure: Enclosure) -> Option<Option<DelimiterKind>>
     }
 }
 
-/// Expands a call with at most `limit` nested expansions, and adds the result in the place of the call. Returns the fault if the result
-/// does not fit there.
+// Expands a call that was entered, with at most `limit` nested expansions, and adds the result in the place of the call. Returns the fault if
+// the result does not fit there.
 #[cycle(expansion)]
-pub(crate) fn expand_invocation(
+fn place_invocation(
     config: &Config<'_>,
     context: &mut Context,
     limit: usize,
@@ -132,6 +132,28 @@ pub(crate) fn expand_invocation(
     expand_trees(config, context, limit, position, trees, close, builder)?;
     builder.close(close)?;
     Ok(None)
+}
+
+/// Enters a call, expands it with at most `limit` nested expansions, and adds the result in the place of the call. Returns the fault if the
+/// result does not fit there.
+#[cycle(expansion)]
+pub(crate) fn expand_invocation(
+    config: &Config<'_>,
+    context: &mut Context,
+    limit: usize,
+    invocation: &Invocation<'_>,
+    builder: &mut TopSubtreeBuilder,
+) -> Result<Option<MacroFault>, OutOfMemory>
+    ensures top { OnOk result (builder.new.top ≡ builder.old.top) }
+    ensures open { OnOk result (depth builder.new.stack ≡ depth builder.old.stack) }
+    ensures placed { IfOk result (λ misplaced. Learns context.old context.new (IsPlacedInside (config_of config.now) limit invocation.now misplaced builder.old.stack builder.new.stack)) }
+{
+    let begin = start_of(invocation.first_span);
+    let tokens = invocation.tree.token_trees().len();
+    let outside = context.enter_call(config, &invocation.name, begin, tokens)?;
+    let misplaced = place_invocation(config, context, limit, invocation, builder)?;
+    context.leave_call(outside);
+    Ok(misplaced)
 }
 
 // Adds a call's attributes, and after them what it expands to, in its place. If the result

@@ -1,6 +1,6 @@
 //! Findings in the macros of a text, and why a text is not expanded.
 ghost use Rattle.std.specs.Prelude.{◌≡◌};
-ghost use Rattle.expand_text.specs.Findings.{is_warning, is_too_deep};
+ghost use Rattle.expand_text.specs.Findings.{is_warning, ends_call};
 ghost use Rattle.expand_text.specs.declared.fault.ExpandTextError.TheVariants.{Text, Memory};
 
 use crate::memory::OutOfMemory;
@@ -54,6 +54,10 @@ pub enum MacroFault {
     /// The call is nested in as many expansions as the limit allows.
     #[error("too many expansions, one inside the other")]
     TooDeep,
+    /// With what an arm writes for the call, the tokens written for the call of the text would exceed the limit. The byte is the beginning
+    /// of the call's name.
+    #[error("too many tokens are written for one call")]
+    OverMaxTokens,
     /// The expansion cannot be written as Rust, so the call is left as it is. The byte is the place from which the first token comes that
     /// would read back as something else; if that is no token, it is the beginning of the call.
     #[error("its result cannot be written as Rust")]
@@ -80,6 +84,8 @@ pub struct Finding {
     pub fault: MacroFault,
     /// The byte of the text at which the macro's name begins in its definition, if this is about a call.
     pub defined_at: Option<u32>,
+    /// The number of the caller that wrote the definition or the call; none if it is in the text itself.
+    pub caller: Option<usize>,
 }
 
 /// The reason why a text is not expanded.
@@ -112,11 +118,11 @@ impl MacroFault {
         )
     }
 
-    // Returns whether no call is expanded any more.
-    pub(crate) fn is_too_deep(&self) -> bool
-        ensures { result ≡ is_too_deep self.now }
+    // Returns whether no other call is expanded in what comes of the call of the text.
+    pub(crate) fn ends_call(&self) -> bool
+        ensures { result ≡ ends_call self.now }
     {
-        matches!(self, MacroFault::TooDeep)
+        matches!(self, MacroFault::TooDeep | MacroFault::OverMaxTokens)
     }
 }
 

@@ -17,12 +17,12 @@ pub fn unchanged()
         → (string_bytes it.text ≡ source) × (it.findings.items ≡ []) }
 {}
 
-/// States that a text has only one expansion: any two have the same text and the same findings. This holds if no finding names an exceeded
+/// States that a text has only one expansion: any two have the same text, the same findings and the same callers. This holds if no finding names an exceeded
 /// limit of trees, because if a tree exceeds several limits, any one of them may be named.
 pub fn one_answer()
     ensures { (options : ExpandOptions) → (source : List ℕ) → (it other : Expanded) → IsExpanded options source it → IsExpanded options source other
         → KeepLimits it.findings.items → KeepLimits other.findings.items
-        → (string_bytes it.text ≡ string_bytes other.text) × (it.findings.items ≡ other.findings.items) }
+        → (string_bytes it.text ≡ string_bytes other.text) × (it.findings.items ≡ other.findings.items) × (it.callers.items ≡ other.callers.items) }
 {}
 
 /// States that if nothing is found in a text, then no call of a macro in scope is left, neither in the text nor in what a call expands to.

@@ -6,13 +6,15 @@
 //! and calls itself for its calls, as deep as the limit at most. At the top, an `Output` of `syntax_edit` copies the text and
 //! replaces each call by its expansion, `loosened` before it is written. `rooted` replaces `$crate` once per definition.
 //!
-//! A definition or call with a fault stays in the text and yields a finding. A call one expansion too deep ends the expansion, since a
-//! macro that calls itself twice would not end in any reasonable time.
+//! A definition or call with a fault stays in the text and yields a finding, with the calls that wrote it (`Caller`). A call one expansion
+//! too deep, or one for which too many tokens would be written, ends what comes of its call of the text: a macro that calls itself twice
+//! would not end in any reasonable time. The walk goes on behind that call.
 //!
 //! The proofs go level by level (`Ends`, `Leads`), and `Weaving` places the expansions among the pieces of the text, so that the laws of
 //! `laws_round_trip` say how the written text reads.
 #![tactic(auto)]
 
+mod caller;
 mod calling;
 mod capturing;
 mod config;
@@ -32,6 +34,7 @@ mod source;
 mod text;
 mod walk;
 
+pub use caller::Caller;
 pub use fault::{ExpandTextError, Finding, MacroFault};
-pub use options::{ExpandOptions, USUAL_LIMIT};
+pub use options::{ExpandOptions, USUAL_LIMIT, USUAL_MAX_TOKENS};
 pub use text::{Expanded, expand_leniently, expand_text};

@@ -6,11 +6,16 @@ use expand_items::CfgOptions;
 /// The default limit of nested expansions.
 pub const USUAL_LIMIT: usize = 128;
 
+/// The default limit of the tokens that arms write for one call of the text.
+pub const USUAL_MAX_TOKENS: usize = 4_000_000;
+
 /// The options of an expansion.
 #[derive(Clone, Copy)]
 pub struct ExpandOptions<'a> {
     /// The limit of nested expansions. The stack that an expansion needs is linear in it.
     pub limit: usize,
+    /// The limit of the tokens that arms write for one call of the text, with all calls in what they write.
+    pub max_tokens: usize,
     /// What is known of the conditions `#[cfg(..)]`.
     pub cfg: &'a CfgOptions,
     /// The word that `$crate` becomes.
@@ -22,17 +27,19 @@ pub struct ExpandOptions<'a> {
 }
 
 impl<'a> ExpandOptions<'a> {
-    /// The usual options: all macros, with at most 128 nested expansions. `$crate` becomes
+    /// The usual options: all macros, with at most 128 nested expansions and 4,000,000 tokens for a call of the text. `$crate` becomes
     /// `crate`, and calls that are not expanded stay as they are.
     pub fn usual(cfg: &'a CfgOptions) -> ExpandOptions<'a>
         ensures cfg { result.cfg ≡ cfg.entry }
         ensures limit { result.limit ≡ 128 }
+        ensures max_tokens { result.max_tokens ≡ 4000000 }
         ensures root { result.root.now ≡ codes "crate" }
         ensures everywhere { result.everywhere ≡ false }
         ensures only { result.only ≡ None }
     {
         ExpandOptions {
             limit: USUAL_LIMIT,
+            max_tokens: USUAL_MAX_TOKENS,
             cfg,
             root: "crate",
             everywhere: false,

@@ -3,6 +3,7 @@ ghost use Rattle.std.specs.Prelude.{◌≡◌, None, IfOk, IfErr, MatchOption};
 ghost use Rattle.expand_text.specs.Expansion.{config_by, IsExpanded, IsLenientError, IsExpandTextError, first_fault, IsFirstFault};
 ghost use Rattle.expand_text.specs.Contexts.{config_of};
 
+use crate::caller::Caller;
 use crate::config::Config;
 use crate::context::Context;
 use crate::exports::exported_macros;
@@ -21,6 +22,8 @@ pub struct Expanded {
     pub text: String,
     /// The findings in its macros and calls, in the order of the walk.
     pub findings: Vec<Finding>,
+    /// The calls that wrote the places of findings, each behind the call that wrote it.
+    pub callers: Vec<Caller>,
 }
 
 // Returns the setting of these options.
@@ -36,6 +39,7 @@ fn config_by<'a>(alloc: Global, options: ExpandOptions<'a>) -> Result<Config<'a>
         cfg: options.cfg,
         root: Symbol::new(alloc, options.root)?,
         everywhere: options.everywhere,
+        max_tokens: options.max_tokens,
         only,
     })
 }
@@ -60,6 +64,7 @@ pub fn expand_leniently(
     Ok(Expanded {
         text,
         findings: context.findings,
+        callers: context.callers,
     })
 }
 

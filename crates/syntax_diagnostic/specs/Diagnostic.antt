@@ -1,5 +1,5 @@
 -- The text of a fault.
-use Rattle.std.specs.Prelude.{ℕ, List, [], ◌++◌, max, replicate, Option, Some, None, codes, string_bytes, String}
+use Rattle.std.specs.Prelude.{ℕ, List, [], ◌∷◌, ◌++◌, max, replicate, Option, Some, None, codes, string_bytes, String}
 use Rattle.std.specs.Global.{Global}
 use Rattle.std.specs.List.{flat_map}
 use Rattle.syntax_diagnostic.specs.Level.{colour_of, word_of}
@@ -17,14 +17,13 @@ abbrev pub spot_width : Option Spot → ℕ
 spot_width None = 1
 spot_width (Some spot) = number_width spot.place.line
 
--- the same for a note with a place
-abbrev pub note_width : Option PlacedNote → ℕ
-note_width None = 1
-note_width (Some note) = number_width note.spot.place.line
+-- how many columns the longest number of a line takes: those of the notes, or that many
+abbrev pub widest : (width : ℕ) → List PlacedNote → ℕ
+widest width [] = width
+widest width (note ∷ notes) = widest (max width (number_width note.spot.place.line)) notes
 
--- how many columns the longest number of a line takes
 abbrev pub width_of : Diagnostic → ℕ
-width_of diagnostic = max (spot_width diagnostic.spot) (note_width diagnostic.placed_note)
+width_of diagnostic = widest (spot_width diagnostic.spot) diagnostic.placed_notes.items
 
 -- the level and the message
 abbrev pub message_line : Style → Diagnostic → List ℕ
@@ -47,13 +46,16 @@ note_line style width note = replicate width 32 ++ codes " " ++ painted style Bl
 abbrev pub notes_text : Style → (width : ℕ) → List (String Global) → List ℕ
 notes_text style width notes = flat_map (λ note. note_line style width (string_bytes note)) notes
 
--- a note with a place, if there is one
-abbrev pub placed_lines : Style → (width : ℕ) → Option PlacedNote → List ℕ
-placed_lines style width None = []
-placed_lines style width (Some note) = note_word style ++ line note.message.now ++ spot_text style Green width note.spot
+-- a note with a place
+abbrev pub placed_lines : Style → (width : ℕ) → PlacedNote → List ℕ
+placed_lines style width note = note_word style ++ line note.message.now ++ spot_text style Green width note.spot
+
+-- all notes with places
+abbrev pub placed_text : Style → (width : ℕ) → List PlacedNote → List ℕ
+placed_text style width notes = flat_map (placed_lines style width) notes
 
 -- the message, and the lines below it
 abbrev pub diagnostic_text : Style → Diagnostic → List ℕ
 diagnostic_text style diagnostic =
     message_line style diagnostic ++ place_lines style diagnostic.level (width_of diagnostic) diagnostic.spot
-    ++ notes_text style (width_of diagnostic) diagnostic.notes.items ++ placed_lines style (width_of diagnostic) diagnostic.placed_note
+    ++ notes_text style (width_of diagnostic) diagnostic.notes.items ++ placed_text style (width_of diagnostic) diagnostic.placed_notes.items

@@ -1,6 +1,6 @@
 //! The text of a fault, in the form that rustc has.
 ghost use Rattle.std.specs.Prelude.{◌≡◌, ◌++◌, IfOk, OnOk, codes, string_bytes};
-ghost use Rattle.syntax_diagnostic.specs.Diagnostic.{diagnostic_text, message_line, note_line, note_width, note_word, notes_text, place_lines, placed_lines, spot_width, width_of};
+ghost use Rattle.syntax_diagnostic.specs.Diagnostic.{diagnostic_text, message_line, note_line, note_word, notes_text, place_lines, placed_lines, placed_text, spot_width, widest, width_of};
 
 use crate::level::Level;
 use crate::paint::{Colour, Style, add_painted};
@@ -27,8 +27,8 @@ pub struct Diagnostic<'a> {
     pub spot: Option<Spot<'a>>,
     /// The notes, each in one line.
     pub notes: Vec<String>,
-    /// A note with a place of its own.
-    pub placed_note: Option<PlacedNote<'a>>,
+    /// The notes with places of their own.
+    pub placed_notes: Vec<PlacedNote<'a>>,
 }
 
 // Returns how many columns the number of a place's line takes.
@@ -41,14 +41,15 @@ fn spot_width(alloc: Global, spot: Option<Spot<'_>>) -> Result<usize, AllocError
     }
 }
 
-// Returns the same for a note with a place.
-fn note_width(alloc: Global, note: Option<PlacedNote<'_>>) -> Result<usize, AllocError>
-    ensures { IfOk result (λ width. width ≡ note_width note.entry) }
+// Returns how many columns the longest number of a line takes: those of the notes, or that many.
+fn widest(alloc: Global, width: usize, notes: &[PlacedNote<'_>]) -> Result<usize, AllocError>
+    ensures { IfOk result (λ longest. longest ≡ widest width notes.now) }
 {
-    match note {
-        None => Ok(1),
-        Some(note) => Ok(number_width(alloc, note.spot.place.line)?),
+    let mut longest = width;
+    for note in notes {
+        longest = longest.max(number_width(alloc, note.spot.place.line)?);
     }
+    Ok(longest)
 }
 
 // Returns how many columns the numbers of lines take.
@@ -56,8 +57,7 @@ fn width_of(alloc: Global, diagnostic: &Diagnostic<'_>) -> Result<usize, AllocEr
     ensures { IfOk result (λ width. width ≡ width_of diagnostic.now) }
 {
     let spot = spot_width(alloc, diagnostic.spot)?;
-    let note = note_width(alloc, diagnostic.placed_note)?;
-    Ok(spot.max(note))
+    widest(alloc, spot, &diagnostic.placed_notes)
 }
 
 // Adds the message.
@@ -125,26 +125,39 @@ fn add_notes(
     Ok(())
 }
 
-// Adds the note with a place.
+// Adds a note with a place.
 fn add_placed_note(
     text: &mut String,
     alloc: Global,
     style: Style,
     width: usize,
-    note: Option<PlacedNote<'_>>,
+    note: &PlacedNote<'_>,
 ) -> Result<(), AllocError>
-    ensures { OnOk result (string_bytes text.new ≡ string_bytes text.old ++ placed_lines style width note.entry) }
+    ensures { OnOk result (string_bytes text.new ≡ string_bytes text.old ++ placed_lines style width note.now) }
 {
-    let Some(note) = note else {
-        return Ok(());
-    };
     add_note_word(text, style)?;
     add_line(text, note.message)?;
     add_spot(text, alloc, style, Colour::Green, width, &note.spot)
 }
 
+// Adds all notes with places.
+fn add_placed_notes(
+    text: &mut String,
+    alloc: Global,
+    style: Style,
+    width: usize,
+    notes: &[PlacedNote<'_>],
+) -> Result<(), AllocError>
+    ensures { OnOk result (string_bytes text.new ≡ string_bytes text.old ++ placed_text style width notes.now) }
+{
+    for note in notes {
+        add_placed_note(text, alloc, style, width, note)?;
+    }
+    Ok(())
+}
+
 /// Returns the text of a fault: a line with the level and the message; its place, if any, the line of the text and a mark under it; a line
-/// for each note; and the same for a note with a place.
+/// for each note; and the same for each note with a place.
 pub fn diagnostic_text(
     alloc: Global,
     style: Style,
@@ -157,6 +170,6 @@ pub fn diagnostic_text(
     add_message(&mut text, style, diagnostic)?;
     add_place(&mut text, alloc, style, width, diagnostic)?;
     add_notes(&mut text, style, width, &diagnostic.notes)?;
-    add_placed_note(&mut text, alloc, style, width, diagnostic.placed_note)?;
+    add_placed_notes(&mut text, alloc, style, width, &diagnostic.placed_notes)?;
     Ok(text)
 }

@@ -7,6 +7,6 @@ use Rattle.app_cli.specs.Reports.{AreDiagnosticTexts}
 abbrev pub invariant-loop-finding : goal.invariant-loop-finding
 invariant-loop-finding l =
     record {
-      written : (others : List ℕ) → AreDiagnosticTexts l.style l.name l.text l.limit (drop l.finding-index l.findings) others
-          → AreDiagnosticTexts l.style l.name l.text l.limit l.findings (string_bytes l.all ++ others);
+      written : (others : List ℕ) → AreDiagnosticTexts l.style l.name l.text l.options l.callers (drop l.finding-index l.findings) others
+          → AreDiagnosticTexts l.style l.name l.text l.options l.callers l.findings (string_bytes l.all ++ others);
     }

@@ -8,8 +8,8 @@ use Rattle.syntax_diagnostic.specs.declared.diagnostic.Diagnostic.{Diagnostic}
 
 pub returns : goal.returns
 returns c =
-    let it : Diagnostic = record { level = c.args.level; message = c.args.message; spot = None; notes = c.new.result; placed_note = None } in
+    let it : Diagnostic = record { level = c.args.level; message = c.args.message; spot = None; notes = c.new.result; placed_notes = c.new-2.result } in
     IfOk-weaker c.diagnostic_text.result (λ text. string_bytes text ≡ diagnostic_text c.args.style it)
     (λ text. IsPlainText c.args.style c.args.level c.args.message.now (string_bytes text))
-    (λ text is. record { it = it; level_is = refl; message_is = refl; no_spot = refl; no_notes = c.new.ensures.items; no_placed_note = refl; is = is })
+    (λ text is. record { it = it; level_is = refl; message_is = refl; no_spot = refl; no_notes = c.new.ensures.items; no_placed_notes = c.new-2.ensures.items; is = is })
     c.diagnostic_text.ensures

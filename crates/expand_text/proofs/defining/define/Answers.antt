@@ -45,14 +45,17 @@ returns c context is =
               exported = subst (λ k. AreReady context.exported k.exported.macros.items) (sym w.context-is) is.exported;
               findings = ap (λ k. k.findings.items) w.context-is ∙ is.findings;
               is_over = ap (λ k. k.is_over) w.context-is ∙ is.is_over;
+              callers = ap (λ k. k.callers.items) w.context-is ∙ is.callers;
+              caller = ap (λ k. k.caller) w.context-is ∙ is.caller;
+              left = ap (λ k. k.left) w.context-is ∙ is.left;
             },
             inl (arms, limits, spelled, refl),
           )
       | in-Faulty+in_ok-find-in-Faulty w ↦
           let fault = w.in-Faulty.fault in
           let wrong_there = subst (IsRules it trees) w.in-Faulty.is c.in_ok-rules.ensures in
-          let made_finding : Finding = record { name = c.in_ok-name.name; at = w.in-Faulty.at; fault = fault; defined_at = None } in
-          let same : made_finding ≡ found_in it w.in-Faulty.at fault = ap (λ n. record { name = n; at = w.in-Faulty.at; fault = fault; defined_at = None }) name in
+          let made_finding : Finding = record { name = c.in_ok-name.name; at = w.in-Faulty.at; fault = fault; defined_at = None; caller = None } in
+          let same : made_finding ≡ found_in it w.in-Faulty.at fault = ap (λ n. record { name = n; at = w.in-Faulty.at; fault = fault; defined_at = None; caller = None }) name in
           let then : Context = with_finding (found_in it w.in-Faulty.at fault) context in
           let found : IsContext then c.match-branch-3.context =
           subst (IsContext then) (sym w.context-is) (subst (λ f. IsContext (with_finding f context) w.find.new.self) same (w.in_ok-find-in-Faulty.ensures context is)) in
@@ -66,6 +69,9 @@ returns c context is =
               exported = found.exported;
               findings = found.findings;
               is_over = found.is_over;
+              callers = found.callers;
+              caller = found.caller;
+              left = found.left;
             },
             inr (w.in-Faulty.at, fault, wrong_there, refl),
           )

@@ -25,6 +25,9 @@ returns c context is =
         exported = is.exported;
         findings = is.findings;
         is_over = is.is_over;
+        callers = is.callers;
+        caller = is.caller;
+        left = is.left;
       },
       refl,
     )

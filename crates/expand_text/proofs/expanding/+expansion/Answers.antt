@@ -1,6 +1,6 @@
-use Rattle.std.proofs.Common.{rules, inr, ap₂, ◌≢◌, [], ◌≡◌, ◌∙◌, ◌<◌, ◌+◌, ◌-◌, ℕ, false, None, suc, ◌∷◌, List, length, map, reverse, refl, ap, sym, subst, arith}
+use Rattle.std.proofs.Common.{rules, inr, ap₂, ◌≢◌, [], ◌≡◌, ◌∙◌, ◌<◌, ◌+◌, ◌-◌, ℕ, false, None, suc, ◌∷◌, List, length, map, reverse, refl, ap, sym, subst, subst₂, arith}
 use Rattle.tt.specs.Building.{Stack, append, built, depth, pushed, opened, closed, extended}
-use Rattle.tt.specs.Forest.{Forest, end, leaf}
+use Rattle.tt.specs.Forest.{Forest, end, leaf, size}
 use Rattle.tt.specs.Gluing.{after_trees}
 use Rattle.tt.specs.Iters.{rest_of}
 use Rattle.tt.specs.Span.{start_of}
@@ -13,7 +13,7 @@ use Rattle.expand_text.specs.declared.walk.Event.TheVariants as event
 use Rattle.expand_text.specs.Meaning.{ExpandsTo}
 use Rattle.expand_items.specs.Spreads.{IsPutUnder}
 use Rattle.expand_text.specs.Expanding.{IsAdded}
-use Rattle.expand_text.specs.Contexts.{Config, IsContext, config_of, with_finding}
+use Rattle.expand_text.specs.Contexts.{Config, IsContext, config_of, inside_call, outside_call, with_finding}
 use Rattle.expand_text.specs.Macros.{tree_of}
 use Rattle.expand_items.specs.Attributes.{conditions_of}
 use Rattle.mbe_pattern.proofs.Passing.{front_joined}
@@ -21,7 +21,7 @@ use Rattle.mbe_pattern.specs.Units.{front_trees}
 use Rattle.tt_base.proofs.Appending.{append-join}
 use Rattle.expand_text.proofs.Placing.{added_under, built_alone, is_too_large, kept_under, none_open, refused}
 use Rattle.expand_text.specs.Outcomes.{brackets_of, nothing, trees_left}
-use Rattle.expand_text.specs.Walks.{body_of, Level, level_of, levels_of, site_of, found_by, closes_of, first_leaf, first_subtree, first_stay, Ends, Leads, IsNext, IsWithin, Steps}
+use Rattle.expand_text.specs.Walks.{body_of, Level, level_of, levels_of, site_of, entered_by, found_by, closes_of, first_leaf, first_subtree, first_stay, Ends, Leads, IsNext, IsWithin, Steps}
 use Rattle.expand_text.proofs.Finishing.{IsGoing, begins, ends_so, goes_on, goes_into, goes_out, goes_past, finished_leaf, finished_stay}
 use Rattle.expand_items.proofs.Rebuilding.{depth_append, is_above, depth_close}
 use Rattle.expand_text.proofs.expanding.+expansion.Goals as goal
@@ -234,29 +234,29 @@ expand_trees-trees-preserved t c =
           let (left, fits, goes) = subst (λ e. IsNext config false limit (level ∷ outer) now e (next ∷ nexts) others) c.in-Invocation.is (comes_next false) in
           let (after, ready, passed) = c.in_ok-pass_call-in-Invocation.ensures.passed others then in
           let back : limit - 1 ≡ left = omega (arith, fits) in
-          let expands_to : ExpandsTo config false left it.position 0 others (body_of it) passed.inside passed.outcome =
-          subst (λ n. ExpandsTo config false n it.position 0 others (body_of it) passed.inside passed.outcome) back passed.expands_to in (
+          let expands_to : ExpandsTo config false left it.position 0 (entered_by config it others) (body_of it) passed.inside passed.outcome =
+          subst (λ n. ExpandsTo config false n it.position 0 (entered_by config it others) (body_of it) passed.inside passed.outcome) back passed.expands_to in (
             after,
             ready,
-            goes_past config limit c.args.position trees before now after old stack level next outer nexts going it (trees_left passed.outcome) passed.inside c.pass_call.new.builder.stack
+            goes_past config limit c.args.position trees before now after old stack level next outer nexts going it (trees_left passed.outcome) (outside_call others passed.inside) c.pass_call.new.builder.stack
                 (goes passed.inside passed.outcome expands_to) passed.passed steps.0,
           );
       entered = omega (arith, c.in_ok-pass_call-in-Invocation.ensures.open, c.trees.invariant.entered, ap length steps.0);
       top = c.in_ok-pass_call-in-Invocation.ensures.top ∙ c.trees.invariant.top;
     }
 
-pub expand_invocation-expand_trees-requires : goal.expand_invocation-expand_trees-requires
-expand_invocation-expand_trees-requires t c = (omega (arith, c.decreases), tt)
+pub place_invocation-expand_trees-requires : goal.place_invocation-expand_trees-requires
+place_invocation-expand_trees-requires t c = (omega (arith, c.decreases), tt)
 
-pub expand_invocation-expand_trees-requires-2 : goal.expand_invocation-expand_trees-requires-2
-expand_invocation-expand_trees-requires-2 t c = (omega (arith, c.decreases), tt)
+pub place_invocation-expand_trees-requires-2 : goal.place_invocation-expand_trees-requires-2
+place_invocation-expand_trees-requires-2 t c = (omega (arith, c.decreases), tt)
 
-pub expand_invocation-close-requires : goal.expand_invocation-close-requires
-expand_invocation-close-requires t c =
+pub place_invocation-close-requires : goal.place_invocation-close-requires
+place_invocation-close-requires t c =
     is_above c.expand_trees-2.new.builder.stack (depth c.args.builder.now.stack) (c.in_ok-expand_trees-2.ensures.open ∙ ap (λ s. depth s.stack) c.in_ok-open.ensures.ok)
 
-pub expand_invocation-returns-clause-open : goal.expand_invocation-returns-clause-open
-expand_invocation-returns-clause-open t c =
+pub place_invocation-returns-clause-open : goal.place_invocation-returns-clause-open
+place_invocation-returns-clause-open t c =
     let old = depth c.args.builder.now.stack in
     let span = c.args.invocation.now.delimiter.close in
     let inside = c.expand_trees-2.new.builder in
@@ -276,7 +276,8 @@ pass_call-returns-in_ok-extend_with_tt-2-clause-passed t c before is =
     let opened : Stack = c.extend_with_tt.new.self.stack in
     let placed : Stack = c.expand_invocation.new.builder.stack in
     let whole : Forest = trees_of it.whole in
-    let (now, context, put) = c.in_ok-fault.ensures.placed before is in
+    let (now, context, held) = c.in_ok-fault.ensures.placed before is in
+    let put = held.placed in
     let (misplaced, same) = subst (λ m. IsAdded (site_of it) (trees_left put.outcome) m opened placed) c.in-Some.is put.added in
     let front : opened ≡ append (front_trees it.attributes whole) old = ap (λ s. s.stack) c.in_ok-extend_with_tt.ensures.ok ∙ ap (λ f. append f old) c.attributes.ensures in
     let added : c.extend_with_tt-in-Some.new.self.stack ≡ append whole old =
@@ -284,7 +285,25 @@ pass_call-returns-in_ok-extend_with_tt-2-clause-passed t c before is =
     ∙ sym (append-join (front_trees it.attributes whole) (after_trees it.attributes whole) old) ∙ ap (λ f. append f old) (sym (front_joined it.attributes whole)) in (
       with_finding (found_by it (start_of it.first_span.range) fault) now,
       subst (λ n. IsContext (with_finding (found_by it n fault) now) c.find.new.self) c.start_of-begin.ensures (c.in_ok-find.ensures now context),
-      record { inside = now; outcome = put.outcome; expands_to = put.expands_to; passed = inr (fault, misplaced, refl, added) },
+      record {
+        inside = held.inside;
+        outcome = put.outcome;
+        expands_to = put.expands_to;
+        passed = inr (fault, misplaced, ap (with_finding (found_by it (start_of it.first_span.range) fault)) held.behind, added);
+      },
+    )
+
+pub expand_invocation-returns-clause-placed : goal.expand_invocation-returns-clause-placed
+expand_invocation-returns-clause-placed t c before is =
+    let it = c.args.invocation.now in
+    let config : Config = config_of c.args.config.now in
+    let tokens : c.len-tokens.result ≡ size it.tree.children = search rules in
+    let entered : IsContext (entered_by config it before) c.enter_call-outside.new.self =
+    subst₂ (λ at n. IsContext (inside_call config it.name at n before) c.enter_call-outside.new.self) c.start_of-begin.ensures tokens (c.in_ok-outside.ensures.entered before is) in
+    let (inside, ready, placed) = c.in_ok-misplaced.ensures.placed (entered_by config it before) entered in (
+      outside_call before inside,
+      c.leave_call.ensures before inside (c.in_ok-outside.ensures.outside before is) ready,
+      record { inside = inside; placed = placed; behind = refl },
     )
 
 pub expand_apart-returns-clause-closed : goal.expand_apart-returns-clause-closed
@@ -307,8 +326,8 @@ expand_apart-returns-clause-apart t c before is =
       },
     )
 
-pub expand_invocation-returns-in_default-clause-placed : goal.expand_invocation-returns-in_default-clause-placed
-expand_invocation-returns-in_default-clause-placed t c before is =
+pub place_invocation-returns-in_default-clause-placed : goal.place_invocation-returns-in_default-clause-placed
+place_invocation-returns-in_default-clause-placed t c before is =
     let it = c.args.invocation.now in
     let stack : Stack = c.args.builder.now.stack in
     let (after, ready, apart) = c.in_ok-expand_apart.ensures.apart before is in

@@ -8,19 +8,22 @@ use Rattle.expand_text.proofs.Finishing.{IsGoing}
 use Rattle.expand_text.proofs.expanding.+expansion.Given as goal
 
 abbrev pub decreases-expand_trees : goal.decreases-expand_trees
-decreases-expand_trees l = l.limit * 5
+decreases-expand_trees l = l.limit * 6
 
 abbrev pub decreases-expand_apart : goal.decreases-expand_apart
-decreases-expand_apart l = l.limit * 5 + 1
+decreases-expand_apart l = l.limit * 6 + 1
 
 abbrev pub decreases-expand_under : goal.decreases-expand_under
-decreases-expand_under l = l.limit * 5 + 2
+decreases-expand_under l = l.limit * 6 + 2
+
+abbrev pub decreases-place_invocation : goal.decreases-place_invocation
+decreases-place_invocation l = l.limit * 6 + 3
 
 abbrev pub decreases-expand_invocation : goal.decreases-expand_invocation
-decreases-expand_invocation l = l.limit * 5 + 3
+decreases-expand_invocation l = l.limit * 6 + 4
 
 abbrev pub decreases-pass_call : goal.decreases-pass_call
-decreases-pass_call l = l.limit * 5 + 4
+decreases-pass_call l = l.limit * 6 + 5
 
 abbrev pub invariant-expand_trees-trees : goal.invariant-expand_trees-trees
 invariant-expand_trees-trees l =

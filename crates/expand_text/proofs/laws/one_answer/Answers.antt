@@ -33,4 +33,5 @@ returns c = λ options source it other is was x y.
     let same = one_outcome is.expands_to expands_to (subst (λ its. KeepLimits its) is.findings x) (subst (λ its. KeepLimits its) was.findings y) in (
       is.text ∙ ap (λ outcome. with_all (replacements outcome) (begun source)) same.1 ∙ sym was.text,
       is.findings ∙ ap (λ context. context.findings) same.0 ∙ sym was.findings,
+      is.callers ∙ ap (λ context. context.callers) same.0 ∙ sym was.callers,
     )

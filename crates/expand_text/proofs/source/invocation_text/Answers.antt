@@ -16,15 +16,17 @@ use Rattle.expand_text.proofs.source.invocation_text.Goals as goal
 pub returns-in-Some : goal.returns-in-Some
 returns-in-Some c before is =
     let it = c.args.invocation.now in
-    let (after, ready, put) = c.in_ok-fault.ensures.placed before is in
+    let (after, ready, held) = c.in_ok-fault.ensures.placed before is in
+    let put = held.placed in
     let (misplaced, same) = subst (λ m. IsAdded (site_of it) (trees_left put.outcome) m c.in_ok-builder.builder.stack c.expand_invocation.new.builder.stack) c.in-Some.is put.added in
-    (after, ready, record { outcome = put.outcome; expands_to = put.expands_to; text = inl (misplaced, c.start_of-begin.ensures) })
+    (after, ready, record { inside = held.inside; outcome = put.outcome; expands_to = put.expands_to; behind = held.behind; text = inl (misplaced, c.start_of-begin.ensures) })
 
 pub returns-in-Err : goal.returns-in-Err
 returns-in-Err c before is =
     let it = c.args.invocation.now in
     let why = c.in-Err.refused.fault in
-    let (after, ready, put) = c.in_ok-fault.ensures.placed before is in
+    let (after, ready, held) = c.in_ok-fault.ensures.placed before is in
+    let put = held.placed in
     let (trees, so, added) = subst (λ m. IsAdded (site_of it) (trees_left put.outcome) m c.in_ok-builder.builder.stack c.expand_invocation.new.builder.stack) c.in-None.is put.added in
     let whole : built c.expand_invocation.new.builder ≡ tree_of it.delimiter trees =
     built_alone (record it.delimiter { kind = Invisible }) c.in_ok-builder.builder c.expand_invocation.new.builder trees c.in_ok-builder.ensures.ok c.in_ok-fault.ensures.top added in
@@ -33,8 +35,10 @@ returns-in-Err c before is =
       after,
       ready,
       record {
+        inside = held.inside;
         outcome = put.outcome;
         expands_to = put.expands_to;
+        behind = held.behind;
         text = inr (refl, inl (trees, so, (subst (λ r. IsTreeFault r why) whole past, no_memory), c.start_of-begin.ensures));
       },
     )
@@ -44,7 +48,8 @@ returns-in_ok-write_loosened-in-Ok c before is =
     let it = c.args.invocation.now in
     let text = c.in_ok-write_loosened-in-Ok.field-0 in
     let begin = c.start_of-begin.result in
-    let (after, ready, put) = c.in_ok-fault.ensures.placed before is in
+    let (after, ready, held) = c.in_ok-fault.ensures.placed before is in
+    let put = held.placed in
     let (trees, so, added) = subst (λ m. IsAdded (site_of it) (trees_left put.outcome) m c.in_ok-builder.builder.stack c.expand_invocation.new.builder.stack) c.in-None.is put.added in
     let whole : built c.expand_invocation.new.builder ≡ tree_of it.delimiter trees =
     built_alone (record it.delimiter { kind = Invisible }) c.in_ok-builder.builder c.expand_invocation.new.builder trees c.in_ok-builder.ensures.ok c.in_ok-fault.ensures.top added in
@@ -56,8 +61,10 @@ returns-in_ok-write_loosened-in-Ok c before is =
       after,
       ready,
       record {
+        inside = held.inside;
         outcome = put.outcome;
         expands_to = put.expands_to;
+        behind = held.behind;
         text = call_text (site_of it) (trees_left put.outcome) shown _ text (trees, so, (within, refl)) (subst (λ n. IsTextOf it.delimiter shown n text) c.start_of-begin.ensures made);
       },
     )

@@ -1,4 +1,4 @@
-use Rattle.std.proofs.Common.{inr, refl, subst}
+use Rattle.std.proofs.Common.{inr, refl, ap, subst}
 use Rattle.tt.specs.Span.{start_of}
 use Rattle.expand_text.specs.Expansion.{IsCallText}
 use Rattle.expand_text.specs.Contexts.{with_finding}
@@ -13,5 +13,10 @@ returns-in_ok-find-in-Faulty c before is =
     let kept = subst (IsCallText (site_of it) (trees_left came.outcome) (start_of it.first_span.range)) c.in-Faulty.is came.text in (
       with_finding (found_by it c.in-Faulty.at c.in-Faulty.fault) now,
       c.in_ok-find-in-Faulty.ensures now context,
-      record { inside = now; outcome = came.outcome; expands_to = came.expands_to; put = inr (c.in-Faulty.at, c.in-Faulty.fault, kept, refl, refl) },
+      record {
+        inside = came.inside;
+        outcome = came.outcome;
+        expands_to = came.expands_to;
+        put = inr (c.in-Faulty.at, c.in-Faulty.fault, kept, ap (with_finding (found_by it c.in-Faulty.at c.in-Faulty.fault)) came.behind, refl);
+      },
     )

@@ -51,4 +51,5 @@ returns-clause-ok c =
         reads = λ part again parse. read_woven text_part part text tree again (splices source.outcome) (sorts_left source.outcome) c.utf8.text read woven (subst (λ u. IsParse part u again) spliced parse);
       };
       findings = ready.findings;
+      callers = ready.callers;
     }

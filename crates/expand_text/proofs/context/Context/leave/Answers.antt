@@ -14,4 +14,7 @@ returns-in-Some c context is =
       exported = is.exported;
       findings = is.findings;
       is_over = is.is_over;
+      callers = is.callers;
+      caller = is.caller;
+      left = is.left;
     }
