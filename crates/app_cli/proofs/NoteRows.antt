@@ -1,7 +1,6 @@
 -- The calls around a place, next to rows worked out by hand. Each holds by computation.
 use Rattle.std.proofs.Common.{◌≡◌, ◌++◌, ℕ, List, [], ◌∷◌, Option, None, Some, map, codes, refl}
 use Rattle.app_cli.specs.Notes.{Note, hidden_callers, notes_at, other_notes, shown_callers, trail}
-use Rattle.app_cli.specs.Reports.{hidden_note}
 use Rattle.expand_text.specs.declared.caller.Caller.{Caller}
 use Rattle.expand_text.specs.declared.fault.Finding.{Finding}
 use Rattle.expand_text.specs.declared.fault.MacroFault.{MacroFault}
@@ -42,12 +41,6 @@ eight_shown = refl
 
 nine_shown : shown_callers (seven ++ at 8 ∷ at 9 ∷ []) ≡ seven ++ at 9 ∷ []
 nine_shown = refl
-
-one_hidden : hidden_note 1 ≡ codes "1 call between the last two is not shown" ∷ []
-one_hidden = refl
-
-two_hidden : hidden_note 2 ≡ codes "2 calls between the last two are not shown" ∷ []
-two_hidden = refl
 
 -- The definition comes before the calls. A captured name shows where the macro binds it instead.
 abbrev finding : MacroFault → Option ℕ → Finding

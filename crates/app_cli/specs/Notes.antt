@@ -46,14 +46,15 @@ abbrev pub caller_at : List Caller → Option ℕ → Option Caller
 caller_at callers None = None
 caller_at callers (Some number) = slice_get callers number
 
+-- a caller, if there is one, and those around it
+abbrev pub with_outer : (outer : Caller → List Caller) → Option Caller → List Caller
+with_outer outer None = []
+with_outer outer (Some it) = it ∷ outer it
+
 -- a caller, the one that wrote it, and so on, as many as there may be
 abbrev pub trail_from : List Caller → (most : ℕ) → Option ℕ → List Caller
 trail_from callers zero number = []
-trail_from callers (suc most) number = by (caller_at callers number)
-  where
-    by : Option Caller → List Caller
-    by None = []
-    by (Some it) = it ∷ trail_from callers most it.caller
+trail_from callers (suc most) number = with_outer (λ it. trail_from callers most it.caller) (caller_at callers number)
 
 -- the calls around a place, the innermost first
 abbrev pub trail : List Caller → Option ℕ → List Caller

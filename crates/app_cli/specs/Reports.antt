@@ -40,8 +40,8 @@ pub record IsDiagnosticOf (file text : List ℕ) (options : ExpandOptions) (call
   pub level : it.level ≡ level_of_fault finding.fault
   pub message : it.message.now ≡ message finding.name finding.fault
   pub spot : MatchOption it.spot ⊥ (IsSpot file text finding.at)
-  pub notes : map string_bytes it.notes.items ≡ notes_on options finding.fault
-  pub other : IsNoteAt file text (other_message finding.name finding.fault) (other_byte finding) it.placed_note
+  pub notes : map string_bytes it.notes.items ≡ notes_on options finding.fault ++ hidden_note (hidden_callers callers finding)
+  pub placed : ArePlaced file text (notes_at callers finding) it.placed_notes.items
 
 -- its text
 abbrev pub IsDiagnosticText : Style → (file text : List ℕ) → ExpandOptions → List Caller → Finding → List ℕ → Type 0

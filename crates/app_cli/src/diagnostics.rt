@@ -26,7 +26,7 @@ fn notes_of(
     options: ExpandOptions<'_>,
     fault: MacroFault,
 ) -> Result<Vec<String>, AllocError>
-    ensures { IfOk result (λ notes. map string_bytes notes.items ≡ notes_on options fault) }
+    ensures { IfOk result (λ notes. map string_bytes notes.items ≡ notes_on options.entry fault) }
 {
     let mut notes = Vec::new(alloc);
     let limit = options.limit;
@@ -76,7 +76,7 @@ fn one_diagnostic(
     callers: &[Caller],
     finding: &Finding,
 ) -> Result<String, AllocError>
-    ensures { IfOk result (λ written. IsDiagnosticText style source.now.name.now source.now.text.now options callers.now finding.now (string_bytes written)) }
+    ensures { IfOk result (λ written. IsDiagnosticText style source.now.name.now source.now.text.now options.entry callers.now finding.now (string_bytes written)) }
 {
     let message = message(alloc, finding.name.as_str(), finding.fault)?;
     let (places, hidden) = notes_at(alloc, callers, finding)?;
@@ -103,7 +103,7 @@ pub fn diagnostics_text(
     callers: &[Caller],
     findings: &[Finding],
 ) -> Result<String, AllocError>
-    ensures { IfOk result (λ written. AreDiagnosticTexts style name.now text.now options callers.now findings.now (string_bytes written)) }
+    ensures { IfOk result (λ written. AreDiagnosticTexts style name.now text.now options.entry callers.now findings.now (string_bytes written)) }
 {
     let mut all = String::new(alloc);
     if findings.is_empty() {

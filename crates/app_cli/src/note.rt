@@ -77,7 +77,8 @@ fn add_shown(alloc: Global, its: &[&Caller], notes: &mut Vec<NoteAt>) -> Result<
         return add_callers(alloc, its, notes);
     }
     add_callers(alloc, &its[..MOST_CALLERS - 1], notes)?;
-    add_callers(alloc, &its[its.len() - 1..], notes)
+    add_callers(alloc, &its[its.len() - 1..], notes)?;
+    Ok(())
 }
 
 /// Returns the notes with places on a finding, and how many of the calls around it they leave out.

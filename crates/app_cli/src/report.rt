@@ -56,7 +56,7 @@ fn shown_text(
     callers: &[Caller],
     findings: &[Finding],
 ) -> Result<String, AllocError>
-    ensures { IfOk result (λ written. AreShown style name.now text.now options callers.now findings.now (string_bytes written)) }
+    ensures { IfOk result (λ written. AreShown style name.now text.now options.entry callers.now findings.now (string_bytes written)) }
 {
     let shown = first_shown(findings);
     let mut written = diagnostics_text(alloc, style, name, text, options, callers, shown)?;
@@ -74,7 +74,7 @@ pub fn report_on(
     options: ExpandOptions<'_>,
     found: Expanded,
 ) -> Result<Report, AllocError>
-    ensures { IfOk result (IsReport style name.now text.now options found) }
+    ensures { IfOk result (IsReport style name.now text.now options.entry found) }
 {
     let diagnostics = shown_text(
         alloc,

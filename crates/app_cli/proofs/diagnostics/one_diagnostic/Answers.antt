@@ -28,8 +28,8 @@ returns c =
       level = c.level_of.ensures;
       message = says;
       spot = there;
-      notes = c.in_ok-add_hidden.ensures ∙ ap₂ (λ notes hidden. notes ++ hidden_note hidden) c.in_ok-notes.ensures c.in_ok-hidden.ensures.1;
-      placed = subst (λ notes. ArePlaced file text notes c.in_ok-placed.field-0.items) c.in_ok-hidden.ensures.0 c.in_ok-placed.ensures;
+      notes = c.in_ok-add_hidden.ensures ∙ ap₂ (λ notes hidden. notes ++ hidden_note hidden) c.in_ok-notes.ensures c.in_ok-places.ensures.1;
+      placed = subst (λ notes. ArePlaced file text notes c.in_ok-placed.field-0.items) c.in_ok-places.ensures.0 c.in_ok-placed.ensures;
     } in
     IfOk-weaker c.diagnostic_text.result (λ written. string_bytes written ≡ diagnostic_text c.args.style it)
     (λ written. IsDiagnosticText c.args.style file text options callers finding (string_bytes written))
