@@ -306,34 +306,16 @@ def try_no_text(_room):
             raise Wrong(f"{call.__name__}({value}) is not refused")
 
 
-def first_fault(text):
-    """What a text expands to, or the number and the place of its first fault, by all its findings."""
-    import cuvolemin
+def try_cases(_room):
+    """The cases of the program."""
+    import library_cases
 
-    made = cuvolemin.expand_with(text)
-    faults = [(it.number, it.at) for it in made.findings if not it.is_warning]
-    return faults[0] if faults else made.text
-
-
-def try_all_findings(_room):
-    """The first fault among all findings of a text is the one that its expansion alone reports."""
-    import cuvolemin
-
-    def alone(text):
-        try:
-            return cuvolemin.expand(text)
-        except cuvolemin.Error as error:
-            return error.number, error.at
-
-    cases = (ROOT / "examples" / "rust" / "small.cases").read_text()
-    for text in re.findall(r"^< (.*)$", cases, re.MULTILINE) + [file.read_text() for file in (ROOT / "examples" / "rust").glob("*.rs")]:
-        wanted = alone(text)
-        try:
-            found = first_fault(text)
-        except cuvolemin.Error as error:
-            found = error.number, error.at
-        if found != wanted:
-            raise Wrong(f"{text} alone gives {wanted}, and with all findings {found}")
+    text = (ROOT / "examples" / "rust" / "small.cases").read_text(encoding="utf-8")
+    judged = [library_cases.judged(case) for case in text.rstrip("\n").split("\n\n")]
+    if others := [why for why in judged if why]:
+        raise Wrong("; ".join(others))
+    if judged.count("") < 100:
+        raise Wrong("the cases have other options than the library")
 
 
 def try_valgrind(room):
@@ -374,7 +356,7 @@ TRIED = {
     "README's example in Rust": try_readme_rust,
     "README's example in Python": try_readme_python,
     "Python: what is no text": try_no_text,
-    "Python: the first of all findings": try_all_findings,
+    "Python: the cases of the program": try_cases,
     "tables of faults": try_tables,
     "Python: bytes that are cut": try_cut_bytes,
     "Python: bytes that are changed": try_changed_bytes,
