@@ -50,21 +50,10 @@ word_of (Some number) = number
 -- what else is said of a fault: the byte at which a captured name is bound, or the number of the arm
 abbrev pub detail_of : MacroFault → ℕ
 detail_of (found.Definition error) = error.arm
-detail_of found.Left = 0
-detail_of found.BuiltIn = 0
-detail_of found.SeveralDefinitions = 0
-detail_of found.NotExported = 0
 detail_of (found.Captured binding) = binding
-detail_of found.Conditional = 0
-detail_of found.Statements = 0
-detail_of found.NoMatch = 0
 detail_of (found.Ambiguous arm) = arm
 detail_of (found.Expansion error) = error.arm
-detail_of found.TooDeep = 0
-detail_of found.OverMaxTokens = 0
-detail_of found.NotWritable = 0
-detail_of found.TooLong = 0
-detail_of (found.TooLarge fault) = 0
+detail_of fault = 0
 
 -- a text with the 0 that ends it
 abbrev pub ended : (text : List ℕ) → List ℕ
