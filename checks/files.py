@@ -283,6 +283,26 @@ def try_deep_tree(files):
     files.gives(lines.encode(), "tree", given=b"(" * TREE_DEPTH + b")" * TREE_DEPTH)
 
 
+def try_doublings(files):
+    """A macro that doubles its input: twenty expansions write 2,097,210 tokens, and one more would pass the limit."""
+    line = "macro_rules! d { ($($t:tt)*) => { d!($($t)* $($t)*) }; } d!(a);"
+
+    def place(at):
+        return f" --> <stdin>:1:{at + 1}\n  |\n1 | {line}\n  | {' ' * at}^\n"
+
+    def call(at):
+        return f"note: in this call of `d`\n{place(at)}"
+
+    inner, outer = line.index("d!("), line.rindex("d!(")
+    files.tells(
+        f"error: too many tokens are written while expanding `d`\n{place(inner)}"
+        "  = note: the limit is 4000000 tokens for a call with all that comes of it; --max-tokens N sets another one\n"
+        "  = note: 12 calls between the last two are not shown\n"
+        f"note: `d` is defined here\n{place(line.index('d {'))}{call(inner) * 7}{call(outer)}\nerror: found 1 error\n",
+        "expand", given=line.encode(),
+    )
+
+
 def try_long(files):
     """Many tokens in one line, and in as many lines."""
     lines = "".join(f"IDENT   é {1}:{2 * at + 1}..1:{2 * at + 2}\n" for at in range(WORDS))
@@ -320,7 +340,8 @@ def tried(files):
     yield from macro_files.tried(files, EXAMPLES)
     for try_one in (
         try_missing, try_folder, try_unreadable, try_empty, try_no_utf8, try_mark, try_faults, try_bad_pieces, try_limited,
-        try_own_input, try_replaced, try_device, try_help, try_version, try_mistakes, try_closed_pipe, try_deep, try_deep_tree, try_long,
+        try_own_input, try_replaced, try_device, try_help, try_version, try_mistakes, try_closed_pipe, try_deep, try_deep_tree,
+        try_doublings, try_long,
     ):
         yield try_one.__name__.removeprefix("try_").replace("_", " "), lambda try_one=try_one: try_one(files)
 

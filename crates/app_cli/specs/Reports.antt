@@ -24,23 +24,10 @@ level_of_fault fault = if is_warning fault then Warning else Error
 
 -- the notes on a fault: the limit that it passes
 abbrev pub notes_on : ExpandOptions → MacroFault → List (List ℕ)
-notes_on options (wrong.Definition why) = []
-notes_on options wrong.Left = []
-notes_on options wrong.BuiltIn = []
-notes_on options wrong.SeveralDefinitions = []
-notes_on options wrong.NotExported = []
-notes_on options (wrong.Captured binding) = []
-notes_on options wrong.Conditional = []
-notes_on options wrong.Statements = []
-notes_on options wrong.NoMatch = []
-notes_on options (wrong.Ambiguous arm) = []
-notes_on options (wrong.Expansion why) = []
 notes_on options wrong.TooDeep = (codes "the limit is " ++ decimal options.limit ++ codes "; --limit N sets another one, up to 1000") ∷ []
 notes_on options wrong.OverMaxTokens =
     (codes "the limit is " ++ decimal options.max_tokens ++ codes " tokens for a call with all that comes of it; --max-tokens N sets another one") ∷ []
-notes_on options wrong.NotWritable = []
-notes_on options wrong.TooLong = []
-notes_on options (wrong.TooLarge why) = []
+notes_on options fault = []
 
 -- how many calls around a place are not shown, if some are not
 abbrev pub hidden_note : (hidden : ℕ) → List (List ℕ)

@@ -14,22 +14,9 @@ is_limit (error.Tree why) = true
 
 -- a tree exceeds a limit: if it exceeds several, any one of them may be named
 abbrev pub names_limit : MacroFault → Bool
-names_limit (wrong.Definition why) = false
-names_limit wrong.Left = false
-names_limit wrong.BuiltIn = false
-names_limit wrong.SeveralDefinitions = false
-names_limit wrong.NotExported = false
-names_limit (wrong.Captured binding) = false
-names_limit wrong.Conditional = false
-names_limit wrong.Statements = false
-names_limit wrong.NoMatch = false
-names_limit (wrong.Ambiguous arm) = false
 names_limit (wrong.Expansion why) = is_limit why.fault
-names_limit wrong.TooDeep = false
-names_limit wrong.OverMaxTokens = false
-names_limit wrong.NotWritable = false
-names_limit wrong.TooLong = false
 names_limit (wrong.TooLarge why) = true
+names_limit fault = false
 
 -- no finding names an exceeded limit of trees
 abbrev pub KeepLimits : List Finding → Type 0

@@ -60,20 +60,7 @@ abbrev pub IsDefinitionFault : Definition → (arms : Forest) → (at : ℕ) →
 IsDefinitionFault it trees at (wrong.Definition why) =
     IsRulesError trees why × (why.fault ≢ arm_fault.Memory) × (at ≡ definition_byte trees why (start_of it.delimiter.close.range))
 IsDefinitionFault it trees at (wrong.TooLarge why) = IsPastLimit (under it.delimiter trees) why × (at ≡ start_of it.name.span.range)
-IsDefinitionFault it trees at wrong.Left = ⊥
-IsDefinitionFault it trees at wrong.BuiltIn = ⊥
-IsDefinitionFault it trees at wrong.Statements = ⊥
-IsDefinitionFault it trees at wrong.SeveralDefinitions = ⊥
-IsDefinitionFault it trees at wrong.NotExported = ⊥
-IsDefinitionFault it trees at (wrong.Captured binding) = ⊥
-IsDefinitionFault it trees at wrong.Conditional = ⊥
-IsDefinitionFault it trees at wrong.NoMatch = ⊥
-IsDefinitionFault it trees at (wrong.Ambiguous arm) = ⊥
-IsDefinitionFault it trees at (wrong.Expansion why) = ⊥
-IsDefinitionFault it trees at wrong.TooDeep = ⊥
-IsDefinitionFault it trees at wrong.OverMaxTokens = ⊥
-IsDefinitionFault it trees at wrong.NotWritable = ⊥
-IsDefinitionFault it trees at wrong.TooLong = ⊥
+IsDefinitionFault it trees at fault = ⊥
 
 -- a finding in the definition
 abbrev pub found_in : Definition → (at : ℕ) → MacroFault → Finding
@@ -139,20 +126,9 @@ IsInputFault allowed arms it at wrong.NoMatch =
 IsInputFault allowed arms it at (wrong.Ambiguous arm) = IsExpansion arms 0 0 it.input (expansion.Ambiguous arm) × (at ≡ start_of it.name.span.range)
 IsInputFault allowed arms it at (wrong.Expansion why) =
     IsExpandError arms 0 it.input why × (why.fault ≢ transcribe_error.Tree limit.Memory) × (at ≡ start_of it.name.span.range)
-IsInputFault allowed arms it at (wrong.Definition why) = ⊥
-IsInputFault allowed arms it at wrong.Left = ⊥
-IsInputFault allowed arms it at wrong.BuiltIn = ⊥
-IsInputFault allowed arms it at wrong.Statements = ⊥
-IsInputFault allowed arms it at wrong.SeveralDefinitions = ⊥
-IsInputFault allowed arms it at wrong.NotExported = ⊥
-IsInputFault allowed arms it at (wrong.Captured binding) = ⊥
-IsInputFault allowed arms it at wrong.Conditional = ⊥
 IsInputFault allowed arms it at wrong.OverMaxTokens =
     (tree : Root) × IsExpansion arms 0 0 it.input (expansion.Tree tree) × (allowed < size tree.children) × (at ≡ start_of it.name.span.range)
-IsInputFault allowed arms it at wrong.TooDeep = ⊥
-IsInputFault allowed arms it at wrong.NotWritable = ⊥
-IsInputFault allowed arms it at wrong.TooLong = ⊥
-IsInputFault allowed arms it at (wrong.TooLarge why) = ⊥
+IsInputFault allowed arms it at fault = ⊥
 
 -- the fault of a call that arms expand, with at most so many nested expansions and so many tokens
 abbrev pub IsCallFault : (limit allowed : ℕ) → List Arm → Call → (at : ℕ) → MacroFault → Type 0
@@ -191,16 +167,4 @@ IsUnwritten call trees begin at (wrong.TooLarge why) = IsPastLimit (tree_of call
 IsUnwritten call trees begin at wrong.TooLong = IsWithinLimits (tree_of call trees) × IsWriteFault trees unwritten.TooLong × (at ≡ begin)
 IsUnwritten call trees begin at wrong.NotWritable =
     IsWithinLimits (tree_of call trees) × (place : ℕ) × IsWriteFault trees (unwritten.NotWritable place) × (at ≡ byte_at trees place begin)
-IsUnwritten call trees begin at (wrong.Definition why) = ⊥
-IsUnwritten call trees begin at wrong.Left = ⊥
-IsUnwritten call trees begin at wrong.BuiltIn = ⊥
-IsUnwritten call trees begin at wrong.Statements = ⊥
-IsUnwritten call trees begin at wrong.SeveralDefinitions = ⊥
-IsUnwritten call trees begin at wrong.NotExported = ⊥
-IsUnwritten call trees begin at (wrong.Captured binding) = ⊥
-IsUnwritten call trees begin at wrong.Conditional = ⊥
-IsUnwritten call trees begin at wrong.NoMatch = ⊥
-IsUnwritten call trees begin at (wrong.Ambiguous arm) = ⊥
-IsUnwritten call trees begin at (wrong.Expansion why) = ⊥
-IsUnwritten call trees begin at wrong.TooDeep = ⊥
-IsUnwritten call trees begin at wrong.OverMaxTokens = ⊥
+IsUnwritten call trees begin at fault = ⊥
