@@ -44,14 +44,13 @@ uint32_t tt_expand_text(const uint8_t *text, size_t text_len, uint8_t *out, size
  *   max_tokens  how many tokens a call with all that comes of it may write (4,000,000 are usual)
  * out gets the text and then the names that the words speak of, each of them with a 0 behind it. findings has room for findings_len words
  * and gets: the number of bytes of the text; the number of findings; the words of each finding, in order; and those of each caller, up to
- * the end. *found is the number of words. If either output is too short, nothing is written into both. out, written, findings,
- * found and at overlap with nothing else.
+ * the end. *found is the number of words. If one of the outputs is too short, nothing is written into either.
  * Faults: 1; 2; 3 of the text, of root or of only, in this order; 4 to 44. *at is a byte of that; 0 for faults 1, 2 and 4 to 9. */
 uint32_t tt_expand_text_with(const uint8_t *text, size_t text_len, const uint8_t *root, size_t root_len, const uint8_t *only, size_t only_len,
                              uint32_t everywhere, size_t limit, size_t max_tokens, uint8_t *out, size_t out_len, size_t *written,
                              size_t *findings, size_t findings_len, size_t *found, size_t *at);
 
-/* The words of a finding. A number that is missing is SIZE_MAX. */
+/* The words of a finding, which may be read as this struct. A number that is missing is SIZE_MAX. */
 struct cuvolemin_finding {
     /* Its number in the table below. Those of warnings are 84 and 93 to 97. */
     size_t fault;
