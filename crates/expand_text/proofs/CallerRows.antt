@@ -1,6 +1,6 @@
 -- Worked contexts of calls in one another. Each holds by computation.
-use Rattle.std.proofs.Common.{◌≡◌, ℕ, Bool, true, false, List, [], ◌∷◌, Option, None, Some, codes, refl}
-use Rattle.expand_items.specs.Cfg.{Known, unknown}
+use Rattle.std.proofs.Common.{◌≡◌, ℕ, true, false, List, [], ◌∷◌, Option, None, Some, codes, refl}
+use Rattle.expand_items.specs.Cfg.{unknown}
 use Rattle.expand_text.specs.Contexts.{Config, Context, inside_call, new_context, outside_call, tokens_left, with_finding}
 use Rattle.expand_text.specs.declared.caller.Caller.{Caller}
 use Rattle.expand_text.specs.declared.fault.Finding.{Finding}

@@ -98,7 +98,7 @@ module _ (config : Config) (in_text : Bool) (limit : ℕ) (old : Walk) (context 
       entered : entered_by config i others ≡ entered_in config it trees tree others
       entered =
           ap (λ name. inside_call config name (start_of i.first_span.range) (size i.tree.children) others) is.name
-          ∙ ap₂ (λ first made. inside_call config it.name.sym (start_of first.range) (size made.children) others) is.first is.tree
+          ∙ ap₂ (λ first made. inside_call config it.name.sym (start_of first.range) (size made.children) others) is.first is.writes
 
       by : (inside : Context) (held : Outcome) → ExpandsTo config false from.left i.position 0 (entered_by config i others) (body_of i) inside held
           → GoesPast config in_text limit (levels_of old) context i (trees_left held) nexts (outside_call others inside)

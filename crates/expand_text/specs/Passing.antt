@@ -33,7 +33,7 @@ pub record IsInvocation (it : Call) (trees : Forest) (position : Position) (tree
   pub site : site_of invocation ≡ site_in position it trees tree
   pub begins : invocation.position ≡ begun_by position it trees
   pub makes : body_of invocation ≡ body_in position it trees tree
-  pub tree : invocation.tree ≡ tree
+  pub writes : invocation.tree ≡ tree
 
 -- a call that comes first expands to that tree, and is passed
 abbrev pub IsInvoked : Call → (tree : Root) → (defined_at : ℕ) → (old : Walk) → Invocation → (new : Walk) → Type 0

@@ -1,5 +1,5 @@
 -- The macros in scope.
-use Rattle.std.specs.Prelude.{◌≡◌, ℕ, Bool, List, [], ◌∷◌, take, Option, None, Some, bytes_eq, if◌then◌else◌}
+use Rattle.std.specs.Prelude.{◌≡◌, ℕ, List, [], ◌∷◌, take, Option, None, Some, bytes_eq, if◌then◌else◌}
 use Rattle.mbe_rules.specs.Arms.{Arm}
 use Rattle.mbe_rules.specs.Expansions.{AreMade}
 use Rattle.mbe_rules.specs.declared.macro_rules.MacroRules.{MacroRules}

@@ -298,8 +298,8 @@ expand_invocation-returns-clause-placed t c before is =
     let it = c.args.invocation.now in
     let config : Config = config_of c.args.config.now in
     let tokens : c.len-tokens.result ≡ size it.tree.children = search rules in
-    let entered : IsContext (entered_by config it before) c.enter_call-outside.new.self =
-    subst₂ (λ at n. IsContext (inside_call config it.name at n before) c.enter_call-outside.new.self) c.start_of-begin.ensures tokens (c.in_ok-outside.ensures.entered before is) in
+    let entered : IsContext (entered_by config it before) c.enter_call.new.self =
+    subst₂ (λ at n. IsContext (inside_call config it.name at n before) c.enter_call.new.self) c.start_of-begin.ensures tokens (c.in_ok-outside.ensures.entered before is) in
     let (inside, ready, placed) = c.in_ok-misplaced.ensures.placed (entered_by config it before) entered in (
       outside_call before inside,
       c.leave_call.ensures before inside (c.in_ok-outside.ensures.outside before is) ready,

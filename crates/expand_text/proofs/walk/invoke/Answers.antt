@@ -77,7 +77,7 @@ returns c =
         site = site_same level.position it level.rest tree (trees_of c.from_savepoint.result) c.enclosure-enclosure.result c.first_of_call.result whole enclosed begins;
         begins = begins;
         makes = ap (λ b. body b tree) is_one;
-        tree = refl;
+        writes = refl;
       },
       now,
       refl,

@@ -5,9 +5,8 @@ ghost use Rattle.tt_codec.specs.SpanNumbers.{numbers_at};
 
 use crate::holds::holds;
 use crate::written::is_written;
-use std::alloc::Global;
 use std::test::Fail;
-use tt_base::{IdentIsRaw, LitKind, Spacing, TtFault};
+use tt_base::{IdentIsRaw, LitKind, Spacing};
 use tt_codec::{Entry, LeafEntry, SpanNumbers};
 
 // A span of the first part, from 0 on.
@@ -33,28 +32,6 @@ const PUNCTS: [(char, Spacing, &[u8]); 6] = [
         b"\x40\x00\x00\x00\x16\x92\x21\x00\x00",
     ),
 ];
-
-// Whether each of these puncts is written and read.
-fn are_puncts(alloc: Global) -> Result<bool, TtFault> {
-    for (char, spacing, bytes) in &PUNCTS {
-        let punct = LeafEntry::Punct(*char, *spacing, at(1));
-        if !is_written(alloc, Entry::Leaf(punct), bytes)? {
-            return Ok(false);
-        }
-    }
-    Ok(true)
-}
-
-#[test]
-fn puncts(rt: HostRuntime) -> Result<(), Fail> {
-    holds(are_puncts(rt.alloc()))
-}
-
-#[test]
-fn a_raw_ident(rt: HostRuntime) -> Result<(), Fail> {
-    let raw = Entry::Leaf(LeafEntry::Ident(0, IdentIsRaw::Yes, at(6)));
-    holds(is_written(rt.alloc(), raw, b"\x82\x01\x00\x00\x01"))
-}
 
 // The kind of a literal of the first symbol, the length of its suffix and of its span, and its bytes.
 type Row<'a> = (LitKind, u8, u32, &'a [u8]);
@@ -114,18 +91,16 @@ const LITERALS: [Row<'_>; 21] = [
     ),
 ];
 
-// Whether each of these literals is written and read.
-fn are_literals(alloc: Global) -> Result<bool, TtFault> {
+#[test]
+fn leaves(rt: HostRuntime) -> Result<(), Fail> {
+    for (char, spacing, bytes) in &PUNCTS {
+        let punct = LeafEntry::Punct(*char, *spacing, at(1));
+        holds(is_written(rt.alloc(), Entry::Leaf(punct), bytes))?;
+    }
     for (kind, suffix_len, length, bytes) in &LITERALS {
         let literal = LeafEntry::Literal(0, *kind, *suffix_len, at(*length));
-        if !is_written(alloc, Entry::Leaf(literal), bytes)? {
-            return Ok(false);
-        }
+        holds(is_written(rt.alloc(), Entry::Leaf(literal), bytes))?;
     }
-    Ok(true)
-}
-
-#[test]
-fn literals(rt: HostRuntime) -> Result<(), Fail> {
-    holds(are_literals(rt.alloc()))
+    let raw = Entry::Leaf(LeafEntry::Ident(0, IdentIsRaw::Yes, at(6)));
+    holds(is_written(rt.alloc(), raw, b"\x82\x01\x00\x00\x01"))
 }

@@ -2,9 +2,7 @@
 ghost use Rattle.std.specs.Prelude.{◌≤◌, ◌<◌, ◌-◌};
 
 use crate::holds::holds;
-use crate::lists::{
-    brace, braces, gives, header, ident, is_at, is_at_end, is_read, pack, punct, stored,
-};
+use crate::lists::{brace, braces, gives, header, ident, is_at, is_at_end, is_read, punct, stored};
 use std::alloc::Global;
 use std::test::Fail;
 use tt_base::{DelimiterKind, Spacing, TokenTree, TtFault};
@@ -65,15 +63,11 @@ fn nested(alloc: Global, count: u32) -> Result<Vec<TokenTree>, TtFault>
     Ok(tokens)
 }
 
-// Whether the tree that is stored for a list has its tokens, one step each.
-fn is_stored(alloc: Global, tokens: &[TokenTree]) -> Result<bool, TtFault> {
-    Ok(is_read(&stored(alloc, tokens)?, tokens))
-}
-
 #[test]
 fn a_long_list(rt: HostRuntime) -> Result<(), Fail> {
     let tokens = nested(rt.alloc(), 100000)?;
-    holds(is_stored(rt.alloc(), tokens.as_slice()))
+    let tree = stored(rt.alloc(), tokens.as_slice())?;
+    holds(Ok(is_read(&tree, tokens.as_slice())))
 }
 
 // Whether the reader gives the tokens of the braces one after another.
@@ -89,28 +83,19 @@ fn goes_through(reader: &mut Reader<'_>, tokens: &[TokenTree]) -> bool {
         && is_at_end(reader, 43, 3)
 }
 
-// Whether a reader starts in front of the braces, and goes through them.
-fn is_read_in_turn(alloc: Global, tokens: &[TokenTree]) -> Result<bool, TtFault> {
-    let tree = stored(alloc, tokens)?;
-    let mut reader = Reader::start(&tree);
-    Ok(is_at(&reader, 0, 0) && goes_through(&mut reader, tokens))
-}
-
 #[test]
 fn one_token_after_another(rt: HostRuntime) -> Result<(), Fail> {
     let tokens = braces(rt.alloc())?;
-    holds(is_read_in_turn(rt.alloc(), tokens.as_slice()))
-}
-
-// Whether the token is the header of the braces.
-fn is_brace(token: TokenTree) -> bool {
-    token == brace()
+    let tree = stored(rt.alloc(), tokens.as_slice())?;
+    let mut reader = Reader::start(&tree);
+    holds(Ok(is_at(&reader, 0, 0)))?;
+    holds(Ok(goes_through(&mut reader, tokens.as_slice())))
 }
 
 // The reader of what the braces hold, which a reader in front of them passes in one step.
 fn below<'a>(reader: &mut Reader<'a>) -> Option<Reader<'a>> {
     let (found, below) = reader.advance_skip()?;
-    if is_brace(found) { Some(below) } else { None }
+    if found == brace() { Some(below) } else { None }
 }
 
 // Whether the reader is at the end behind one step, and stays there.
@@ -118,27 +103,18 @@ fn stays(reader: &mut Reader<'_>) -> bool {
     is_at(reader, 43, 1) && reader.advance_skip().is_none() && is_at_end(reader, 43, 1)
 }
 
-// Whether the reader of what the braces hold gives that ident first.
-fn goes_below(below: &mut Reader<'_>, name: &TokenTree) -> bool {
-    is_at(below, 33, 1) && gives(below, name) && is_at(below, 38, 2)
-}
-
 // Whether the braces are passed in one step, and what they hold is read behind it.
 fn is_passed(tree: &Packed, name: &TokenTree) -> bool {
     let mut reader = Reader::start(tree);
-    match below(&mut reader) {
-        Some(mut below) => stays(&mut reader) && goes_below(&mut below, name),
-        None => false,
-    }
-}
-
-// Whether the braces over the ident are.
-fn are_passed(alloc: Global, name: &TokenTree) -> Result<bool, TtFault> {
-    Ok(is_passed(&pack(alloc, braces(alloc)?)?, name))
+    let Some(mut below) = below(&mut reader) else {
+        return false;
+    };
+    stays(&mut reader) && is_at(&below, 33, 1) && gives(&mut below, name) && is_at(&below, 38, 2)
 }
 
 #[test]
 fn all_that_a_header_holds(rt: HostRuntime) -> Result<(), Fail> {
     let name = ident(rt.alloc(), "a", (0, 2, 3))?;
-    holds(are_passed(rt.alloc(), &name))
+    let tree = stored(rt.alloc(), braces(rt.alloc())?.as_slice())?;
+    holds(Ok(is_passed(&tree, &name)))
 }

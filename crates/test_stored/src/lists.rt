@@ -63,14 +63,9 @@ pub(crate) fn with_below(
     Ok(tokens)
 }
 
-/// What is stored for the list.
-pub(crate) fn pack(alloc: Global, tokens: Vec<TokenTree>) -> Result<Packed, TtFault> {
-    Ok(Packed::pack(alloc, tokens)?)
-}
-
 /// The tree that is stored for a copy of the list.
 pub(crate) fn stored(alloc: Global, tokens: &[TokenTree]) -> Result<Packed, TtFault> {
-    pack(alloc, Vec::from_clones(alloc, tokens)?)
+    Ok(Packed::pack(alloc, Vec::from_clones(alloc, tokens)?)?)
 }
 
 /// Whether the reader gives that token.

@@ -26,19 +26,12 @@ const REFERENCES: [(u32, u32, &[u8]); 9] = [
     (536870911, 1, b"\xff\xff\xff\xff"),
 ];
 
-// Whether each of them has its bytes.
-fn are_references(alloc: Global) -> Result<bool, TtFault> {
-    for (index, tag, bytes) in &REFERENCES {
-        if !is_reference(alloc, *index, *tag, bytes)? {
-            return Ok(false);
-        }
-    }
-    Ok(true)
-}
-
 #[test]
 fn references(rt: HostRuntime) -> Result<(), Fail> {
-    holds(are_references(rt.alloc()))
+    for (index, tag, bytes) in &REFERENCES {
+        holds(is_reference(rt.alloc(), *index, *tag, bytes))?;
+    }
+    Ok(())
 }
 
 // Whether a span of that part, start and length has these bytes, with no extra bits, and its numbers can be written.
@@ -96,28 +89,13 @@ const SPANS: [((u32, u32, u32), &[u8]); 17] = [
     ),
 ];
 
-// Whether each of them has its bytes.
-fn are_spans(alloc: Global) -> Result<bool, TtFault> {
-    for (numbers, bytes) in &SPANS {
-        if !is_span(alloc, *numbers, bytes)? {
-            return Ok(false);
-        }
-    }
-    Ok(true)
-}
-
 #[test]
 fn spans(rt: HostRuntime) -> Result<(), Fail> {
-    holds(are_spans(rt.alloc()))
-}
-
-// Whether an empty span has these bytes in the longest form, with both extra bits.
-fn is_longest(alloc: Global, bytes: &[u8]) -> Result<bool, TtFault> {
-    Ok(laws::span_bytes(alloc, 0, 0, 0, 3, true)?.as_slice() == bytes)
-}
-
-#[test]
-fn the_longest_form(rt: HostRuntime) -> Result<(), Fail> {
+    for (numbers, bytes) in &SPANS {
+        holds(is_span(rt.alloc(), *numbers, bytes))?;
+    }
+    // an empty span in the longest form, with both extra bits
+    let longest = laws::span_bytes(rt.alloc(), 0, 0, 0, 3, true)?;
     let bytes = b"\x03\x40\x00\x00\x01\x00\x00\x00\x00\x00\x00\x00";
-    holds(is_longest(rt.alloc(), bytes))
+    holds(Ok(longest.as_slice() == bytes.as_slice()))
 }

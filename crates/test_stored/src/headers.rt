@@ -11,21 +11,26 @@ use tt_base::{DelimiterKind, TtFault};
 use tt_codec::{Entry, HeaderEntry, SpanNumbers};
 
 // The part, the start and the length of a span.
-type Spot = (u8, u32, u32);
+type Extent = (u8, u32, u32);
 
 // The span of these numbers.
-fn numbers(spot: Spot) -> SpanNumbers
+fn numbers(extent: Extent) -> SpanNumbers
     ensures { result.part < 2 ^ 28 }
 {
     SpanNumbers {
-        part: spot.0 as u32,
-        start: spot.1,
-        length: spot.2,
+        part: extent.0 as u32,
+        start: extent.1,
+        length: extent.2,
     }
 }
 
 // A header that opens and closes there, and holds so many tokens in so many bytes.
-fn header(kind: DelimiterKind, opening: Spot, closing: Spot, children: (u32, u32)) -> HeaderEntry
+fn header(
+    kind: DelimiterKind,
+    opening: Extent,
+    closing: Extent,
+    children: (u32, u32),
+) -> HeaderEntry
     ensures { HeaderFits result }
 {
     HeaderEntry {
@@ -38,20 +43,10 @@ fn header(kind: DelimiterKind, opening: Spot, closing: Spot, children: (u32, u32
 }
 
 // Where parentheses open and close, how many tokens they hold in how many bytes, and the bytes of their header.
-type Parentheses<'a> = (Spot, Spot, (u32, u32), &'a [u8]);
+type Parentheses<'a> = (Extent, Extent, (u32, u32), &'a [u8]);
 
-// Whether each of these headers is written and read.
-fn are_written(alloc: Global, rows: &[Parentheses<'_>]) -> Result<bool, TtFault> {
-    for (opening, closing, children, bytes) in rows {
-        let header = header(DelimiterKind::Parenthesis, *opening, *closing, *children);
-        if !is_written(alloc, Entry::Header(header), bytes)? {
-            return Ok(false);
-        }
-    }
-    Ok(true)
-}
-
-const ONE_LENGTH: [Parentheses<'_>; 10] = [
+const PARENTHESES: [Parentheses<'_>; 29] = [
+    // both delimiters have one length
     (
         (0, 0, 1),
         (0, 1, 1),
@@ -112,10 +107,7 @@ const ONE_LENGTH: [Parentheses<'_>; 10] = [
         (0, 0),
         b"\x80\x00\x00\x00\x05\x80\x00\x80\x00\x00\x00\x00\x00\x00\x00\x00\x00",
     ),
-];
-
-// The first two have two lengths, and a close before the open.
-const TWO_LENGTHS_AND_PARTS: [Parentheses<'_>; 6] = [
+    // two lengths, a close before the open, and other parts
     (
         (0, 0, 1),
         (0, 1, 2),
@@ -152,10 +144,7 @@ const TWO_LENGTHS_AND_PARTS: [Parentheses<'_>; 6] = [
         (0, 0),
         b"\x60\x40\x00\x00\x18\x00\x00\x00\x00\x00\x00",
     ),
-];
-
-// The length of both delimiters and the distance of the two fit the first format, the second or the third.
-const HOLDING_TOKENS: [Parentheses<'_>; 13] = [
+    // tokens in three formats and past them
     (
         (0, 0, 1),
         (0, 1, 1),
@@ -236,97 +225,92 @@ const HOLDING_TOKENS: [Parentheses<'_>; 13] = [
     ),
 ];
 
-#[test]
-fn delimiters_of_one_length(rt: HostRuntime) -> Result<(), Fail> {
-    holds(are_written(rt.alloc(), &ONE_LENGTH))
-}
-
-#[test]
-fn other_delimiters_and_parts(rt: HostRuntime) -> Result<(), Fail> {
-    holds(are_written(rt.alloc(), &TWO_LENGTHS_AND_PARTS))
-}
-
-#[test]
-fn tokens_in_three_formats_and_past_them(rt: HostRuntime) -> Result<(), Fail> {
-    holds(are_written(rt.alloc(), &HOLDING_TOKENS))
-}
-
-// The last two have all numbers but the opening at the limit of their format, which is the third and the fourth.
-const KINDS: [(DelimiterKind, Spot, Spot, (u32, u32), &[u8]); 6] = [
+// The same of other kinds. The last two have all numbers but the opening at the limit of their format, which is the third and the
+// fourth.
+const KINDS: [(DelimiterKind, Parentheses<'_>); 6] = [
     (
         DelimiterKind::Brace,
-        (0, 5, 4),
-        (0, 5, 4),
-        (1, 5),
-        b"\x00\x81\x02\x00\x09\x01\x05",
+        (
+            (0, 5, 4),
+            (0, 5, 4),
+            (1, 5),
+            b"\x00\x81\x02\x00\x09\x01\x05",
+        ),
     ),
     (
         DelimiterKind::Bracket,
-        (0, 0, 1),
-        (0, 1, 1),
-        (0, 0),
-        b"\x40\x00\x00\x00\x10\x00\x00",
+        (
+            (0, 0, 1),
+            (0, 1, 1),
+            (0, 0),
+            b"\x40\x00\x00\x00\x10\x00\x00",
+        ),
     ),
     (
         DelimiterKind::Invisible,
-        (0, 0, 1),
-        (0, 2047, 1),
-        (0, 0),
-        b"\xc0\x3f\x00\x00\xf8\x00\x00",
+        (
+            (0, 0, 1),
+            (0, 2047, 1),
+            (0, 0),
+            b"\xc0\x3f\x00\x00\xf8\x00\x00",
+        ),
     ),
     (
         DelimiterKind::InvisibleOpaque,
-        (0, 0, 1),
-        (0, 1, 1),
-        (0, 0),
-        b"\x40\x00\x00\x00\x25\x40\x80\x00\x00\x00\x00\x00\x00\x00\x00\x00\x00",
+        (
+            (0, 0, 1),
+            (0, 1, 1),
+            (0, 0),
+            b"\x40\x00\x00\x00\x25\x40\x80\x00\x00\x00\x00\x00\x00\x00\x00\x00\x00",
+        ),
     ),
     (
         DelimiterKind::Invisible,
-        (3, 1, 5),
-        (127, 256, 5),
-        (255, 4095),
-        b"\x4c\x81\x00\x00\xfa\xff\xff\xff\xff",
+        (
+            (3, 1, 5),
+            (127, 256, 5),
+            (255, 4095),
+            b"\x4c\x81\x00\x00\xfa\xff\xff\xff\xff",
+        ),
     ),
     (
         DelimiterKind::Invisible,
-        (0, 0, 1),
-        (0, 4294967295, 0),
-        (4294967295, 4294967295),
-        b"\x40\x00\x00\x00\x1d\x00\xc0\xff\xff\x01\x00\xfe\xff\x00\x00\x00\x00\xff\xff\xff\xff\xff\xff\xff\xff",
+        (
+            (0, 0, 1),
+            (0, 4294967295, 0),
+            (4294967295, 4294967295),
+            b"\x40\x00\x00\x00\x1d\x00\xc0\xff\xff\x01\x00\xfe\xff\x00\x00\x00\x00\xff\xff\xff\xff\xff\xff\xff\xff",
+        ),
     ),
 ];
 
-// Whether each of these headers is written and read.
-fn are_kinds(alloc: Global) -> Result<bool, TtFault> {
-    for (kind, opening, closing, children, bytes) in &KINDS {
-        let header = header(*kind, *opening, *closing, *children);
-        if !is_written(alloc, Entry::Header(header), bytes)? {
-            return Ok(false);
-        }
-    }
-    Ok(true)
+// Whether the header of that kind is written so, and read.
+fn is_header(alloc: Global, kind: DelimiterKind, row: &Parentheses<'_>) -> Result<bool, TtFault> {
+    let (opening, closing, children, bytes) = row;
+    let header = header(kind, *opening, *closing, *children);
+    is_written(alloc, Entry::Header(header), bytes)
 }
 
 #[test]
-fn kinds(rt: HostRuntime) -> Result<(), Fail> {
-    holds(are_kinds(rt.alloc()))
+fn headers(rt: HostRuntime) -> Result<(), Fail> {
+    for row in &PARENTHESES {
+        holds(is_header(rt.alloc(), DelimiterKind::Parenthesis, row))?;
+    }
+    for (kind, row) in &KINDS {
+        holds(is_header(rt.alloc(), *kind, row))?;
+    }
+    Ok(())
 }
 
-// Whether a header in the form of a top has these bytes, and is read back from them.
-fn is_written_in_full(alloc: Global, header: HeaderEntry, bytes: &[u8]) -> Result<bool, TtFault>
-    requires { HeaderFits header }
-{
-    let mut written = BackBuf::with_room(alloc, MOST_TOKEN_BYTES)?;
-    header.write_in_full(&mut written, true);
-    let found = written.into_vec()?;
-    Ok(found.as_slice() == bytes && is_read(Entry::Header(header), bytes))
-}
-
+// A header in the form of a top.
 #[test]
 fn in_full(rt: HostRuntime) -> Result<(), Fail> {
     let header = header(DelimiterKind::Parenthesis, (0, 0, 1), (1, 3, 1), (2, 10));
     let bytes =
         b"\x40\x40\x00\x00\x01\x00\x00\x00\x00\x00\x00\x00\x05\x44\xc0\x01\x00\x01\x00\x00\x00\x00\x00\x00\x00\x02\x00\x00\x00\x0a\x00\x00\x00";
-    holds(is_written_in_full(rt.alloc(), header, bytes))
+    let mut written = BackBuf::with_room(rt.alloc(), MOST_TOKEN_BYTES)?;
+    header.write_in_full(&mut written, true);
+    let found = written.into_vec()?;
+    holds(Ok(found.as_slice() == bytes.as_slice()))?;
+    holds(Ok(is_read(Entry::Header(header), bytes)))
 }

@@ -43,7 +43,10 @@ impl Tables {
         for number in 0..part_count {
             parts.push(part(number))?;
         }
-        let symbols = symbols_of(alloc, texts)?;
+        let mut symbols = Vec::new(alloc);
+        for text in texts {
+            symbols.push(Symbol::new(alloc, text)?)?;
+        }
         Ok(Tables { parts, symbols })
     }
 
@@ -65,13 +68,4 @@ impl Tables {
     pub(crate) fn know(&self, alloc: Global, token: &TokenTree) -> Result<bool, TtFault> {
         Ok(laws::token_bytes(alloc, token, &self.parts, &self.symbols, 0)?.is_some())
     }
-}
-
-// The symbols of these texts.
-fn symbols_of(alloc: Global, texts: &[&str]) -> Result<Vec<Symbol>, TtFault> {
-    let mut symbols = Vec::new(alloc);
-    for text in texts {
-        symbols.push(Symbol::new(alloc, text)?)?;
-    }
-    Ok(symbols)
 }

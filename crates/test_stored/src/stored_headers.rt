@@ -9,16 +9,12 @@ use tt_base::{DelimiterKind, Leaf, LitKind, Literal, Spacing, TokenTree, TtFault
 // How many bytes the header of a top takes.
 const TOP_BYTES: usize = 33;
 
-// Whether the tree of these tokens takes so many bytes, and is read back.
-fn is_stored(alloc: Global, tokens: &[TokenTree], bytes: usize) -> Result<bool, TtFault> {
-    let tree = stored(alloc, tokens)?;
-    Ok(tree.bytes().len() == bytes && is_read(&tree, tokens))
-}
-
-// Whether a top over these tokens takes so many.
+// Whether a top over these tokens takes so many bytes, and is read back.
 fn takes(alloc: Global, below: &[TokenTree], bytes: usize) -> Result<bool, TtFault> {
     let len = u32::try_from(below.len()).unwrap_or(u32::MAX);
-    is_stored(alloc, with_below(alloc, top(len), below)?.as_slice(), bytes)
+    let tokens = with_below(alloc, top(len), below)?;
+    let tree = stored(alloc, tokens.as_slice())?;
+    Ok(tree.bytes().len() == bytes && is_read(&tree, tokens.as_slice()))
 }
 
 // A span of one character, and one of two.
@@ -57,25 +53,13 @@ const OVER_NOTHING: [(Spot, Spot, usize); 15] = [
     ),
 ];
 
-// Whether they take so many when they open and close there.
-fn take(alloc: Global, opening: Spot, closing: Spot, bytes: usize) -> Result<bool, TtFault> {
-    let token = header(DelimiterKind::Parenthesis, opening, closing, 0);
-    takes(alloc, std::slice::from_ref(&token), bytes)
-}
-
-// Whether all of them do.
-fn all_take(alloc: Global) -> Result<bool, TtFault> {
-    for (opening, closing, bytes) in &OVER_NOTHING {
-        if !take(alloc, *opening, *closing, *bytes)? {
-            return Ok(false);
-        }
-    }
-    Ok(true)
-}
-
 #[test]
 fn parentheses_over_nothing(rt: HostRuntime) -> Result<(), Fail> {
-    holds(all_take(rt.alloc()))
+    for (opening, closing, bytes) in &OVER_NOTHING {
+        let token = header(DelimiterKind::Parenthesis, *opening, *closing, 0);
+        holds(takes(rt.alloc(), std::slice::from_ref(&token), *bytes))?;
+    }
+    Ok(())
 }
 
 // A punct of 17 bytes, one of 5, and a number of 6.
@@ -121,30 +105,14 @@ const HOLDING: [((u32, u32, u32), usize); 6] = [
     ((240, 2, 1), TOP_BYTES + 17 + 4096),
 ];
 
-// Whether they take so many.
-fn holding_takes(
-    alloc: Global,
-    sizes: &[TokenTree; 3],
-    counts: (u32, u32, u32),
-    bytes: usize,
-) -> Result<bool, TtFault> {
-    takes(alloc, holding(alloc, sizes, counts)?.as_slice(), bytes)
-}
-
-// Whether all of them do.
-fn hold(alloc: Global, sizes: &[TokenTree; 3]) -> Result<bool, TtFault> {
-    for (counts, bytes) in &HOLDING {
-        if !holding_takes(alloc, sizes, *counts, *bytes)? {
-            return Ok(false);
-        }
-    }
-    Ok(true)
-}
-
 #[test]
 fn counts_and_bytes(rt: HostRuntime) -> Result<(), Fail> {
     let sizes = sizes(rt.alloc())?;
-    holds(hold(rt.alloc(), &sizes))
+    for (counts, bytes) in &HOLDING {
+        let below = holding(rt.alloc(), &sizes, *counts)?;
+        holds(takes(rt.alloc(), below.as_slice(), *bytes))?;
+    }
+    Ok(())
 }
 
 // A punct of each of so many parts, and parentheses that close in one part more.
@@ -157,21 +125,17 @@ fn with_parts(alloc: Global, parts: u32) -> Result<Vec<TokenTree>, AllocError> {
     Ok(found)
 }
 
-// Whether the puncts and the parentheses of so many parts take so many bytes with the top.
-fn parts_take(alloc: Global, parts: u32, bytes: usize) -> Result<bool, TtFault> {
-    let below = with_parts(alloc, parts)?;
-    takes(alloc, below.as_slice(), bytes)
-}
-
-// Whether the format is one more behind the part 127.
-fn are_parts(alloc: Global) -> Result<bool, TtFault> {
-    Ok(
-        parts_take(alloc, 127, TOP_BYTES + 16 * 5 + 111 * 9 + 9)?
-            && parts_take(alloc, 128, TOP_BYTES + 16 * 5 + 112 * 9 + 21)?,
-    )
-}
+// Such a number of parts, and how many bytes all take with the top: the format is one more behind the part 127.
+const PARTS: [(u32, usize); 2] = [
+    (127, TOP_BYTES + 16 * 5 + 111 * 9 + 9),
+    (128, TOP_BYTES + 16 * 5 + 112 * 9 + 21),
+];
 
 #[test]
 fn parts_of_closes(rt: HostRuntime) -> Result<(), Fail> {
-    holds(are_parts(rt.alloc()))
+    for (parts, bytes) in &PARTS {
+        let below = with_parts(rt.alloc(), *parts)?;
+        holds(takes(rt.alloc(), below.as_slice(), *bytes))?;
+    }
+    Ok(())
 }
