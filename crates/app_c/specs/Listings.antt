@@ -24,9 +24,14 @@ pub record Asked : Type 0 where
   pub limit : ℕ
   pub max_tokens : ℕ
 
+-- these options
+abbrev pub asked_for : (root only : List ℕ) → (everywhere limit max_tokens : ℕ) → Asked
+asked_for root only everywhere limit max_tokens =
+    record { root = root; only = only; everywhere = everywhere; limit = limit; max_tokens = max_tokens }
+
 -- what the value of the code means
 abbrev pub asked_of : asked_in_code.Asked → Asked
-asked_of it = record { root = it.root.now; only = it.only.now; everywhere = it.everywhere; limit = it.limit; max_tokens = it.max_tokens }
+asked_of it = asked_for it.root.now it.only.now it.everywhere it.limit it.max_tokens
 
 -- an empty name means all macros
 abbrev pub only_of : (name : List ℕ) → Option (List ℕ)

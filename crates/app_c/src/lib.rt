@@ -9,7 +9,7 @@ ghost use Rattle.app_c.specs.Answers.{Answers, AnswersBoth};
 ghost use Rattle.app_c.specs.Bytes.{IsChecked};
 ghost use Rattle.app_c.specs.ExpandedTexts.{IsExpandedText, IsNotExpanded};
 ghost use Rattle.app_c.specs.Expanding.{AreBytesOfExpansion, HasNoBytesOf};
-ghost use Rattle.app_c.specs.Listings.{Asked, IsListed, IsNotListed};
+ghost use Rattle.app_c.specs.Listings.{asked_for, IsListed, IsNotListed};
 ghost use Rattle.app_c.specs.Texts.{AreBytesOfText, HasNone, HaveNoText, IsTextOfBytes};
 
 mod answer;
@@ -98,7 +98,7 @@ pub extern "C" fn tt_expand_text_with(
     found: &mut usize,
     at: &mut usize,
 ) -> u32
-    ensures { let asked : Asked = record { root = root.now; only = only.now; everywhere = everywhere; limit = limit; max_tokens = max_tokens } in
+    ensures { let asked = asked_for root.now only.now everywhere limit max_tokens in
         AnswersBoth (IsListed text.now asked) (IsNotListed text.now asked) out.old out.new findings.old findings.new written.new found.new at.new result }
 {
     let asked = Asked {

@@ -16,7 +16,7 @@ returns-in-Ok-clause-ok c =
 pub returns-in-Ok-clause-err : goal.returns-in-Ok-clause-err
 returns-in-Ok-clause-err c = if_err c.of.result (λ failure is. inr (Memory, tt, is)) c.of.ensures.err
 
-pub returns-in-Err-clause-err : goal.returns-in-Err-clause-err
-returns-in-Err-clause-err c =
+pub returns-clause-err : goal.returns-clause-err
+returns-clause-err c =
     not_read (asked_of c.args.asked) c.args.text.now c.in_ok-text.text.now c.in-Err.error c.expand_text_failure.result c.in_ok-text.ensures.ok.0
     c.in-Err.ensures.err c.expand_text_failure.ensures
