@@ -122,12 +122,16 @@ def judged(case):
     options = options_of(words)
     if options is None or (b"recursion_limit" in text and "limit" not in options):
         return None
-    made = cuvolemin.expand_with(text, **options)
+    lines = told_lines(told)
+    try:
+        made = cuvolemin.expand_with(text, **options)
+    except cuvolemin.Error as error:
+        return "" if place(text, error.at) in lines[1:2] else f"{name}: it is refused at byte {error.at}"
     if written is not None and made.text.encode() != written:
         return f"{name}: the text becomes {made.text}"
-    lines = [line for finding in made.findings for line in lines_of(text, finding, options)]
-    if lines != told_lines(told):
-        return f"{name}: the findings say {lines}"
+    found = [line for finding in made.findings for line in lines_of(text, finding, options)]
+    if found != lines:
+        return f"{name}: the findings say {found}"
     if not options and first_of(made) != alone(text):
         return f"{name}: without options the first fault is {alone(text)}"
     return ""
