@@ -6,7 +6,7 @@
 #include <stdio.h>
 #include <string.h>
 
-enum { ROOM = 4096, GUARD = 16, UNTOUCHED = 0xa5, THREADS = 8, ROUNDS = 400 };
+enum { ROOM = 4096, WORD_ROOM = 64, GUARD = 16, UNTOUCHED = 0xa5, THREADS = 8, ROUNDS = 400 };
 
 typedef uint32_t makes(const uint8_t *, size_t, uint8_t *, size_t, size_t *, size_t *);
 
@@ -86,6 +86,133 @@ static const char SOURCE[] = "macro_rules! twice { ($x:tt) => { [$x $x] } }\nlet
 static const char EXPANDED[] = "macro_rules! twice { ($x:tt) => { [$x $x] } }\nlet  a = [b b]; // stays\n";
 static const char WRITTEN[] = "fn first (a : u8) -> u8 {a}";
 
+static const char FAULTY[] =
+    "macro_rules! m { ($x:ident) => { n!($x) } }\n"
+    "macro_rules! n { (a) => { 1 } }\n"
+    "f(m!(a), m!(b));\n"
+    "macro_rules! bad { () => {}; ($y) => {} }\n";
+// What is made of it, and the names of two findings and of a caller.
+static const char LISTED[] =
+    "macro_rules! m { ($x:ident) => { n!($x) } }\n"
+    "macro_rules! n { (a) => { 1 } }\n"
+    "f(1, n ! (b));\n"
+    "macro_rules! bad { () => {}; ($y) => {} }\n\0n\0bad\0m";
+static const size_t WORDS[] = {
+    133, 2, CUVOLEMIN_NO_MATCH, 88, 57, 0, 0, 134, CUVOLEMIN_BEGINS_NOTHING, 123, SIZE_MAX, SIZE_MAX, 1, 136, 85, SIZE_MAX, 140,
+};
+enum { WORD_COUNT = sizeof WORDS / sizeof *WORDS };
+
+struct listed {
+    struct made made;
+    size_t found;
+    size_t words[WORD_ROOM + GUARD];
+};
+
+struct options {
+    const char *root, *only;
+    uint32_t everywhere;
+    size_t limit, max_tokens;
+};
+
+static const struct options USUAL = {"crate", "", 0, 128, 4000000};
+
+// What a text expands to with options, in outputs of these sizes.
+static struct listed list(const void *text, size_t len, struct options with, size_t room, size_t word_room) {
+    struct listed listed = {.made = {.written = 77, .at = 77}, .found = 77};
+    memset(listed.made.bytes, UNTOUCHED, sizeof listed.made.bytes);
+    memset(listed.words, UNTOUCHED, sizeof listed.words);
+    listed.made.answer =
+        tt_expand_text_with(text, len, (const uint8_t *)with.root, strlen(with.root), (const uint8_t *)with.only, strlen(with.only), with.everywhere,
+                            with.limit, with.max_tokens, listed.made.bytes, room, &listed.made.written, listed.words, word_room, &listed.found,
+                            &listed.made.at);
+    return listed;
+}
+
+static bool are_words_untouched(const struct listed *listed, size_t from) {
+    for (size_t i = from; i < WORD_ROOM + GUARD; i++) {
+        if (listed->words[i] != SIZE_MAX / UINT8_MAX * UNTOUCHED) {
+            return false;
+        }
+    }
+    return true;
+}
+
+// Whether the text above is listed in outputs of these sizes, or neither is written if one of them is too short.
+static bool is_listed_in(size_t room, size_t word_room) {
+    struct listed listed = list(FAULTY, strlen(FAULTY), USUAL, room, word_room);
+    bool fits = room >= sizeof LISTED && word_room >= WORD_COUNT;
+    return listed.made.answer == (fits ? CUVOLEMIN_OK : CUVOLEMIN_NO_ROOM) && listed.made.at == 0 && listed.made.written == sizeof LISTED &&
+           listed.found == WORD_COUNT && (!fits || memcmp(listed.made.bytes, LISTED, sizeof LISTED) == 0) &&
+           (!fits || memcmp(listed.words, WORDS, sizeof WORDS) == 0) && is_untouched(&listed.made, fits ? sizeof LISTED : 0) &&
+           are_words_untouched(&listed, fits ? WORD_COUNT : 0);
+}
+
+static bool lists_in_each_size(void) {
+    for (size_t room = 0; room <= sizeof LISTED + GUARD; room++) {
+        if (!is_listed_in(room, WORD_ROOM)) {
+            return false;
+        }
+    }
+    for (size_t room = 0; room <= WORD_COUNT + GUARD; room++) {
+        if (!is_listed_in(ROOM, room) || !is_listed_in(sizeof LISTED - 1, room)) {
+            return false;
+        }
+    }
+    return true;
+}
+
+// The same words, by the structs of the header.
+static bool has_findings(void) {
+    struct listed listed = list(FAULTY, strlen(FAULTY), USUAL, ROOM, WORD_ROOM);
+    const struct cuvolemin_finding *findings = (const struct cuvolemin_finding *)(listed.words + 2);
+    const struct cuvolemin_caller *callers = (const struct cuvolemin_caller *)(findings + listed.words[1]);
+    const char *names = (const char *)listed.made.bytes;
+    return listed.words[1] == 2 && findings[0].fault == CUVOLEMIN_NO_MATCH && strcmp(names + findings[0].name, "n") == 0 &&
+           callers[findings[0].caller].at == 85 && strcmp(names + callers[findings[0].caller].name, "m") == 0 &&
+           callers[findings[0].caller].caller == SIZE_MAX && findings[1].detail == 1 && strcmp(names + findings[1].name, "bad") == 0;
+}
+
+// Whether a text becomes another one with options, with this first fault, or with none if that is 0.
+static bool becomes(const char *text, struct options with, const char *wanted, size_t fault) {
+    struct listed listed = list(text, strlen(text), with, ROOM, WORD_ROOM);
+    size_t len = strlen(wanted);
+    return listed.made.answer == CUVOLEMIN_OK && listed.words[0] == len && memcmp(listed.made.bytes, wanted, len + 1) == 0 &&
+           (fault ? listed.words[1] == 1 && listed.words[2] == fault : listed.found == 2 && listed.made.written == len + 1);
+}
+
+static bool heeds_options(void) {
+    struct options root = USUAL, only = USUAL, everywhere = USUAL, limit = USUAL, max_tokens = USUAL;
+    root.root = "std";
+    only.only = "b";
+    everywhere.everywhere = 2;
+    limit.limit = 1;
+    max_tokens.max_tokens = 2;
+    return becomes("macro_rules! p { () => { $crate::q } } f(p!());", root, "macro_rules! p { () => { $crate::q } } f(std :: q);", 0) &&
+           becomes("macro_rules! a { () => { 1 } } macro_rules! b { () => { 2 } } f(a!(), b!());", only,
+                   "macro_rules! a { () => { 1 } } macro_rules! b { () => { 2 } } f(a!(), 2);", 0) &&
+           becomes("macro_rules! a { () => { 1 } } v![a!()];", USUAL, "macro_rules! a { () => { 1 } } v![a!()];", 0) &&
+           becomes("macro_rules! a { () => { 1 } } v![a!()];", everywhere, "macro_rules! a { () => { 1 } } v![1];", 0) &&
+           becomes("macro_rules! m { () => { m!() } } f(m!());", limit, "macro_rules! m { () => { m!() } } f(m ! ());", CUVOLEMIN_TOO_DEEP) &&
+           becomes("macro_rules! m { () => { 1 2 3 } } f(m!());", max_tokens, "macro_rules! m { () => { 1 2 3 } } f(m!());",
+                   CUVOLEMIN_OVER_MAX_TOKENS);
+}
+
+// Whether a fault is told with its place, and nothing is written.
+static bool is_not_listed(const char *text, struct options with, uint32_t fault, size_t at) {
+    struct listed listed = list(text, strlen(text), with, ROOM, WORD_ROOM);
+    return listed.made.answer == fault && listed.made.at == at && listed.made.written == 0 && listed.found == 0 &&
+           is_untouched(&listed.made, 0) && are_words_untouched(&listed, 0);
+}
+
+static bool refuses(void) {
+    struct options root = USUAL, only = USUAL;
+    root.root = "ab\xff";
+    only.only = "a\xff";
+    struct options both = {root.root, only.only, 0, 128, 4000000};
+    return is_not_listed("a ) b", USUAL, CUVOLEMIN_UNOPENED, 2) && is_not_listed("\xff", both, CUVOLEMIN_NOT_UTF8, 0) &&
+           is_not_listed("a", both, CUVOLEMIN_NOT_UTF8, 2) && is_not_listed("a", only, CUVOLEMIN_NOT_UTF8, 1);
+}
+
 // Reads, writes and expands again and again, with outputs of its own, and notes whether all was right.
 static void *work(void *right) {
     struct made tree = tree_of(TEXT);
@@ -93,7 +220,7 @@ static void *work(void *right) {
         struct made again = tree_of(TEXT);
         if (again.written != tree.written || memcmp(again.bytes, tree.bytes, tree.written) != 0 ||
             !makes_text(tt_bytes_to_text, tree.bytes, tree.written, WRITTEN) ||
-            !makes_text(tt_expand_text, SOURCE, strlen(SOURCE), EXPANDED) ||
+            !makes_text(tt_expand_text, SOURCE, strlen(SOURCE), EXPANDED) || !is_listed_in(ROOM, WORD_ROOM) ||
             !expands("($a:ident + $b:ident) => { $b - $a }", "p + q", "q - p")) {
             return NULL;
         }
@@ -133,6 +260,10 @@ int main(void) {
     tell(makes_text(tt_expand_text, SOURCE, strlen(SOURCE), EXPANDED), "C: a text is expanded");
     tell(fits_each_size(tt_expand_text, SOURCE, strlen(SOURCE)), "C: outputs of each size for an expanded text");
     tell(is_fault(tt_expand_text, "a ) b", 5, CUVOLEMIN_UNOPENED, 2), "C: a text with a fault is not expanded");
+    tell(lists_in_each_size(), "C: outputs of each size for a text and its findings");
+    tell(has_findings(), "C: findings have names and callers");
+    tell(heeds_options(), "C: options of an expansion");
+    tell(refuses(), "C: a text or an option with a fault has no findings");
     tell(works_in_threads(), "C: several threads at once");
     return 0;
 }

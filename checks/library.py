@@ -297,13 +297,25 @@ def try_no_text(_room):
     """What is neither a str nor bytes is refused."""
     import cuvolemin
 
-    for call in (cuvolemin.parse, cuvolemin.expand):
+    for call in (cuvolemin.parse, cuvolemin.expand, cuvolemin.expand_with):
         for value in (5, None, [1]):
             try:
                 call(value)
             except TypeError:
                 continue
             raise Wrong(f"{call.__name__}({value}) is not refused")
+
+
+def try_cases(_room):
+    """The cases of the program."""
+    import library_cases
+
+    text = (ROOT / "examples" / "rust" / "small.cases").read_text(encoding="utf-8")
+    judged = [library_cases.judged(case) for case in text.rstrip("\n").split("\n\n")]
+    if others := [why for why in judged if why]:
+        raise Wrong("; ".join(others))
+    if judged.count("") < 100:
+        raise Wrong("the cases have other options than the library")
 
 
 def try_valgrind(room):
@@ -344,6 +356,7 @@ TRIED = {
     "README's example in Rust": try_readme_rust,
     "README's example in Python": try_readme_python,
     "Python: what is no text": try_no_text,
+    "Python: the cases of the program": try_cases,
     "tables of faults": try_tables,
     "Python: bytes that are cut": try_cut_bytes,
     "Python: bytes that are changed": try_changed_bytes,

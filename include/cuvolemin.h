@@ -8,7 +8,7 @@
  *
  * Those with an output write into out, which has room for out_len bytes, and set *written to the number of bytes that they make.
  * If these are more than out_len, they write nothing and return CUVOLEMIN_NO_ROOM: call again with that much room. With any other
- * fault they write nothing and set *written to 0. out, written and at overlap with nothing else that the caller passes.
+ * fault they write nothing and set *written to 0. What they write overlaps with nothing else that the caller passes.
  */
 #ifndef CUVOLEMIN_H
 #define CUVOLEMIN_H
@@ -35,6 +35,46 @@ uint32_t tt_bytes_to_text(const uint8_t *bytes, size_t bytes_len, uint8_t *out, 
  * Faults: 1 to 44; 81 to 92 but for 84, of definitions; 100 to 108, of calls; and 5 to 9 of either. *at is a byte of the text; 0 for faults
  * 1, 2 and 4, and for 5 to 9 if the text itself exceeds the limit. */
 uint32_t tt_expand_text(const uint8_t *text, size_t text_len, uint8_t *out, size_t out_len, size_t *written, size_t *at);
+
+/* The same with options, and with all findings: a definition or a call with a fault stays, and the function still returns CUVOLEMIN_OK.
+ *   root        the word that $crate becomes, such as crate
+ *   only        the name, without r#, of the only macros that are read and expanded; all are if only_len is 0
+ *   everywhere  not 0: calls in the brackets of calls that stay are expanded too
+ *   limit       how many expansions may be nested; each takes stack (128 are usual)
+ *   max_tokens  how many tokens a call with all that comes of it may write (4,000,000 are usual)
+ * out gets the text and then the names that the words speak of, each of them with a 0 behind it. findings has room for findings_len words
+ * and gets: the number of bytes of the text; the number of findings; the words of each finding, in order; and those of each caller, up to
+ * the end. *found is the number of words. If one of the outputs is too short, nothing is written into either.
+ * Faults: 1; 2; 3 of the text, of root or of only, in this order; 4 to 44. *at is a byte of that; 0 for faults 1, 2 and 4 to 9. */
+uint32_t tt_expand_text_with(const uint8_t *text, size_t text_len, const uint8_t *root, size_t root_len, const uint8_t *only, size_t only_len,
+                             uint32_t everywhere, size_t limit, size_t max_tokens, uint8_t *out, size_t out_len, size_t *written,
+                             size_t *findings, size_t findings_len, size_t *found, size_t *at);
+
+/* The words of a finding, which may be read as this struct. A number that is missing is SIZE_MAX. */
+struct cuvolemin_finding {
+    /* Its number in the table below. Those of warnings are 84 and 93 to 97. */
+    size_t fault;
+    /* The byte of the text at which it shows. */
+    size_t at;
+    /* The byte at which the macro's name begins in its definition, if this is about a call. */
+    size_t defined_at;
+    /* The index of the caller that wrote the definition or the call, if it is not in the text itself. */
+    size_t caller;
+    /* The byte at which the macro binds the name, for CUVOLEMIN_CAPTURED; else the number of the arm, from 0, if the fault is in one; else 0. */
+    size_t detail;
+    /* The byte of out at which the name of the macro begins. */
+    size_t name;
+};
+
+/* The words of a caller: a call whose expansion has a finding. */
+struct cuvolemin_caller {
+    /* The byte of the text at which the call begins. */
+    size_t at;
+    /* The index of the caller that wrote it, which is a lower one, if it is not in the text itself. */
+    size_t caller;
+    /* The byte of out at which the name of its macro begins. */
+    size_t name;
+};
 
 /* The bytes of what a macro makes of an input. Its arms, `(pattern) => {template}` with `;` between them, and the input are trees in bytes.
  * Faults: 1, 2, 5 to 9; 60 to 64, with a byte of the arms in *at; 70 to 74, with a byte of the input; 81 to 92 and 101 to 103, with the
@@ -148,7 +188,7 @@ enum cuvolemin_answer {
     CUVOLEMIN_BEGINS_NOTHING = 82,
     /* A variable names a fragment that does not exist. */
     CUVOLEMIN_UNKNOWN_FRAGMENT = 83,
-    /* A call is left as it is. That is no fault, so no function returns it. */
+    /* A warning: the definition of a call's macro has a fault, so the call stays. */
     CUVOLEMIN_LEFT = 84,
     /* Two variables have the same name. */
     CUVOLEMIN_NAME_TWICE = 85,
@@ -166,6 +206,16 @@ enum cuvolemin_answer {
     CUVOLEMIN_NOTHING_REPEATS = 91,
     /* Neither the end nor `;` follows a template. */
     CUVOLEMIN_NO_SEMICOLON = 92,
+    /* A warning: a call of a macro that is built into the compiler stays. */
+    CUVOLEMIN_BUILT_IN = 93,
+    /* A warning: which definition of a call's macro holds depends on `#[cfg(..)]`, so the call stays. */
+    CUVOLEMIN_SEVERAL_DEFINITIONS = 94,
+    /* A warning: no macro of the name after `crate::` has `#[macro_export]`, so the call stays. */
+    CUVOLEMIN_NOT_EXPORTED = 95,
+    /* A warning: an expansion binds a name of its input, and does not keep the two apart. */
+    CUVOLEMIN_CAPTURED = 96,
+    /* A warning: the attributes of a call cannot apply to its expansion, so the call stays. */
+    CUVOLEMIN_CONDITIONAL = 97,
     /* No arm matches the input. */
     CUVOLEMIN_NO_MATCH = 100,
     /* An arm matches the input in two ways. */

@@ -2,6 +2,7 @@
 
 The library is lib/out/libcuvolemin.so beside this folder, or the file that the variable CUVOLEMIN_LIBRARY names."""
 
+import collections
 import ctypes
 import functools
 import os
@@ -59,7 +60,7 @@ FAULTS = {
     81: ('NoPattern', 'No pattern comes where an arm should begin.'),
     82: ('BeginsNothing', 'A `$` of a pattern begins nothing.'),
     83: ('UnknownFragment', 'A variable names a fragment that does not exist.'),
-    84: ('Left', 'A call is left as it is. That is no fault, so no function returns it.'),
+    84: ('Left', "A warning: the definition of a call's macro has a fault, so the call stays."),
     85: ('NameTwice', 'Two variables have the same name.'),
     86: ('NeedlessSeparator', 'A repetition has a separator but never two rounds.'),
     87: ('EmptyRepetition', 'The body of a repetition may match zero trees.'),
@@ -68,6 +69,11 @@ FAULTS = {
     90: ('StillRepeats', 'A variable is used in fewer repetitions than it is declared in.'),
     91: ('NothingRepeats', 'Nothing repeats in a repetition of a template.'),
     92: ('NoSemicolon', 'Neither the end nor `;` follows a template.'),
+    93: ('BuiltIn', 'A warning: a call of a macro that is built into the compiler stays.'),
+    94: ('SeveralDefinitions', "A warning: which definition of a call's macro holds depends on `#[cfg(..)]`, so the call stays."),
+    95: ('NotExported', 'A warning: no macro of the name after `crate::` has `#[macro_export]`, so the call stays.'),
+    96: ('Captured', 'A warning: an expansion binds a name of its input, and does not keep the two apart.'),
+    97: ('Conditional', 'A warning: the attributes of a call cannot apply to its expansion, so the call stays.'),
     100: ('NoMatch', 'No arm matches the input.'),
     101: ('Ambiguous', 'An arm matches the input in two ways.'),
     102: ('LengthsDiffer', 'Variables of a repetition have different numbers of rounds.'),
@@ -80,6 +86,10 @@ FAULTS = {
 }
 
 NO_ROOM = 2
+# Those that are found, but are no faults.
+WARNINGS = frozenset((84, 93, 94, 95, 96, 97))
+# The word for a missing number.
+MISSING = ctypes.c_size_t(-1).value
 
 
 class Error(ValueError):
@@ -102,6 +112,7 @@ def _library():
         "tt_text_to_bytes": slice_in + makes,
         "tt_bytes_to_text": slice_in + makes,
         "tt_expand_text": slice_in + makes,
+        "tt_expand_text_with": slice_in * 3 + [ctypes.c_uint32] + [ctypes.c_size_t] * 2 + makes[:3] + makes,
         "tt_expand_bytes": slice_in + slice_in + makes,
         "tt_check_bytes": slice_in + [number_out],
     }.items():
@@ -190,3 +201,85 @@ def expand(text):
     """The Rust text with the calls of its own macros expanded."""
     data = _bytes_of(text)
     return _made(_LIBRARY.tt_expand_text, 64 + 2 * len(data), data).decode()
+
+
+# A call that wrote what has a finding: the name of its macro, and the byte of the text at which it begins.
+Call = collections.namedtuple("Call", "macro_name at")
+
+# An expanded text, and what is found in its macros and calls, in order.
+Expansion = collections.namedtuple("Expansion", "text findings")
+
+
+class Finding(collections.namedtuple("Finding", "number macro_name at defined_at detail trail")):
+    """A fault of a macro or of a call, or the reason why a call stays, with the number of the fault and the byte of the text at which it shows.
+
+    defined_at is the byte at which the macro's name begins in its definition, if this is about a call, else None. detail is the byte at which
+    the macro binds a captured name; else the number of the arm, from 0, if the fault is in one; else 0. trail has the calls that wrote the
+    definition or the call, the outermost first."""
+
+    __slots__ = ()
+
+    @property
+    def name(self):
+        """The name of the fault."""
+        return FAULTS[self.number][0]
+
+    @property
+    def message(self):
+        """What it means, in a sentence."""
+        return FAULTS[self.number][1]
+
+    @property
+    def is_warning(self):
+        """Whether it is a warning."""
+        return self.number in WARNINGS
+
+
+def _expansion(data, words):
+    """The expansion that the library wrote as these bytes and words (include/cuvolemin.h)."""
+    length, count = words[:2]
+    callers = 2 + 6 * count
+
+    def number(word):
+        return None if word == MISSING else word
+
+    def name_at(at):
+        return data[at : data.index(0, at)].decode()
+
+    def trail(index):
+        calls = []
+        while index != MISSING:
+            at, outer, name = words[callers + 3 * index :][:3]
+            calls.append(Call(name_at(name), at))
+            index = outer
+        return calls[::-1]
+
+    findings = []
+    for place in range(2, callers, 6):
+        fault, at, defined_at, caller, detail, name = words[place : place + 6]
+        findings.append(Finding(fault, name_at(name), at, number(defined_at), detail, trail(caller)))
+    return Expansion(data[:length].decode(), findings)
+
+
+def expand_with(text, *, root="crate", only=None, everywhere=False, limit=128, max_tokens=4_000_000):
+    """The Rust text with the calls of its macros expanded, and all that is found. A definition or a call with a fault stays.
+
+    root is the word that $crate becomes. only is the name, without r#, of the only macros that are read and expanded. With everywhere, calls in
+    the brackets of calls that stay are expanded too. At most limit expansions may be nested: the stack that a call needs is linear in it. A call
+    with all that comes of it may write at most max_tokens tokens."""
+    data, root, only = _bytes_of(text), _bytes_of(root), _bytes_of(only or "")
+    for size in (limit, max_tokens):
+        if not 0 <= size <= MISSING:
+            raise ValueError(f"{size} is no limit")
+    room, words_room = 64 + 2 * len(data), 64
+    while True:
+        out, words = ctypes.create_string_buffer(room), (ctypes.c_size_t * words_room)()
+        written, found, at = ctypes.c_size_t(), ctypes.c_size_t(), ctypes.c_size_t()
+        number = _LIBRARY.tt_expand_text_with(
+            data, len(data), root, len(root), only, len(only), bool(everywhere), limit, max_tokens,
+            out, room, ctypes.byref(written), words, words_room, ctypes.byref(found), ctypes.byref(at))  # fmt: skip
+        if number == 0:
+            return _expansion(out.raw[: written.value], words[: found.value])
+        if number != NO_ROOM or (written.value <= room and found.value <= words_room):
+            raise Error(number, at.value)
+        room, words_room = max(room, written.value), max(words_room, found.value)

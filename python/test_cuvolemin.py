@@ -6,7 +6,7 @@ import unittest
 
 sys.path.insert(0, str(pathlib.Path(__file__).resolve().parent))
 
-from cuvolemin import Error, Tree, expand, parse
+from cuvolemin import Call, Error, Tree, expand, expand_with, parse
 
 PAIRS = "macro_rules! pairs { ($($x:ident),*) => { [$(($x, $x)),*] } }\n"
 
@@ -53,6 +53,64 @@ class Cuvolemin(unittest.TestCase):
         self.assertEqual(expand(text), PAIRS + "let  all = [(a , a) , (b , b)]; // stays\n")
         self.is_fault("NoMatch", len(PAIRS) + 10, expand, PAIRS + "pairs!(a, 1);")
         self.is_fault("NotUtf8", 1, expand, b"a\xff")
+
+    def test_a_text_is_expanded_beside_its_findings(self):
+        # m begins at byte 13, n at 57, the calls at 78 and 85, and the b of the second at 88
+        rules = "macro_rules! m { ($x:ident) => { n!($x) } }\nmacro_rules! n { (a) => { 1 } }\n"
+        made = expand_with(rules + "f(m!(a), m!(b));\n")
+        self.assertEqual(made.text, rules + "f(1, n ! (b));\n")
+        self.assertEqual(made.findings, [(100, "n", 88, 57, 0, [("m", 85)])])
+        finding = made.findings[0]
+        self.assertEqual((finding.name, finding.message), ("NoMatch", "No arm matches the input."))
+        self.assertEqual((finding.trail, finding.is_warning), ([Call("m", 85)], False))
+        self.assertEqual(expand_with(b""), ("", []))
+
+    def test_each_warning_has_a_number(self):
+        one = "macro_rules! m { () => { 1 } } "
+        for text, number, at, detail in (
+            ("macro_rules! m { () => {}; ($x) => {} } m!();", 84, 40, 0),
+            ("#[rustc_builtin_macro] macro_rules! m { () => {} } f(m!());", 93, 53, 0),
+            (one + "#[cfg(a)] macro_rules! m { () => { 2 } } f(m!());", 94, 74, 0),
+            (one + "f(crate::m!());", 95, 40, 0),
+            ("macro_rules! m { ($e:expr) => { { let x = 1; $e } } } fn f() { g(m!(x)) }", 96, 68, 38),
+            ("macro_rules! m { () => {} } #[cfg(a)] m!();", 97, 38, 0),
+        ):
+            made = expand_with(text)
+            finding = made.findings[-1]
+            self.assertEqual((finding.number, finding.at, finding.detail, finding.trail), (number, at, detail, []), text)
+            self.assertTrue(finding.is_warning)
+            self.assertEqual(made.text == text, number != 96)
+
+    def test_a_fault_has_the_number_of_its_arm(self):
+        self.assertEqual(expand_with("macro_rules! m { () => {}; ($x) => {} }").findings, [(82, "m", 28, None, 1, [])])
+        ambiguous = "macro_rules! m { (a) => {}; ($(b)? $(b)?) => {} } m!(b);"
+        self.assertEqual(expand_with(ambiguous).findings, [(101, "m", 50, 13, 1, [])])
+
+    def test_options_are_heeded(self):
+        two = "macro_rules! a { () => { $crate::x } } macro_rules! b { () => { a!() } } "
+        text = two + "f(a!(), b!()); v![a!()];"
+        self.assertEqual(expand_with(text, root="std").text, two + "f(std :: x, std :: x); v![a!()];")
+        self.assertEqual(expand_with(text, only="b").text, two + "f(a!(), a ! ()); v![a!()];")
+        self.assertEqual(expand_with(text, everywhere=True).text, two + "f(crate :: x, crate :: x); v![crate :: x];")
+        deep = expand_with(text, limit=1).findings
+        self.assertEqual([(it.name, it.at, it.trail) for it in deep], [("TooDeep", 64, [("b", 81)])])
+        long = expand_with(text, max_tokens=3).findings
+        self.assertEqual([(it.name, it.at) for it in long], [("OverMaxTokens", 75), ("OverMaxTokens", 64)])
+
+    def test_wrong_options_are_refused(self):
+        self.is_fault("Unopened", 2, expand_with, "a ) b")
+        for options in ({"root": b"a\xff"}, {"only": b"a\xff"}):
+            with self.assertRaises(Error) as told:
+                expand_with("a", **options)
+            self.assertEqual((told.exception.name, told.exception.at), ("NotUtf8", 1))
+        for options in ({"limit": -1}, {"max_tokens": 1 << 64}):
+            with self.assertRaises(ValueError):
+                expand_with("a", **options)
+
+    def test_many_findings_find_room(self):
+        text = "macro_rules! m { (a) => {} }\n" + "m!(b);\n" * 1000
+        made = expand_with(text)
+        self.assertEqual((made.text, [it.at for it in made.findings]), (text, [32 + 7 * count for count in range(1000)]))
 
 
 if __name__ == "__main__":

@@ -24,6 +24,12 @@ macro_rules! faults {
                     $(Fault::$name => $message,)*
                 }
             }
+
+            /// Whether it is a warning: something stays as it is, or may mean something else than before, and no function returns it.
+            pub fn is_warning(self) -> bool {
+                use Fault::*;
+                matches!(self, Left | BuiltIn | SeveralDefinitions | NotExported | Captured | Conditional)
+            }
         }
     };
 }
@@ -79,7 +85,7 @@ faults! {
     NoPattern = 81, "No pattern comes where an arm should begin.";
     BeginsNothing = 82, "A `$` of a pattern begins nothing.";
     UnknownFragment = 83, "A variable names a fragment that does not exist.";
-    Left = 84, "A call is left as it is. That is no fault, so no function returns it.";
+    Left = 84, "A warning: the definition of a call's macro has a fault, so the call stays.";
     NameTwice = 85, "Two variables have the same name.";
     NeedlessSeparator = 86, "A repetition has a separator but never two rounds.";
     EmptyRepetition = 87, "The body of a repetition may match zero trees.";
@@ -88,6 +94,11 @@ faults! {
     StillRepeats = 90, "A variable is used in fewer repetitions than it is declared in.";
     NothingRepeats = 91, "Nothing repeats in a repetition of a template.";
     NoSemicolon = 92, "Neither the end nor `;` follows a template.";
+    BuiltIn = 93, "A warning: a call of a macro that is built into the compiler stays.";
+    SeveralDefinitions = 94, "A warning: which definition of a call's macro holds depends on `#[cfg(..)]`, so the call stays.";
+    NotExported = 95, "A warning: no macro of the name after `crate::` has `#[macro_export]`, so the call stays.";
+    Captured = 96, "A warning: an expansion binds a name of its input, and does not keep the two apart.";
+    Conditional = 97, "A warning: the attributes of a call cannot apply to its expansion, so the call stays.";
     NoMatch = 100, "No arm matches the input.";
     Ambiguous = 101, "An arm matches the input in two ways.";
     LengthsDiffer = 102, "Variables of a repetition have different numbers of rounds.";

@@ -1,17 +1,19 @@
 //! Rust texts, token trees in bytes, and macros: safe functions over those of `include/cuvolemin.h`.
 
 mod error;
+mod expanding;
 mod fault;
 mod sys;
 mod tree;
 
 pub use error::Error;
+pub use expanding::{Call, ExpandOptions, Expansion, Finding, expand_with};
 pub use fault::Fault;
 pub use tree::{Tree, parse};
 
 /// The Rust text with the calls of its own macros expanded. All else stays byte for byte.
 ///
-/// An error has the byte of the text at which it shows.
+/// An error has the byte of the text at which it shows. `expand_with` has options, and reports all findings.
 pub fn expand(text: &str) -> Result<String, Error> {
     let made = made(64 + 2 * text.len(), |out, written, at| {
         // Safety: each pointer is that of a slice or of a number which lives as long as the call, and none overlap.

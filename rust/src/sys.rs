@@ -28,6 +28,25 @@ unsafe extern "C" {
         at: *mut usize,
     ) -> u32;
 
+    pub fn tt_expand_text_with(
+        text: *const u8,
+        text_len: usize,
+        root: *const u8,
+        root_len: usize,
+        only: *const u8,
+        only_len: usize,
+        everywhere: u32,
+        limit: usize,
+        max_tokens: usize,
+        out: *mut u8,
+        out_len: usize,
+        written: *mut usize,
+        findings: *mut usize,
+        findings_len: usize,
+        found: *mut usize,
+        at: *mut usize,
+    ) -> u32;
+
     pub fn tt_expand_bytes(
         arms: *const u8,
         arms_len: usize,

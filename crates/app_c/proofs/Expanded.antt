@@ -3,8 +3,9 @@ use Rattle.std.proofs.Common.{◌≡◌, ℕ, List, None, inr, refl, subst}
 use Rattle.std.specs.Prelude.{IsUtf8, string_bytes}
 use Rattle.app_c.specs.ExpandedTexts.{IsExpandedText, IsNotExpanded, IsUsual}
 use Rattle.app_c.specs.Failures.{expand_text_failure}
+use Rattle.app_c.specs.Listings.{Asked, AreAsked, IsListed, IsListingOf, IsNotListed}
 use Rattle.app_c.specs.declared.failure.Failure.{Failure}
-use Rattle.expand_text.specs.Expansion.{IsExpanded, IsExpandTextError, first_fault}
+use Rattle.expand_text.specs.Expansion.{IsExpanded, IsExpandTextError, IsLenientError, first_fault}
 use Rattle.expand_text.specs.declared.fault.ExpandTextError.{ExpandTextError}
 use Rattle.expand_text.specs.declared.options.ExpandOptions.{ExpandOptions}
 use Rattle.expand_text.specs.declared.text.Expanded.{Expanded}
@@ -20,3 +21,24 @@ pub not_expanded : (options : ExpandOptions) (source text : List ℕ) (error : E
     → IsExpandTextError options text error → failure ≡ expand_text_failure error → IsNotExpanded source failure
 not_expanded options source text error failure usual same is made =
     inr (options, usual, (error, subst (λ t. IsExpandTextError options t error) same is, made))
+
+-- A text is expanded with the options of a caller.
+pub is_listed : (asked : Asked) (options : ExpandOptions) (source text bytes words : List ℕ) (expanded : Expanded) → text ≡ source → IsUtf8 source
+    → IsUtf8 asked.root → IsUtf8 asked.only → AreAsked asked options → IsExpanded options text expanded → IsListingOf expanded bytes words
+    → IsListed source asked bytes words
+is_listed asked options source text bytes words expanded same source_utf8 root_utf8 only_utf8 are is listing =
+    record {
+      source_utf8 = source_utf8;
+      root_utf8 = root_utf8;
+      only_utf8 = only_utf8;
+      options = options;
+      are = are;
+      expanded = expanded;
+      is = subst (λ t. IsExpanded options t expanded) same is;
+      listing = listing;
+    }
+
+-- A text is not read as trees.
+pub not_read : (asked : Asked) (source text : List ℕ) (error : ExpandTextError) (failure : Failure) → text ≡ source → IsLenientError text error
+    → failure ≡ expand_text_failure error → IsNotListed source asked failure
+not_read asked source text error failure same is made = inr (error, subst (λ t. IsLenientError t error) same is, made)

@@ -1,4 +1,5 @@
 -- Lemmas of the library for other languages.
 pub mod Expanded
+pub mod Listed
 pub mod Results
 pub mod Written

@@ -160,11 +160,11 @@ expand_failure error = at_place (transcribe_fault error.fault) error.arm
 abbrev pub macro_fault : MacroFault → Fault
 macro_fault (found.Definition error) = arm_fault error.fault
 macro_fault found.Left = answer.Left
-macro_fault found.BuiltIn = answer.Left
-macro_fault found.SeveralDefinitions = answer.Left
-macro_fault found.NotExported = answer.Left
-macro_fault (found.Captured binding) = answer.Left
-macro_fault found.Conditional = answer.Left
+macro_fault found.BuiltIn = answer.BuiltIn
+macro_fault found.SeveralDefinitions = answer.SeveralDefinitions
+macro_fault found.NotExported = answer.NotExported
+macro_fault (found.Captured binding) = answer.Captured
+macro_fault found.Conditional = answer.Conditional
 macro_fault found.NoMatch = answer.NoMatch
 macro_fault (found.Ambiguous _) = answer.Ambiguous
 macro_fault (found.Expansion error) = transcribe_fault error.fault

@@ -5,4 +5,5 @@ pub mod ExpandedTexts
 pub mod Expanding
 pub mod Failures
 pub mod Faults
+pub mod Listings
 pub mod Texts

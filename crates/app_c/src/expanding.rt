@@ -1,12 +1,15 @@
 //! Expanded texts.
-ghost use Rattle.std.specs.Prelude.{◌≡◌, IfOk, IfErr, string_bytes};
+ghost use Rattle.std.specs.Prelude.{◌≡◌, IfOk, IfErr, option_map, string_bytes};
 ghost use Rattle.expand_items.specs.Cfg.{known_of, unknown};
 ghost use Rattle.app_c.specs.ExpandedTexts.{IsExpandedText, IsNotExpanded, IsUsual};
+ghost use Rattle.app_c.specs.Listings.{asked_of, only_of, AreAsked, IsListed, IsNotListed};
 
+use crate::asked::Asked;
 use crate::failure::{Failure, expand_text_failure};
+use crate::listing::Listing;
 use crate::text::text_in;
 use expand_items::CfgOptions;
-use expand_text::{ExpandOptions, USUAL_LIMIT, USUAL_MAX_TOKENS, expand_text};
+use expand_text::{ExpandOptions, USUAL_LIMIT, USUAL_MAX_TOKENS, expand_leniently, expand_text};
 use std::alloc::Global;
 
 // Returns the usual options, if no condition is known.
@@ -33,6 +36,50 @@ pub(crate) fn expanded_text(alloc: Global, text: &[u8]) -> Result<String, Failur
     let cfg = CfgOptions::new(alloc);
     match expand_text(alloc, text, usual(&cfg)) {
         Ok(expanded) => Ok(expanded.text),
+        Err(error) => Err(expand_text_failure(error)),
+    }
+}
+
+// Returns the name of the only macros that are expanded: an empty one means all macros.
+fn only_of(name: &str) -> Option<&str>
+    ensures { option_map (λ it. it.now) result ≡ only_of name.now }
+{
+    if name.is_empty() { None } else { Some(name) }
+}
+
+// Returns the options of a caller, whose words are these texts, if no condition is known.
+fn options_of<'a>(
+    cfg: &'a CfgOptions,
+    asked: Asked<'a>,
+    root: &'a str,
+    only: &'a str,
+) -> ExpandOptions<'a>
+    requires cfg { known_of cfg.now ≡ unknown }
+    requires root { root.now ≡ asked.root.now }
+    requires only { only.now ≡ asked.only.now }
+    ensures { AreAsked (asked_of asked.entry) result }
+{
+    ExpandOptions {
+        limit: asked.limit,
+        max_tokens: asked.max_tokens,
+        cfg,
+        root,
+        everywhere: asked.everywhere > 0,
+        only: only_of(only),
+    }
+}
+
+/// Returns the listing of a text that is expanded with the options of a caller, whatever is found.
+pub(crate) fn listed_text(alloc: Global, text: &[u8], asked: Asked<'_>) -> Result<Listing, Failure>
+    ensures ok { IfOk result (λ it. IsListed text.now (asked_of asked.entry) it.bytes.items it.words.items) }
+    ensures err { IfErr result (IsNotListed text.now (asked_of asked.entry)) }
+{
+    let text = text_in(text)?;
+    let root = text_in(asked.root)?;
+    let only = text_in(asked.only)?;
+    let cfg = CfgOptions::new(alloc);
+    match expand_leniently(alloc, text, options_of(&cfg, asked, root, only)) {
+        Ok(expanded) => Listing::of(alloc, &expanded),
         Err(error) => Err(expand_text_failure(error)),
     }
 }

@@ -6,6 +6,7 @@ use crate::fault::Fault;
 use expand_text::{ExpandTextError, MacroFault};
 use mbe_pattern::PatternError;
 use mbe_rules::{ArmFault, ExpandError, RulesError, TemplateError, TranscribeError};
+use std::alloc::AllocError;
 use syntax_parse::{BadToken, SyntaxFault, TextFault};
 use syntax_unparse::WriteFault;
 use tt::TtFault;
@@ -16,6 +17,16 @@ use tt_bytes::BytesFault;
 pub(crate) struct Failure {
     pub(crate) fault: Fault,
     pub(crate) at: usize,
+}
+
+impl From<AllocError> for Failure {
+    ghost use Rattle.app_c.specs.declared.fault.Fault.TheVariants.{Memory};
+
+    ghost from_gives = { λ _ failure. failure ≡ placeless Memory };
+
+    fn from(_error: AllocError) -> Failure {
+        placeless(Fault::Memory)
+    }
 }
 
 // Returns a fault without a place.
@@ -221,18 +232,18 @@ pub(crate) fn expand_failure(error: ExpandError) -> Failure
     }
 }
 
-// Returns the fault of a macro of a text, or of a call of one.
-fn macro_fault(fault: MacroFault) -> Fault
+/// Returns the fault of a macro of a text, or of a call of one.
+pub(crate) fn macro_fault(fault: MacroFault) -> Fault
     ensures { result ≡ macro_fault fault }
 {
     match fault {
         MacroFault::Definition(error) => arm_fault(error.fault),
-        MacroFault::Left
-        | MacroFault::BuiltIn
-        | MacroFault::SeveralDefinitions
-        | MacroFault::NotExported
-        | MacroFault::Captured(_)
-        | MacroFault::Conditional => Fault::Left,
+        MacroFault::Left => Fault::Left,
+        MacroFault::BuiltIn => Fault::BuiltIn,
+        MacroFault::SeveralDefinitions => Fault::SeveralDefinitions,
+        MacroFault::NotExported => Fault::NotExported,
+        MacroFault::Captured(_) => Fault::Captured,
+        MacroFault::Conditional => Fault::Conditional,
         MacroFault::NoMatch => Fault::NoMatch,
         MacroFault::Ambiguous(_) => Fault::Ambiguous,
         MacroFault::Expansion(error) => transcribe_fault(error.fault),

@@ -104,7 +104,7 @@ pub enum Fault {
     BeginsNothing = 82,
     /// A variable names a fragment that does not exist.
     UnknownFragment = 83,
-    /// A call is left as it is. That is no fault, so no export returns it.
+    /// A warning: the definition of a call's macro has a fault, so the call stays.
     Left = 84,
     /// Two variables have the same name.
     NameTwice = 85,
@@ -122,6 +122,16 @@ pub enum Fault {
     NothingRepeats = 91,
     /// Neither the end nor `;` follows a template.
     NoSemicolon = 92,
+    /// A warning: a call of a macro that is built into the compiler stays.
+    BuiltIn = 93,
+    /// A warning: which definition of a call's macro holds depends on `#[cfg(..)]`, so the call stays.
+    SeveralDefinitions = 94,
+    /// A warning: no macro of the name after `crate::` has `#[macro_export]`, so the call stays.
+    NotExported = 95,
+    /// A warning: an expansion binds a name of its input, and does not keep the two apart.
+    Captured = 96,
+    /// A warning: the attributes of a call cannot apply to its expansion, so the call stays.
+    Conditional = 97,
     /// No arm matches the input.
     NoMatch = 100,
     /// An arm matches the input in two ways.

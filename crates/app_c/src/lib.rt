@@ -5,23 +5,27 @@
 //! if there were room for them, and `at` to the place of the fault. It keeps nothing between calls.
 #![tactic(auto)]
 
-ghost use Rattle.app_c.specs.Answers.{Answers};
+ghost use Rattle.app_c.specs.Answers.{Answers, AnswersBoth};
 ghost use Rattle.app_c.specs.Bytes.{IsChecked};
 ghost use Rattle.app_c.specs.ExpandedTexts.{IsExpandedText, IsNotExpanded};
 ghost use Rattle.app_c.specs.Expanding.{AreBytesOfExpansion, HasNoBytesOf};
+ghost use Rattle.app_c.specs.Listings.{asked_for, IsListed, IsNotListed};
 ghost use Rattle.app_c.specs.Texts.{AreBytesOfText, HasNone, HaveNoText, IsTextOfBytes};
 
 mod answer;
+mod asked;
 mod bytes;
 mod expanding;
 mod failure;
 mod fault;
+mod listing;
 mod macros;
 mod text;
 
-use crate::answer::{give, tell};
+use crate::answer::{give, give_both, tell};
+use crate::asked::Asked;
 use crate::bytes::tree_of_bytes;
-use crate::expanding::expanded_text;
+use crate::expanding::{expanded_text, listed_text};
 use crate::macros::expanded_bytes;
 use crate::text::{bytes_of_text, text_of_bytes};
 use std::alloc::Global;
@@ -74,6 +78,42 @@ pub extern "C" fn tt_expand_text(
     match expanded_text(alloc, text) {
         Ok(text) => give(text.as_bytes(), out, written, at),
         Err(failure) => tell(failure, written, at),
+    }
+}
+
+/// Writes the text in which each call of a macro in scope is replaced by its expansion, with these options, whatever is found, and words about
+/// the findings.
+#[unsafe(no_mangle)]
+pub extern "C" fn tt_expand_text_with(
+    alloc: Global,
+    text: &[u8],
+    root: &[u8],
+    only: &[u8],
+    everywhere: u32,
+    limit: usize,
+    max_tokens: usize,
+    out: &mut [u8],
+    written: &mut usize,
+    findings: &mut [usize],
+    found: &mut usize,
+    at: &mut usize,
+) -> u32
+    ensures { let asked = asked_for root.now only.now everywhere limit max_tokens in
+        AnswersBoth (IsListed text.now asked) (IsNotListed text.now asked) out.old out.new findings.old findings.new written.new found.new at.new result }
+{
+    let asked = Asked {
+        root,
+        only,
+        everywhere,
+        limit,
+        max_tokens,
+    };
+    match listed_text(alloc, text, asked) {
+        Ok(made) => give_both(&made, out, written, findings, found, at),
+        Err(failure) => {
+            *found = 0;
+            tell(failure, written, at)
+        }
     }
 }
 

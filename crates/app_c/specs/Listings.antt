@@ -1,0 +1,135 @@
+-- What a caller gets of an expansion with options of its own: bytes, and words about the findings.
+use Rattle.std.specs.Prelude.{◌≡◌, ◌⊎◌, ◌+◌, ◌++◌, ℕ, List, [], ◌∷◌, Bool, Option, None, Some, IsUtf8, length, nat_lt, option_map, string_bytes}
+use Rattle.app_c.specs.Failures.{expand_text_failure, macro_fault}
+use Rattle.app_c.specs.Faults.{number_of}
+use Rattle.app_c.specs.Texts.{IsNoText}
+use Rattle.app_c.specs.declared.asked.Asked as asked_in_code
+use Rattle.app_c.specs.declared.failure.Failure.{Failure}
+use Rattle.expand_items.specs.Cfg.{known_of, unknown}
+use Rattle.expand_text.specs.Expansion.{IsExpanded, IsLenientError}
+use Rattle.expand_text.specs.declared.caller.Caller.{Caller}
+use Rattle.expand_text.specs.declared.fault.ExpandTextError.{ExpandTextError}
+use Rattle.expand_text.specs.declared.fault.Finding.{Finding}
+use Rattle.expand_text.specs.declared.fault.MacroFault.{MacroFault}
+use Rattle.expand_text.specs.declared.fault.MacroFault.TheVariants as found
+use Rattle.expand_text.specs.declared.options.ExpandOptions.{ExpandOptions}
+use Rattle.expand_text.specs.declared.text.Expanded.{Expanded}
+
+-- the options of a caller: the word for `$crate`, the name of the only macros (all, if it is empty), whether calls that stay are entered (not,
+-- if it is 0), and the limits of nested expansions and of tokens
+pub record Asked : Type 0 where
+  pub root : List ℕ
+  pub only : List ℕ
+  pub everywhere : ℕ
+  pub limit : ℕ
+  pub max_tokens : ℕ
+
+-- these options
+abbrev pub asked_for : (root only : List ℕ) → (everywhere limit max_tokens : ℕ) → Asked
+asked_for root only everywhere limit max_tokens =
+    record { root = root; only = only; everywhere = everywhere; limit = limit; max_tokens = max_tokens }
+
+-- what the value of the code means
+abbrev pub asked_of : asked_in_code.Asked → Asked
+asked_of it = asked_for it.root.now it.only.now it.everywhere it.limit it.max_tokens
+
+-- an empty name means all macros
+abbrev pub only_of : (name : List ℕ) → Option (List ℕ)
+only_of [] = None
+only_of (byte ∷ bytes) = Some (byte ∷ bytes)
+
+-- these are the options, and no condition is known
+pub record AreAsked (asked : Asked) (options : ExpandOptions) : Type 0 where
+  pub cfg : known_of options.cfg.now ≡ unknown
+  pub limit : options.limit ≡ asked.limit
+  pub max_tokens : options.max_tokens ≡ asked.max_tokens
+  pub root : options.root.now ≡ asked.root
+  pub everywhere : options.everywhere ≡ nat_lt 0 asked.everywhere
+  pub only : option_map (λ name. name.now) options.only ≡ only_of asked.only
+
+-- a number, or the largest word if there is none
+abbrev pub word_of : Option ℕ → ℕ
+word_of None = 18446744073709551615
+word_of (Some number) = number
+
+-- what else is said of a fault: the byte at which a captured name is bound, or the number of the arm
+abbrev pub detail_of : MacroFault → ℕ
+detail_of (found.Definition error) = error.arm
+detail_of (found.Captured binding) = binding
+detail_of (found.Ambiguous arm) = arm
+detail_of (found.Expansion error) = error.arm
+detail_of fault = 0
+
+-- a text with the 0 that ends it
+abbrev pub ended : (text : List ℕ) → List ℕ
+ended text = text ++ 0 ∷ []
+
+-- the words of a finding whose name begins at that byte
+abbrev pub finding_words : (name : ℕ) → Finding → List ℕ
+finding_words name it =
+    number_of (macro_fault it.fault) ∷ it.at ∷ word_of it.defined_at ∷ word_of it.caller ∷ detail_of it.fault ∷ name ∷ []
+
+-- the names of findings, one behind the other
+abbrev pub findings_bytes : List Finding → List ℕ
+findings_bytes [] = []
+findings_bytes (it ∷ its) = ended it.name ++ findings_bytes its
+
+-- the words of findings whose names begin at that byte
+abbrev pub findings_words : (names : ℕ) → List Finding → List ℕ
+findings_words names [] = []
+findings_words names (it ∷ its) = finding_words names it ++ findings_words (names + length (ended it.name)) its
+
+-- the words of a caller whose name begins at that byte
+abbrev pub caller_words : (name : ℕ) → Caller → List ℕ
+caller_words name it = it.at ∷ word_of it.caller ∷ name ∷ []
+
+-- the names of callers, one behind the other
+abbrev pub callers_bytes : List Caller → List ℕ
+callers_bytes [] = []
+callers_bytes (it ∷ its) = ended it.name ++ callers_bytes its
+
+-- the words of callers whose names begin at that byte
+abbrev pub callers_words : (names : ℕ) → List Caller → List ℕ
+callers_words names [] = []
+callers_words names (it ∷ its) = caller_words names it ++ callers_words (names + length (ended it.name)) its
+
+-- the bytes: the text, the names of the findings and those of the callers
+abbrev pub listed_bytes : (text : List ℕ) → List Finding → List Caller → List ℕ
+listed_bytes text findings callers = ended text ++ findings_bytes findings ++ callers_bytes callers
+
+-- the words: how long the text is, how many findings there are, then the findings and the callers
+abbrev pub listed_words : (text : List ℕ) → List Finding → List Caller → List ℕ
+listed_words text findings callers =
+    length text ∷ length findings ∷ findings_words (length (ended text)) findings
+    ++ callers_words (length (ended text ++ findings_bytes findings)) callers
+
+-- the bytes and the words of an expanded text
+pub record IsListingOf (it : Expanded) (bytes words : List ℕ) : Type 0 where
+  pub bytes_are : bytes ≡ listed_bytes (string_bytes it.text) it.findings.items it.callers.items
+  pub words_are : words ≡ listed_words (string_bytes it.text) it.findings.items it.callers.items
+
+-- a text expands to this with these options
+pub record IsListed (source : List ℕ) (asked : Asked) (bytes words : List ℕ) : Type 0 where
+  pub source_utf8 : IsUtf8 source
+  pub root_utf8 : IsUtf8 asked.root
+  pub only_utf8 : IsUtf8 asked.only
+  pub options : ExpandOptions
+  pub are : AreAsked asked options
+  pub expanded : Expanded
+  pub is : IsExpanded options source expanded
+  pub listing : IsListingOf expanded bytes words
+
+-- the first of the text, the word for `$crate` and the name that is not UTF-8, with its byte
+abbrev pub IsNotUtf8 : (source : List ℕ) → Asked → Failure → Type 0
+IsNotUtf8 source asked failure =
+    IsNoText source failure
+    ⊎ ((IsUtf8 source × IsNoText asked.root failure)
+    ⊎ (IsUtf8 source × IsUtf8 asked.root × IsNoText asked.only failure))
+
+-- a text cannot be read as trees, or memory runs out, with the reason
+abbrev pub IsNotRead : (source : List ℕ) → Failure → Type 0
+IsNotRead source failure = (error : ExpandTextError) × IsLenientError source error × (failure ≡ expand_text_failure error)
+
+-- why a text is not expanded
+abbrev pub IsNotListed : (source : List ℕ) → Asked → Failure → Type 0
+IsNotListed source asked failure = IsNotUtf8 source asked failure ⊎ IsNotRead source failure

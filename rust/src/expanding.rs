@@ -1,0 +1,164 @@
+//! Texts that are expanded with options, and what is found in them.
+
+use crate::{Error, Fault, checked, sys, text_of};
+
+/// The options of an expansion.
+#[derive(Debug, Clone, Copy, PartialEq, Eq, Hash)]
+pub struct ExpandOptions<'a> {
+    /// The word that `$crate` becomes.
+    pub root: &'a str,
+    /// The name, without `r#`, of the only macros that are read and expanded. `None` and an empty name mean all macros.
+    pub only: Option<&'a str>,
+    /// Whether calls in the brackets of calls that stay are expanded too.
+    pub everywhere: bool,
+    /// How many expansions may be nested. The stack that a call needs is linear in it: 512 KiB were enough for 128.
+    pub limit: usize,
+    /// How many tokens a call with all that comes of it may write.
+    pub max_tokens: usize,
+}
+
+impl Default for ExpandOptions<'_> {
+    /// All macros, at most 128 nested expansions, and 4,000,000 tokens for a call; `$crate` becomes `crate`.
+    fn default() -> Self {
+        ExpandOptions {
+            root: "crate",
+            only: None,
+            everywhere: false,
+            limit: 128,
+            max_tokens: 4_000_000,
+        }
+    }
+}
+
+/// An expanded text.
+#[derive(Debug, Clone, PartialEq, Eq, Hash)]
+pub struct Expansion {
+    /// The text. A definition or a call with a fault stays in it.
+    pub text: String,
+    /// What is found in its macros and calls, in order.
+    pub findings: Vec<Finding>,
+}
+
+/// A fault of a macro or of a call, or the reason why a call stays.
+#[derive(Debug, Clone, PartialEq, Eq, Hash)]
+pub struct Finding {
+    /// The name of the macro.
+    pub macro_name: String,
+    /// What is wrong.
+    pub fault: Fault,
+    /// The byte of the text at which it shows.
+    pub at: usize,
+    /// The byte at which the macro's name begins in its definition, if this is about a call.
+    pub defined_at: Option<usize>,
+    /// The byte at which the macro binds the name, for `Fault::Captured`; else the number of the arm, from 0, if the fault is in one; else 0.
+    pub detail: usize,
+    /// The calls that wrote the definition or the call, the outermost first. None if it is in the text itself.
+    pub trail: Vec<Call>,
+}
+
+/// A call that wrote what has a finding.
+#[derive(Debug, Clone, PartialEq, Eq, Hash)]
+pub struct Call {
+    /// The name of its macro.
+    pub macro_name: String,
+    /// The byte of the text at which it begins.
+    pub at: usize,
+}
+
+impl Finding {
+    /// Whether it is a warning.
+    pub fn is_warning(&self) -> bool {
+        self.fault.is_warning()
+    }
+}
+
+/// The Rust text with the calls of its macros expanded, and all that is found. All else stays byte for byte.
+///
+/// An error has the byte of the text at which it shows: the text has no tree, or memory ran out.
+pub fn expand_with(text: &str, options: &ExpandOptions<'_>) -> Result<Expansion, Error> {
+    let only = options.only.unwrap_or("");
+    let (mut out, mut words) = (vec![0; 64 + 2 * text.len()], vec![0; 64]);
+    loop {
+        let (mut written, mut found, mut at) = (0, 0, 0);
+        // Safety: each pointer is that of a slice or of a number which lives as long as the call, and none overlap.
+        let answer = unsafe {
+            sys::tt_expand_text_with(
+                text.as_ptr(),
+                text.len(),
+                options.root.as_ptr(),
+                options.root.len(),
+                only.as_ptr(),
+                only.len(),
+                options.everywhere.into(),
+                options.limit,
+                options.max_tokens,
+                out.as_mut_ptr(),
+                out.len(),
+                &mut written,
+                words.as_mut_ptr(),
+                words.len(),
+                &mut found,
+                &mut at,
+            )
+        };
+        let is_short = written > out.len() || found > words.len();
+        match checked(answer, at) {
+            Ok(()) => return Ok(Expansion::of(&out[..written], &words[..found])),
+            Err(error) if error.fault == Fault::NoRoom && is_short => {
+                out.resize(out.len().max(written), 0);
+                words.resize(words.len().max(found), 0);
+            }
+            Err(error) => return Err(error),
+        }
+    }
+}
+
+impl Expansion {
+    /// The expansion that the library wrote as these bytes and words (`include/cuvolemin.h`).
+    fn of(bytes: &[u8], words: &[usize]) -> Expansion {
+        let (len, count) = (words[0], words[1]);
+        let (findings, callers) = words[2..].split_at(6 * count);
+        let callers: Vec<_> = callers.chunks_exact(3).collect();
+        Expansion {
+            text: text_of(bytes[..len].to_vec()),
+            findings: findings
+                .chunks_exact(6)
+                .map(|words| Finding {
+                    macro_name: name_at(bytes, words[5]),
+                    fault: u32::try_from(words[0])
+                        .ok()
+                        .and_then(Fault::of_number)
+                        .expect("the library is the one of this crate"),
+                    at: words[1],
+                    defined_at: number(words[2]),
+                    detail: words[4],
+                    trail: trail(bytes, &callers, words[3]),
+                })
+                .collect(),
+        }
+    }
+}
+
+/// The number that a word is, if it is not missing.
+fn number(word: usize) -> Option<usize> {
+    (word != usize::MAX).then_some(word)
+}
+
+/// The name that begins at a byte, and that a 0 ends.
+fn name_at(bytes: &[u8], at: usize) -> String {
+    let name = bytes[at..].iter().copied().take_while(|byte| *byte != 0);
+    text_of(name.collect())
+}
+
+/// The caller of that index, the one that wrote it, and so on: the outermost first.
+fn trail(bytes: &[u8], callers: &[&[usize]], index: usize) -> Vec<Call> {
+    let caller = |index| number(index).map(|index| callers[index]);
+    let mut calls: Vec<_> = std::iter::successors(caller(index), |words| caller(words[1]))
+        .map(|words| Call {
+            macro_name: name_at(bytes, words[2]),
+            at: words[0],
+        })
+        .collect();
+    calls.reverse();
+    calls
+}
