@@ -1,5 +1,5 @@
 -- What the program writes of a text whose macros are expanded.
-use Rattle.std.specs.Prelude.{◌≡◌, ◌-◌, ℕ, zero, suc, List, [], ◌∷◌, ◌++◌, length, take, map, nat_lt, codes, decimal, string_bytes, Option, None, Some, MatchOption, if◌then◌else◌}
+use Rattle.std.specs.Prelude.{◌≡◌, ◌-◌, ℕ, zero, suc, List, [], ◌∷◌, ◌++◌, length, take, map, nat_lt, codes, decimal, string_bytes, None, Some, MatchOption, if◌then◌else◌}
 use Rattle.app_cli.specs.Counts.{counted, counts_of, level_of, message_of}
 use Rattle.app_cli.specs.Messages.{message}
 use Rattle.app_cli.specs.Notes.{ArePlaced, IsSpot, hidden_callers, notes_at}

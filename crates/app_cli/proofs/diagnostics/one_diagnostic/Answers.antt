@@ -1,10 +1,10 @@
-use Rattle.std.proofs.Common.{rules, ◌≡◌, ◌++◌, ◌∙◌, Some, map, ap₂, subst}
+use Rattle.std.proofs.Common.{rules, ◌≡◌, ◌++◌, ◌∙◌, Some, map, ap, ap₂, subst}
 use Rattle.std.proofs.lemmas.Result.{IfOk-weaker}
 use Rattle.std.specs.Prelude.{string_bytes}
 use Rattle.app_cli.proofs.diagnostics.one_diagnostic.Goals as goal
 use Rattle.app_cli.specs.Messages.{message}
-use Rattle.app_cli.specs.Notes.{ArePlaced, IsSpot, hidden_callers, notes_at}
-use Rattle.app_cli.specs.Reports.{IsDiagnosticOf, IsDiagnosticText, hidden_note, notes_on}
+use Rattle.app_cli.specs.Notes.{ArePlaced, IsSpot, note_of}
+use Rattle.app_cli.specs.Reports.{IsDiagnosticOf, IsDiagnosticText, hidden_note}
 use Rattle.syntax_diagnostic.specs.Diagnostic.{diagnostic_text}
 use Rattle.syntax_diagnostic.specs.declared.diagnostic.Diagnostic.{Diagnostic}
 
@@ -29,7 +29,8 @@ returns c =
       message = says;
       spot = there;
       notes = c.in_ok-add_hidden.ensures ∙ ap₂ (λ notes hidden. notes ++ hidden_note hidden) c.in_ok-notes.ensures c.in_ok-places.ensures.1;
-      placed = subst (λ notes. ArePlaced file text notes c.in_ok-placed.field-0.items) c.in_ok-places.ensures.0 c.in_ok-placed.ensures;
+      placed =
+          subst (λ notes. ArePlaced file text notes c.in_ok-placed.field-0.items) (ap (map note_of) c.deref.ensures.value ∙ c.in_ok-places.ensures.0) c.in_ok-placed.ensures;
     } in
     IfOk-weaker c.diagnostic_text.result (λ written. string_bytes written ≡ diagnostic_text c.args.style it)
     (λ written. IsDiagnosticText c.args.style file text options callers finding (string_bytes written))

@@ -1,4 +1,4 @@
-use Rattle.std.proofs.Common.{rules, ◌≡◌, ◌<◌, ◌++◌, ◌-◌, ◌∙◌, length, map, take, drop, ap, sym, arith, append_assoc}
+use Rattle.std.proofs.Common.{◌≡◌, ◌<◌, ◌++◌, ◌-◌, ◌∙◌, length, map, take, drop, ap, sym, arith, append_assoc}
 use Rattle.std.proofs.lemmas.List.{length-drop, map-append, take_all}
 use Rattle.app_cli.proofs.Trails.{shown_many}
 use Rattle.app_cli.proofs.note.add_shown.Goals as goal
