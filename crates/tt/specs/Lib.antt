@@ -38,6 +38,7 @@ pub use Rattle.tt_view.specs.NewIds
 pub use Rattle.tt_view.specs.Pieces
 pub use Rattle.tt_view.specs.SubtreeViews
 pub use Rattle.tt_view.specs.TreeFault
+pub use Rattle.tt_view.specs.TreeWalks
 pub use Rattle.tt_view.specs.Views
 pub mod BuilderFields
 pub mod HeldList

@@ -1,12 +1,12 @@
 //! Reads a stored tree, one token a call.
 ghost use Rattle.std.specs.Prelude.{◌≡◌, ◌≤◌, ◌⊎◌, ◌↔◌, length, drop, MatchOption, IfSome, Some, None, []};
-ghost use Rattle.tt_base.specs.Forest.{end, only};
-ghost use Rattle.tt_tables.specs.Meaning.{HasAhead, top_bytes};
+ghost use Rattle.tt_base.specs.Forest.{Forest, end, only};
+ghost use Rattle.tt_tables.specs.Meaning.{HasAhead, IsAhead, top_bytes};
 ghost use Rattle.tt_tables.specs.Stored.{bytes, packed as what_is_stored};
 ghost use Rattle.tt_base.specs.Moves.{first_token, after_token, after_tree};
 ghost use Rattle.tt_tables.proofs.StoredAlike.{HasAhead-prop};
 ghost use Rattle.tt_tables.specs.Tables.{tables_from};
-ghost use Rattle.tt_pack.specs.StoredIn.{bytes_in, tables_in};
+ghost use Rattle.tt_pack.specs.StoredIn.{bytes_for, bytes_in, tables_in, tables_stored};
 
 use crate::packed::Packed;
 use crate::token_reader::TokenReader;
@@ -63,6 +63,22 @@ impl<'a> Reader<'a> {
         Reader {
             tree: Some(packed),
             offset: TOP_BYTES,
+            steps: 0,
+        }
+    }
+
+    /// Returns a reader at an offset that a reader of this tree had, as `place` returned it.
+    pub fn at(packed: &'a Packed, offset: usize) -> Reader<'a>
+        requires { HasAhead (tables_stored packed.now) (bytes_for packed.now) offset }
+        ensures ahead { (trees : Forest) → IsAhead (tables_stored packed.now) (bytes_for packed.now) offset trees → ahead_of result ≡ trees }
+        ensures bytes { bytes_of result ≡ bytes_for packed.now }
+        ensures tables { tables_of result ≡ tables_stored packed.now }
+        ensures offset { offset_of result ≡ offset }
+        ensures steps { steps_of result ≡ 0 }
+    {
+        Reader {
+            tree: Some(packed),
+            offset,
             steps: 0,
         }
     }

@@ -3,6 +3,7 @@ pub mod Cuts
 pub mod Drained
 pub mod FlatPlaces
 pub mod Frames
+pub mod HeldPlaces
 pub mod LeafAt
 pub mod NewIds
 pub mod NewParts
@@ -11,3 +12,4 @@ pub mod Parts
 pub mod Reading
 pub mod Texts
 pub mod TreeFaults
+pub mod TreeWalks

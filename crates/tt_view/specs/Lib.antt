@@ -11,6 +11,7 @@ pub use Rattle.tt_tables.specs.Tables
 pub use Rattle.tt_tables.specs.Uses
 pub mod Cuts
 pub mod Frames
+pub mod HeldPlaces
 pub mod Innermost
 pub mod Iters
 pub mod Lookahead
@@ -20,4 +21,5 @@ pub mod SiblingText
 pub mod SpaceRules
 pub mod SubtreeViews
 pub mod TreeFault
+pub mod TreeWalks
 pub mod Views

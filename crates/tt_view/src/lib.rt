@@ -13,6 +13,7 @@ mod split;
 mod subtree_view;
 pub mod text;
 mod top_subtree;
+mod tree_walk;
 mod view;
 
 pub use cursor::Cursor;
@@ -22,4 +23,5 @@ pub use iter::{TtElement, TtIter, TtIterSavepoint};
 pub use split::Split;
 pub use subtree_view::SubtreeView;
 pub use top_subtree::TopSubtree;
+pub use tree_walk::TreeWalk;
 pub use view::TokenTreesView;

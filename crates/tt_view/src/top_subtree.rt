@@ -200,6 +200,13 @@ impl TopSubtree {
         TopSubtree { packed }
     }
 
+    // Returns the packed form.
+    pub(crate) fn packed(&self) -> &Packed
+        ensures { result.now ≡ self.now }
+    {
+        &self.packed
+    }
+
     /// Returns the same tree, stored again. Fails only if memory runs out.
     pub fn clone(&self, alloc: Global) -> Result<TopSubtree, TtFault>
         ensures ok { IfOk result (λ copy. copy ≡ self.now) }

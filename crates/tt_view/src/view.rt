@@ -7,6 +7,7 @@ ghost use Rattle.tt_pack.specs.ReaderOf.{ahead_of};
 ghost use Rattle.tt_base.specs.declared.leaf.Leaf.{Leaf};
 ghost use Rattle.tt_base.specs.declared.token_tree.TokenTree.TheVariants as token;
 ghost use Rattle.tt_view.specs.Cuts.{HoldsTrees, HoldsTrees-prop};
+ghost use Rattle.tt_view.specs.HeldPlaces.{IsHeld, trees_at};
 ghost use Rattle.tt_base.specs.Siblings.{children_of, is_end};
 ghost use Rattle.tt_base.specs.OneRoot.{one_root, stripped};
 ghost use Rattle.tt_base.specs.Token.{count_below, close_span};
@@ -18,6 +19,7 @@ use crate::flat::FlatTokens;
 use crate::iter::{TtElement, TtIter};
 use crate::split::Split;
 use crate::subtree_view::SubtreeView;
+use crate::top_subtree::TopSubtree;
 use std::alloc::Global;
 use tt_base::{Leaf, Span, TokenTree};
 use tt_pack::{Packed, Reader};
@@ -32,7 +34,7 @@ pub struct TokenTreesView<'a> {
 }
 
 // Returns the number of tokens below a token, by its header; 0 for a leaf.
-fn count_below(token: &TokenTree) -> usize
+pub(crate) fn count_below(token: &TokenTree) -> usize
     ensures { result ≡ count_below token.now }
 {
     match token {
@@ -64,6 +66,17 @@ impl<'a> TokenTreesView<'a> {
         TokenTreesView {
             reader: Reader::empty(),
             len: 0,
+        }
+    }
+
+    // Returns the trees of the first `len` tokens at an offset of a stored tree.
+    pub(crate) fn at(tree: &'a TopSubtree, offset: usize, len: usize) -> TokenTreesView<'a>
+        requires { IsHeld tree.now (record { offset = offset; len = len }) }
+        ensures { (held : IsHeld tree.now (record { offset = offset; len = len })) → trees_of result ≡ trees_at tree.now _ held }
+    {
+        TokenTreesView {
+            reader: Reader::at(tree.packed(), offset),
+            len,
         }
     }
 
