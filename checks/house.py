@@ -26,7 +26,7 @@ MADE = (
 
 # The crates whose public calls are made with memory refused, and the types of these calls.
 SWEPT_CRATES = ("tt_base", "tt_view", "tt", "tt_bytes", "syntax_parse", "syntax_unparse", "mbe_rule", "mbe_rules")
-SWEPT_TYPES = ("", "Cursor", "Ident", "Levels", "Literal", "MacroRules", "Rule", "Symbol", "TopSubtree", "TopSubtreeBuilder")
+SWEPT_TYPES = ("", "Cursor", "Ident", "Levels", "Literal", "MacroRules", "Rule", "Symbol", "TopSubtree", "TopSubtreeBuilder", "TreeWalk")
 
 # Public calls that may fail but have no row in checks/sweep.py, and why.
 NOT_SWEPT = {

@@ -32,8 +32,8 @@ TAKE_MEMORY = {
     "test_sweep_changes": {
         # of a tree
         "edits": ("set_token change_every_ast_id change_every_ast_id_joined transform_tt",),
-        # of a cursor
-        "walks": ("bump bump_or_end",),
+        # of a cursor, and of a walk that owns its tree
+        "walks": ("bump bump_or_end TreeWalk::enter",),
         # of a builder
         "builders": (
             "TopSubtreeBuilder::new open push close extend extend_by_names extend_with_tt extend_with_tt_alone restore_point",

@@ -14,6 +14,7 @@ mod macros;
 mod rewriting;
 mod siblings;
 mod tokens;
+mod tree_walk;
 mod walk;
 
 pub use arms::{ArmsFault, expand_macro};

@@ -1,22 +1,22 @@
-//! Calls of a cursor that enter subtrees.
+//! Calls of a cursor, and of a walk that owns its tree, that enter subtrees.
 use std::alloc::Global;
 use test_sweep::{Call, When, braces, header, judge, tree_of};
 use tt::buffer::Cursor;
-use tt::{TokenTree, TtFault};
+use tt::{TokenTree, TreeWalk, TtFault};
 
 // How deep the subtrees are nested.
 const DEPTH: u32 = 20;
 
 /// How that call of the group ended, made at each place on the way into nested subtrees.
 pub fn judged<R: Print>(rt: &R, alloc: Global, call: &str) -> Result<&'static str, TtFault> {
-    let both = match call {
-        "bump" => false,
-        "bump_or_end" => true,
-        _ => return Err(TtFault::NoSuchPlace),
-    };
     let list = nest(alloc)?;
     let tree = tree_of(alloc, nest(alloc)?)?;
-    Ok(walked(rt, both, &list, tree.as_token_trees().cursor(alloc)))
+    match call {
+        "bump" => Ok(walked(rt, false, &list, tree.as_token_trees().cursor(alloc))),
+        "bump_or_end" => Ok(walked(rt, true, &list, tree.as_token_trees().cursor(alloc))),
+        "TreeWalk::enter" => Ok(entered(rt, &list, TreeWalk::new(alloc, tree))),
+        _ => Err(TtFault::NoSuchPlace),
+    }
 }
 
 // The same of a cursor in front of that list.
@@ -26,6 +26,16 @@ fn walked<R: Print>(rt: &R, both: bool, list: &[TokenTree], cursor: Cursor<'_>) 
         list,
         cursor,
         passed: 0,
+    };
+    judge(rt, &mut call)
+}
+
+// The same of a walk through the trees below the first header of that list.
+fn entered<R: Print>(rt: &R, list: &[TokenTree], walk: TreeWalk) -> &'static str {
+    let mut call = Entering {
+        list,
+        walk,
+        passed: 1,
     };
     judge(rt, &mut call)
 }
@@ -87,5 +97,35 @@ impl Walking<'_> {
             return self.cursor.bump();
         }
         Ok(())
+    }
+}
+
+// A walk into all subtrees of a list, and how many headers are behind it.
+#[derive(Drop)]
+struct Entering<'a> {
+    list: &'a [TokenTree],
+    walk: TreeWalk,
+    passed: usize,
+}
+
+impl Call for Entering<'_> {
+    fn make(&mut self) -> Result<bool, TtFault> {
+        for _ in self.passed..self.list.len() {
+            let header = self.walk.enter()?;
+            if header.map(TokenTree::from).as_ref() != self.list.get(self.passed) {
+                return Ok(false);
+            }
+            self.passed = self.passed.saturating_add(1);
+        }
+        Ok(true)
+    }
+
+    fn is_left(&self, when: When) -> Result<bool, TtFault> {
+        let left = self.list.len().saturating_sub(self.passed);
+        let are_left = self.walk.rest().remaining().len() == left;
+        match when {
+            When::Refused => Ok(are_left),
+            When::Done => Ok(are_left && left == 0),
+        }
     }
 }

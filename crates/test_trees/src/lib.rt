@@ -16,4 +16,6 @@ mod texts;
 #[cfg(test)]
 mod tokens;
 #[cfg(test)]
+mod tree_walk;
+#[cfg(test)]
 mod views;
