@@ -4,11 +4,13 @@ mod error;
 mod expanding;
 mod fault;
 mod sys;
+mod token;
 mod tree;
 
 pub use error::Error;
 pub use expanding::{Call, ExpandOptions, Expansion, Finding, expand_with};
 pub use fault::Fault;
+pub use token::{Delimiter, LiteralKind, Spacing, Span, Token};
 pub use tree::{Tree, parse};
 
 /// The Rust text with the calls of its own macros expanded. All else stays byte for byte.

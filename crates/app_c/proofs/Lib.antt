@@ -2,4 +2,6 @@
 pub mod Expanded
 pub mod Listed
 pub mod Results
+pub mod Said
+pub mod Seen
 pub mod Written
