@@ -10,6 +10,7 @@ ghost use Rattle.app_c.specs.Bytes.{IsChecked};
 ghost use Rattle.app_c.specs.ExpandedTexts.{IsExpandedText, IsNotExpanded};
 ghost use Rattle.app_c.specs.Expanding.{AreBytesOfExpansion, HasNoBytesOf};
 ghost use Rattle.app_c.specs.Listings.{IsListed, IsNotListed};
+ghost use Rattle.app_c.specs.declared.asked.Asked.{Asked};
 ghost use Rattle.app_c.specs.Texts.{AreBytesOfText, HasNone, HaveNoText, IsTextOfBytes};
 ghost use Rattle.app_c.specs.Tokens.{AreTokensIn, HaveNoTokens};
 
@@ -125,7 +126,7 @@ pub extern "C" fn tt_expand_text_with(
     found: &mut usize,
     at: &mut usize,
 ) -> u32
-    ensures { let asked = record { root = root.entry; only = only.entry; cfg = cfg.entry; everywhere = everywhere; limit = limit; max_tokens = max_tokens } in
+    ensures { let asked : Asked = record { root = root.entry; only = only.entry; cfg = cfg.entry; everywhere = everywhere; limit = limit; max_tokens = max_tokens } in
         AnswersBoth (IsListed text.now asked) (IsNotListed text.now asked) out.old out.new findings.old findings.new written.new found.new at.new result }
 {
     let asked = Asked {
