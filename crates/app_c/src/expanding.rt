@@ -11,7 +11,7 @@ use crate::failure::{Failure, expand_text_failure};
 use crate::listing::Listing;
 use crate::text::text_in;
 use expand_items::CfgOptions;
-use expand_text::{ExpandOptions, USUAL_LIMIT, USUAL_MAX_TOKENS, expand_leniently, expand_text};
+use expand_text::{ExpandOptions, expand_leniently, expand_text};
 use std::alloc::Global;
 
 // Returns the usual options, if no condition is known.
@@ -19,14 +19,7 @@ fn usual(cfg: &CfgOptions) -> ExpandOptions<'_>
     requires { known_of cfg.now ≡ unknown }
     ensures { IsUsual result }
 {
-    ExpandOptions {
-        limit: USUAL_LIMIT,
-        max_tokens: USUAL_MAX_TOKENS,
-        cfg,
-        root: "crate",
-        everywhere: false,
-        only: None,
-    }
+    ExpandOptions::usual(cfg)
 }
 
 /// Returns the text in which each call of a macro in scope is replaced by its expansion.
