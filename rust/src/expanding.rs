@@ -1,6 +1,6 @@
 //! Texts that are expanded with options, and what is found in them.
 
-use crate::{Error, Fault, checked, sys, text_of};
+use crate::{Error, Fault, made_both, sys, text_of};
 
 /// The options of an expansion.
 #[derive(Debug, Clone, Copy, PartialEq, Eq, Hash)]
@@ -81,11 +81,9 @@ impl Finding {
 pub fn expand_with(text: &str, options: &ExpandOptions<'_>) -> Result<Expansion, Error> {
     let only = options.only.unwrap_or("");
     let cfg = ended(options.cfg)?;
-    let (mut out, mut words) = (vec![0; 64 + 2 * text.len()], vec![0; 64]);
-    loop {
-        let (mut written, mut found, mut at) = (0, 0, 0);
+    let (bytes, words) = made_both(64 + 2 * text.len(), 64, |out, written, words, found, at| {
         // Safety: each pointer is that of a slice or of a number which lives as long as the call, and none overlap.
-        let answer = unsafe {
+        unsafe {
             sys::tt_expand_text_with(
                 text.as_ptr(),
                 text.len(),
@@ -100,23 +98,15 @@ pub fn expand_with(text: &str, options: &ExpandOptions<'_>) -> Result<Expansion,
                 options.max_tokens,
                 out.as_mut_ptr(),
                 out.len(),
-                &mut written,
+                written,
                 words.as_mut_ptr(),
                 words.len(),
-                &mut found,
-                &mut at,
+                found,
+                at,
             )
-        };
-        let is_short = written > out.len() || found > words.len();
-        match checked(answer, at) {
-            Ok(()) => return Ok(Expansion::of(&out[..written], &words[..found])),
-            Err(error) if error.fault == Fault::NoRoom && is_short => {
-                out.resize(out.len().max(written), 0);
-                words.resize(words.len().max(found), 0);
-            }
-            Err(error) => return Err(error),
         }
-    }
+    })?;
+    Ok(Expansion::of(&bytes, &words))
 }
 
 /// Conditions, each with a 0 behind it. One that contains a 0 would be two there, and is wrong.

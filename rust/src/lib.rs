@@ -54,6 +54,32 @@ fn made(
     }
 }
 
+/// The bytes and the words that a call makes: first with so much room, then with what it needs if that is more.
+fn made_both(
+    room: usize,
+    words_room: usize,
+    mut call: impl FnMut(&mut [u8], &mut usize, &mut [usize], &mut usize, &mut usize) -> u32,
+) -> Result<(Vec<u8>, Vec<usize>), Error> {
+    let (mut out, mut words) = (vec![0; room], vec![0; words_room]);
+    loop {
+        let (mut written, mut found, mut at) = (0, 0, 0);
+        let answer = call(&mut out, &mut written, &mut words, &mut found, &mut at);
+        let is_short = written > out.len() || found > words.len();
+        match checked(answer, at) {
+            Ok(()) => {
+                out.truncate(written);
+                words.truncate(found);
+                return Ok((out, words));
+            }
+            Err(error) if error.fault == Fault::NoRoom && is_short => {
+                out.resize(out.len().max(written), 0);
+                words.resize(words.len().max(found), 0);
+            }
+            Err(error) => return Err(error),
+        }
+    }
+}
+
 /// The answer of a call, with the place that it gave.
 fn checked(answer: u32, at: usize) -> Result<(), Error> {
     match Fault::of_number(answer) {

@@ -1,6 +1,6 @@
 //! The tokens of a tree.
 
-use crate::{Error, Fault, Tree, checked, sys, text_of};
+use crate::{Error, Tree, made_both, sys, text_of};
 
 /// A token of a tree.
 #[derive(Debug, Clone, PartialEq, Eq, Hash)]
@@ -91,36 +91,26 @@ impl Tree {
     /// Its tokens, in reading order. Each subtree is a token that opens it, what it holds, and one that closes it. The top is left out.
     pub fn tokens(&self) -> Result<Vec<Token>, Error> {
         let bytes = self.as_bytes();
-        let (mut out, mut words) = (vec![0; bytes.len()], vec![0; WORDS * (bytes.len() / 4)]);
-        loop {
-            let (mut written, mut found, mut at) = (0, 0, 0);
-            // Safety: each pointer is that of a slice or of a number which lives as long as the call, and none overlap.
-            let answer = unsafe {
-                sys::tt_bytes_to_tokens(
-                    bytes.as_ptr(),
-                    bytes.len(),
-                    out.as_mut_ptr(),
-                    out.len(),
-                    &mut written,
-                    words.as_mut_ptr(),
-                    words.len(),
-                    &mut found,
-                    &mut at,
-                )
-            };
-            let is_short = written > out.len() || found > words.len();
-            match checked(answer, at) {
-                Ok(()) => {
-                    let tokens = words[..found].chunks_exact(WORDS);
-                    return Ok(tokens.map(|words| Token::of(&out, words)).collect());
+        let words_room = WORDS * (bytes.len() / 4);
+        let (texts, words) =
+            made_both(bytes.len(), words_room, |out, written, words, found, at| {
+                // Safety: each pointer is that of a slice or of a number which lives as long as the call, and none overlap.
+                unsafe {
+                    sys::tt_bytes_to_tokens(
+                        bytes.as_ptr(),
+                        bytes.len(),
+                        out.as_mut_ptr(),
+                        out.len(),
+                        written,
+                        words.as_mut_ptr(),
+                        words.len(),
+                        found,
+                        at,
+                    )
                 }
-                Err(error) if error.fault == Fault::NoRoom && is_short => {
-                    out.resize(out.len().max(written), 0);
-                    words.resize(words.len().max(found), 0);
-                }
-                Err(error) => return Err(error),
-            }
-        }
+            })?;
+        let words = words.chunks_exact(WORDS);
+        Ok(words.map(|words| Token::of(&texts, words)).collect())
     }
 }
 
