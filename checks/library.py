@@ -246,8 +246,9 @@ def try_deep(_room):
     import cuvolemin
 
     text = "(" * DEPTH + "a" + ")" * DEPTH
-    if cuvolemin.parse(text).to_text() != text:
-        raise Wrong("brackets one in the other are written otherwise")
+    tree = cuvolemin.parse(text)
+    if tree.to_text() != text or len(tree.tokens()) != len(text):
+        raise Wrong("brackets one in the other are written otherwise, or have other tokens")
     try:
         cuvolemin.parse("(" * DEPTH)
     except cuvolemin.Error as error:
