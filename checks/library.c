@@ -109,12 +109,13 @@ struct listed {
 };
 
 struct options {
-    const char *root, *only;
+    const char *root, *only, *cfg;
+    size_t cfg_len;
     uint32_t everywhere;
     size_t limit, max_tokens;
 };
 
-static const struct options USUAL = {"crate", "", 0, 128, 4000000};
+static const struct options USUAL = {"crate", "", "", 0, 0, 128, 4000000};
 
 // What a text expands to with options, in outputs of these sizes.
 static struct listed list(const void *text, size_t len, struct options with, size_t room, size_t word_room) {
@@ -122,9 +123,9 @@ static struct listed list(const void *text, size_t len, struct options with, siz
     memset(listed.made.bytes, UNTOUCHED, sizeof listed.made.bytes);
     memset(listed.words, UNTOUCHED, sizeof listed.words);
     listed.made.answer =
-        tt_expand_text_with(text, len, (const uint8_t *)with.root, strlen(with.root), (const uint8_t *)with.only, strlen(with.only), with.everywhere,
-                            with.limit, with.max_tokens, listed.made.bytes, room, &listed.made.written, listed.words, word_room, &listed.found,
-                            &listed.made.at);
+        tt_expand_text_with(text, len, (const uint8_t *)with.root, strlen(with.root), (const uint8_t *)with.only, strlen(with.only),
+                            (const uint8_t *)with.cfg, with.cfg_len, with.everywhere, with.limit, with.max_tokens, listed.made.bytes, room,
+                            &listed.made.written, listed.words, word_room, &listed.found, &listed.made.at);
     return listed;
 }
 
@@ -208,9 +209,86 @@ static bool refuses(void) {
     struct options root = USUAL, only = USUAL;
     root.root = "ab\xff";
     only.only = "a\xff";
-    struct options both = {root.root, only.only, 0, 128, 4000000};
+    struct options both = USUAL;
+    both.root = root.root;
+    both.only = only.only;
     return is_not_listed("a ) b", USUAL, CUVOLEMIN_UNOPENED, 2) && is_not_listed("\xff", both, CUVOLEMIN_NOT_UTF8, 0) &&
            is_not_listed("a", both, CUVOLEMIN_NOT_UTF8, 2) && is_not_listed("a", only, CUVOLEMIN_NOT_UTF8, 1);
+}
+
+static bool knows_conditions(void) {
+    static const char TEXT[] = "#[cfg(all(b, k = \"v\"))] macro_rules! m(() => {1}); #[cfg(not(b))] macro_rules! m(() => {2}); const A: u8 = m!();";
+    static const char MADE[] = "#[cfg(all(b, k = \"v\"))] macro_rules! m(() => {1}); #[cfg(not(b))] macro_rules! m(() => {2}); const A: u8 = 1;";
+    static const char CFG[] = "b\0k=\"v\"", NO_VALUE[] = "b\0k=v", EMPTY[] = "", NO_TEXT[] = "b\0\xff";
+    struct options both = USUAL, unended = USUAL, no_value = USUAL, empty = USUAL, no_text = USUAL;
+    both.cfg = unended.cfg = CFG;
+    both.cfg_len = sizeof CFG;
+    unended.cfg_len = sizeof CFG - 1;
+    no_value.cfg = NO_VALUE;
+    no_value.cfg_len = sizeof NO_VALUE;
+    empty.cfg = EMPTY;
+    empty.cfg_len = sizeof EMPTY;
+    no_text.cfg = NO_TEXT;
+    no_text.cfg_len = sizeof NO_TEXT;
+    return becomes(TEXT, both, MADE, 0) && becomes(TEXT, unended, MADE, 0) && becomes(TEXT, USUAL, TEXT, CUVOLEMIN_SEVERAL_DEFINITIONS) &&
+           is_not_listed("a ) b", no_value, CUVOLEMIN_NO_CFG, 1) && is_not_listed("a", empty, CUVOLEMIN_NO_CFG, 0) &&
+           is_not_listed("a", no_text, CUVOLEMIN_NOT_UTF8, 2);
+}
+
+static const char PARTS[] = "a += (\"\xc3\xa9\")";
+// The texts of its tokens, and the words about them.
+static const char TEXTS[] = "a+=(\"\xc3\xa9\")";
+static const size_t TOKENS[] = {
+    CUVOLEMIN_IDENT, 0, 0, 1, 0, 1, 0, 0, 0, CUVOLEMIN_PUNCT, 1, 1, 1, 2, 3, 0, 0, 0, CUVOLEMIN_PUNCT, 0, 2, 1, 3, 4, 0, 0, 0,
+    CUVOLEMIN_OPEN, 0, 3, 1, 5, 6, 0, 0, 0, CUVOLEMIN_LITERAL, 4, 4, 4, 6, 10, 0, 0, 0, CUVOLEMIN_CLOSE, 0, 8, 1, 10, 11, 0, 0, 0,
+};
+enum { TEXTS_LEN = sizeof TEXTS - 1, TOKENS_LEN = sizeof TOKENS / sizeof *TOKENS };
+
+// The tokens of a tree, in outputs of these sizes.
+static struct listed tokens_of(const uint8_t *bytes, size_t len, size_t room, size_t word_room) {
+    struct listed listed = {.made = {.written = 77, .at = 77}, .found = 77};
+    memset(listed.made.bytes, UNTOUCHED, sizeof listed.made.bytes);
+    memset(listed.words, UNTOUCHED, sizeof listed.words);
+    listed.made.answer =
+        tt_bytes_to_tokens(bytes, len, listed.made.bytes, room, &listed.made.written, listed.words, word_room, &listed.found, &listed.made.at);
+    return listed;
+}
+
+// Whether the tokens above are given in outputs of these sizes, or nothing is written if one of them is too short.
+static bool are_tokens_in(const struct made *tree, size_t room, size_t word_room) {
+    struct listed listed = tokens_of(tree->bytes, tree->written, room, word_room);
+    bool fits = room >= TEXTS_LEN && word_room >= TOKENS_LEN;
+    return listed.made.answer == (fits ? CUVOLEMIN_OK : CUVOLEMIN_NO_ROOM) && listed.made.at == 0 && listed.made.written == TEXTS_LEN &&
+           listed.found == TOKENS_LEN && (!fits || memcmp(listed.made.bytes, TEXTS, TEXTS_LEN) == 0) &&
+           (!fits || memcmp(listed.words, TOKENS, sizeof TOKENS) == 0) && is_untouched(&listed.made, fits ? TEXTS_LEN : 0) &&
+           are_words_untouched(&listed, fits ? TOKENS_LEN : 0);
+}
+
+static bool has_tokens(void) {
+    struct made tree = tree_of(PARTS);
+    for (size_t room = 0; room <= TEXTS_LEN + GUARD; room++) {
+        if (!are_tokens_in(&tree, room, WORD_ROOM)) {
+            return false;
+        }
+    }
+    for (size_t room = 0; room <= TOKENS_LEN + GUARD; room++) {
+        if (!are_tokens_in(&tree, ROOM, room) || !are_tokens_in(&tree, TEXTS_LEN - 1, room)) {
+            return false;
+        }
+    }
+    struct listed short_of = tokens_of(tree.bytes, 3, ROOM, WORD_ROOM);
+    return short_of.made.answer == CUVOLEMIN_BYTES_TOO_SHORT && short_of.made.at == 3 && short_of.made.written == 0 && short_of.found == 0 &&
+           is_untouched(&short_of.made, 0) && are_words_untouched(&short_of, 0);
+}
+
+// The same words, by the struct of the header.
+static bool are_tokens(void) {
+    struct made tree = tree_of(PARTS);
+    struct listed listed = tokens_of(tree.bytes, tree.written, ROOM, WORD_ROOM);
+    const struct cuvolemin_token *tokens = (const struct cuvolemin_token *)listed.words;
+    return listed.found == 6 * sizeof *tokens / sizeof(size_t) && tokens[3].sort == CUVOLEMIN_OPEN && tokens[4].kind == 4 &&
+           memcmp(listed.made.bytes + tokens[4].text, "\"\xc3\xa9\"", tokens[4].text_len) == 0 && tokens[4].start == 6 && tokens[4].end == 10 &&
+           tokens[5].file == 0 && tokens[5].item == 0 && tokens[5].context == 0;
 }
 
 // Reads, writes and expands again and again, with outputs of its own, and notes whether all was right.
@@ -264,6 +342,9 @@ int main(void) {
     tell(has_findings(), "C: findings have names and callers");
     tell(heeds_options(), "C: options of an expansion");
     tell(refuses(), "C: a text or an option with a fault has no findings");
+    tell(knows_conditions(), "C: conditions that are true, and wrong ones");
+    tell(has_tokens(), "C: outputs of each size for tokens");
+    tell(are_tokens(), "C: tokens have texts and spans");
     tell(works_in_threads(), "C: several threads at once");
     return 0;
 }

@@ -131,6 +131,18 @@ def try_tables(_room):
         raise Wrong("cuvolemin.py has another table")
 
 
+def judge_tokens(tree):
+    """Each token that closes a subtree belongs to the last one that is open."""
+    inner = []
+    for token in tree.tokens():
+        if token.sort == "open":
+            inner.append(token.kind)
+        elif token.sort == "close" and (not inner or inner.pop() != token.kind):
+            raise Wrong(f"{bytes(tree).hex()} has a token that closes no subtree")
+    if inner:
+        raise Wrong(f"{bytes(tree).hex()} has a subtree that no token closes")
+
+
 def judge_bytes(data):
     """Bytes are a tree's, and then its text reads back, or they are refused at one of them, by each function alike."""
     import cuvolemin
@@ -142,7 +154,9 @@ def judge_bytes(data):
         if not 60 <= error.number <= 64 or error.at > len(data):
             raise Wrong(f"{data.hex()} refused by {error.number} at {error.at}") from error
         unchecked = cuvolemin.Tree._of(data)
-        for add, call in ((0, unchecked.to_text), (0, lambda: unchecked.expand(fine)), (10, lambda: arms.expand(unchecked))):
+        for add, call in (
+            (0, unchecked.to_text), (0, unchecked.tokens), (0, lambda: unchecked.expand(fine)), (10, lambda: arms.expand(unchecked))
+        ):
             try:
                 call()
             except cuvolemin.Error as other:
@@ -150,6 +164,7 @@ def judge_bytes(data):
                     continue
             raise Wrong(f"{data.hex()} is not refused by each function alike") from error
         return False
+    judge_tokens(tree)
     try:
         text = tree.to_text()
     except cuvolemin.Error as error:
@@ -231,8 +246,9 @@ def try_deep(_room):
     import cuvolemin
 
     text = "(" * DEPTH + "a" + ")" * DEPTH
-    if cuvolemin.parse(text).to_text() != text:
-        raise Wrong("brackets one in the other are written otherwise")
+    tree = cuvolemin.parse(text)
+    if tree.to_text() != text or len(tree.tokens()) != len(text):
+        raise Wrong("brackets one in the other are written otherwise, or have other tokens")
     try:
         cuvolemin.parse("(" * DEPTH)
     except cuvolemin.Error as error:

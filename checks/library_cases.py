@@ -50,10 +50,12 @@ NAMES = {"--crate": "root", "--only": "only", "--limit": "limit", "--max-tokens"
 def options_of(words):
     """The options of the library for those of the program; None if it has no such option."""
     options = {}
-    words = iter(" ".join(words).replace("=", " ").split())
+    words = iter([part for word in words for part in (word.split("=", 1) if word.startswith("--") else [word])])
     for word in words:
         if word == "--everywhere":
             options["everywhere"] = True
+        elif word == "--cfg":
+            options.setdefault("cfg", []).append(next(words))
         elif word in NAMES:
             value = next(words)
             options[NAMES[word]] = int(value) if value.isdigit() else value.removeprefix("r#")

@@ -28,6 +28,47 @@ uint32_t tt_text_to_bytes(const uint8_t *text, size_t text_len, uint8_t *out, si
  * Faults: 1, 2, 60 to 64, with a byte of the input in *at; 105, with the number of tokens before the leaf in *at; 106. */
 uint32_t tt_bytes_to_text(const uint8_t *bytes, size_t bytes_len, uint8_t *out, size_t out_len, size_t *written, size_t *at);
 
+/* The tokens of the tree that has these bytes, in reading order: each subtree is a token that opens it, what it holds, and one that closes it.
+ * The top is left out. out gets their texts, one behind the other. tokens has room for tokens_len words and gets those of each token. *found
+ * is the number of words. If one of the outputs is too short, nothing is written into either.
+ * Faults: 1, 2, 60 to 64, with a byte of the input in *at. */
+uint32_t tt_bytes_to_tokens(const uint8_t *bytes, size_t bytes_len, uint8_t *out, size_t out_len, size_t *written, size_t *tokens,
+                            size_t tokens_len, size_t *found, size_t *at);
+
+/* What a token is. */
+enum cuvolemin_sort {
+    /* The start of a subtree. Its kind is that of its brackets: 0 `(`, 1 `{`, 2 `[`, 3 none, 4 none but kept as one tree. */
+    CUVOLEMIN_OPEN = 1,
+    /* The end of a subtree, with the same kind. */
+    CUVOLEMIN_CLOSE = 2,
+    /* A name or a keyword. Its kind is 1 if it is raw, else 0. */
+    CUVOLEMIN_IDENT = 3,
+    /* A character of punctuation. Its kind is 0, or 1 if another one follows directly, or 2 if another token does. */
+    CUVOLEMIN_PUNCT = 4,
+    /* A literal. Its kind is 0 for a byte, 1 a character, 2 an integer, 3 a float, 4 and 5 a string, 6 and 7 a byte string, 8 and 9 a C string,
+     * each time the second for a raw one, 10 for a text that is no literal. */
+    CUVOLEMIN_LITERAL = 5,
+};
+
+/* The words of a token, which may be read as this struct. */
+struct cuvolemin_token {
+    /* What it is, of the table above. */
+    size_t sort;
+    /* Its kind among these. */
+    size_t kind;
+    /* The byte of out at which its text begins, and the number of bytes of that: with quotes and suffix, with r#; empty if a subtree has no
+     * brackets. */
+    size_t text;
+    size_t text_len;
+    /* Where it begins and ends: bytes of the item of the file. */
+    size_t start;
+    size_t end;
+    size_t file;
+    size_t item;
+    /* Its syntax context. */
+    size_t context;
+};
+
 /* A Rust text with the calls of its own macros expanded. All else stays byte for byte. Up to 128 expansions may be nested, for which
  * 512 KiB of stack were enough when measured; a call with all that comes of it may write 4,000,000 tokens. $crate becomes crate. A call
  * under #[cfg(..)] stays only if the condition cannot apply to each part of its expansion. A call of a macro whose last definition is under
@@ -39,16 +80,18 @@ uint32_t tt_expand_text(const uint8_t *text, size_t text_len, uint8_t *out, size
 /* The same with options, and with all findings: a definition or a call with a fault stays, and the function still returns CUVOLEMIN_OK.
  *   root        the word that $crate becomes, such as crate
  *   only        the name, without r#, of the only macros that are read and expanded; all are if only_len is 0
+ *   cfg         what is true in #[cfg(..)], each with a 0 behind it: NAME or NAME="VALUE". All else is open
  *   everywhere  not 0: calls in the brackets of calls that stay are expanded too
  *   limit       how many expansions may be nested; each takes stack (128 are usual)
  *   max_tokens  how many tokens a call with all that comes of it may write (4,000,000 are usual)
  * out gets the text and then the names that the words speak of, each of them with a 0 behind it. findings has room for findings_len words
  * and gets: the number of bytes of the text; the number of findings; the words of each finding, in order; and those of each caller, up to
  * the end. *found is the number of words. If one of the outputs is too short, nothing is written into either.
- * Faults: 1; 2; 3 of the text, of root or of only, in this order; 4 to 44. *at is a byte of that; 0 for faults 1, 2 and 4 to 9. */
+ * Faults: 1; 2; 3 of the text, of root, of only or of cfg, in this order, with a byte of that in *at; 50, with the number of conditions in cfg
+ * before the wrong one; 4 to 44, with a byte of the text. *at is 0 for faults 1, 2 and 4 to 9. */
 uint32_t tt_expand_text_with(const uint8_t *text, size_t text_len, const uint8_t *root, size_t root_len, const uint8_t *only, size_t only_len,
-                             uint32_t everywhere, size_t limit, size_t max_tokens, uint8_t *out, size_t out_len, size_t *written,
-                             size_t *findings, size_t findings_len, size_t *found, size_t *at);
+                             const uint8_t *cfg, size_t cfg_len, uint32_t everywhere, size_t limit, size_t max_tokens, uint8_t *out,
+                             size_t out_len, size_t *written, size_t *findings, size_t findings_len, size_t *found, size_t *at);
 
 /* The words of a finding, which may be read as this struct. A number that is missing is SIZE_MAX. */
 struct cuvolemin_finding {
@@ -162,6 +205,8 @@ enum cuvolemin_answer {
     CUVOLEMIN_NULL_IN_C_STR = 43,
     /* `'` and a digit. */
     CUVOLEMIN_LIFETIME_BEGINS_WITH_DIGIT = 44,
+    /* A condition is no `NAME` and no `NAME="VALUE"`. */
+    CUVOLEMIN_NO_CFG = 50,
     /* The bytes end too early. */
     CUVOLEMIN_BYTES_TOO_SHORT = 60,
     /* The bytes have another format, or another version of this one. */

@@ -47,6 +47,7 @@ FAULTS = {
     42: ('SeveralChars', 'A character literal with several characters.'),
     43: ('NullInCStr', 'A null in a C string.'),
     44: ('LifetimeBeginsWithDigit', "`'` and a digit."),
+    50: ('NoCfg', 'A condition is no `NAME` and no `NAME="VALUE"`.'),
     60: ('BytesTooShort', 'The bytes end too early.'),
     61: ('BytesOfOtherFormat', 'The bytes have another format, or another version of this one.'),
     62: ('BytesWithoutText', "A symbol's text is not UTF-8."),
@@ -86,10 +87,23 @@ FAULTS = {
 }
 
 NO_ROOM = 2
+NO_CFG = 50
 # Those that are found, but are no faults.
 WARNINGS = frozenset((84, 93, 94, 95, 96, 97))
 # The word for a missing number.
 MISSING = ctypes.c_size_t(-1).value
+
+# What tokens are, and the kinds of each, in the order of their numbers.
+SORTS = (None, "open", "close", "ident", "punct", "literal")
+BRACKETS = ("parenthesis", "brace", "bracket", "invisible", "opaque")
+KINDS = {
+    "open": BRACKETS,
+    "close": BRACKETS,
+    "ident": ("plain", "raw"),
+    "punct": ("alone", "joint", "hidden"),
+    "literal": ("byte", "char", "integer", "float", "str", "raw str", "byte str", "raw byte str", "C str", "raw C str", "none"),
+}
+TOKEN_WORDS = 9
 
 
 class Error(ValueError):
@@ -111,8 +125,9 @@ def _library():
     for name, arguments in {
         "tt_text_to_bytes": slice_in + makes,
         "tt_bytes_to_text": slice_in + makes,
+        "tt_bytes_to_tokens": slice_in + makes[:3] + makes,
         "tt_expand_text": slice_in + makes,
-        "tt_expand_text_with": slice_in * 3 + [ctypes.c_uint32] + [ctypes.c_size_t] * 2 + makes[:3] + makes,
+        "tt_expand_text_with": slice_in * 4 + [ctypes.c_uint32] + [ctypes.c_size_t] * 2 + makes[:3] + makes,
         "tt_expand_bytes": slice_in + slice_in + makes,
         "tt_check_bytes": slice_in + [number_out],
     }.items():
@@ -137,6 +152,26 @@ def _made(function, room, *inputs):
         if number != NO_ROOM or written.value <= room:
             raise Error(number, at.value)
         room = written.value
+
+
+def _made_both(function, room, words_room, *arguments):
+    """The bytes and the words that a function makes of arguments: first with so much room, then with what it needs if that is more."""
+    while True:
+        out, words = ctypes.create_string_buffer(max(room, 1)), (ctypes.c_size_t * max(words_room, 1))()
+        written, found, at = ctypes.c_size_t(), ctypes.c_size_t(), ctypes.c_size_t()
+        number = function(*arguments, out, room, ctypes.byref(written), words, words_room, ctypes.byref(found), ctypes.byref(at))
+        if number == 0:
+            return out.raw[: written.value], words[: found.value]
+        if number != NO_ROOM or (written.value <= room and found.value <= words_room):
+            raise Error(number, at.value)
+        room, words_room = max(room, written.value), max(words_room, found.value)
+
+
+# Where a token begins and ends: bytes from the start of an item of a file, and the syntax context.
+Span = collections.namedtuple("Span", "start end file item context")
+
+# A token: what it is (SORTS), its kind (KINDS), its text, and its Span.
+Token = collections.namedtuple("Token", "sort kind text span")
 
 
 @functools.total_ordering
@@ -175,6 +210,17 @@ class Tree:
     def to_text(self):
         """Its Rust text. Error if a leaf cannot be written so that it reads back."""
         return _made(_LIBRARY.tt_bytes_to_text, 2 * len(self._bytes), self._bytes).decode()
+
+    def tokens(self):
+        """Its tokens, in reading order. Each subtree is a token that opens it, what it holds, and one that closes it. The top is left out."""
+        size = len(self._bytes)
+        data, words = _made_both(_LIBRARY.tt_bytes_to_tokens, size, TOKEN_WORDS * (size // 4), self._bytes, size)
+        tokens = []
+        for place in range(0, len(words), TOKEN_WORDS):
+            sort, kind, text, length, *span = words[place : place + TOKEN_WORDS]
+            sort = SORTS[sort]
+            tokens.append(Token(sort, KINDS[sort][kind], data[text : text + length].decode(), Span(*span)))
+        return tokens
 
     def expand(self, source):
         """What the macro whose arms are this tree's trees makes of an input."""
@@ -261,25 +307,29 @@ def _expansion(data, words):
     return Expansion(data[:length].decode(), findings)
 
 
-def expand_with(text, *, root="crate", only=None, everywhere=False, limit=128, max_tokens=4_000_000):
+def _ended(cfg):
+    """Conditions, each with a 0 behind it. One that contains a 0 would be two there, and is wrong."""
+    if isinstance(cfg, (str, bytes)):
+        raise TypeError("cfg is a list of conditions")
+    ended = []
+    for at, condition in enumerate(cfg):
+        data = _bytes_of(condition)
+        if 0 in data:
+            raise Error(NO_CFG, at)
+        ended.append(data + b"\0")
+    return b"".join(ended)
+
+
+def expand_with(text, *, root="crate", only=None, cfg=(), everywhere=False, limit=128, max_tokens=4_000_000):
     """The Rust text with the calls of its macros expanded, and all that is found. A definition or a call with a fault stays.
 
-    root is the word that $crate becomes. only is the name, without r#, of the only macros that are read and expanded. With everywhere, calls in
-    the brackets of calls that stay are expanded too. At most limit expansions may be nested: the stack that a call needs is linear in it. A call
-    with all that comes of it may write at most max_tokens tokens."""
-    data, root, only = _bytes_of(text), _bytes_of(root), _bytes_of(only or "")
+    root is the word that $crate becomes. only is the name, without r#, of the only macros that are read and expanded. cfg lists what is true in
+    #[cfg(..)], each NAME or NAME="VALUE" as rustc's --cfg takes it, without escapes; all else is open. With everywhere, calls in the brackets of
+    calls that stay are expanded too. At most limit expansions may be nested: the stack that a call needs is linear in it. A call with all that
+    comes of it may write at most max_tokens tokens."""
+    data, root, only, cfg = _bytes_of(text), _bytes_of(root), _bytes_of(only or ""), _ended(cfg)
     for size in (limit, max_tokens):
         if not 0 <= size <= MISSING:
             raise ValueError(f"{size} is no limit")
-    room, words_room = 64 + 2 * len(data), 64
-    while True:
-        out, words = ctypes.create_string_buffer(room), (ctypes.c_size_t * words_room)()
-        written, found, at = ctypes.c_size_t(), ctypes.c_size_t(), ctypes.c_size_t()
-        number = _LIBRARY.tt_expand_text_with(
-            data, len(data), root, len(root), only, len(only), bool(everywhere), limit, max_tokens,
-            out, room, ctypes.byref(written), words, words_room, ctypes.byref(found), ctypes.byref(at))  # fmt: skip
-        if number == 0:
-            return _expansion(out.raw[: written.value], words[: found.value])
-        if number != NO_ROOM or (written.value <= room and found.value <= words_room):
-            raise Error(number, at.value)
-        room, words_room = max(room, written.value), max(words_room, found.value)
+    arguments = [word for part in (data, root, only, cfg) for word in (part, len(part))]
+    return _expansion(*_made_both(_LIBRARY.tt_expand_text_with, 64 + 2 * len(data), 64, *arguments, bool(everywhere), limit, max_tokens))

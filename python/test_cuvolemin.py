@@ -97,6 +97,49 @@ class Cuvolemin(unittest.TestCase):
         long = expand_with(text, max_tokens=3).findings
         self.assertEqual([(it.name, it.at) for it in long], [("OverMaxTokens", 75), ("OverMaxTokens", 64)])
 
+    def test_conditions_are_known(self):
+        text = '#[cfg(all(b, k = "v"))] macro_rules! m(() => {1}); #[cfg(not(b))] macro_rules! m(() => {2}); f(m!());'
+        for cfg, end, numbers in ((["b", b' k = "v" '], "f(1);", []), (['k="v"'], "f(m!());", [94]), ((), "f(m!());", [94])):
+            made = expand_with(text, cfg=cfg)
+            self.assertTrue(made.text.endswith(end), cfg)
+            self.assertEqual([it.number for it in made.findings], numbers)
+        for at, cfg in ((0, ["a b"]), (1, ["b", "k=v"]), (2, ["b", "c", ""]), (1, ["b", 'k="\0"'])):
+            with self.assertRaises(Error) as told:
+                expand_with(text, cfg=cfg)
+            self.assertEqual((told.exception.name, told.exception.at), ("NoCfg", at))
+        with self.assertRaises(TypeError):
+            expand_with(text, cfg="b")
+
+    def test_tokens_come_in_reading_order(self):
+        tokens = parse('r#in += f({ "é" [] }) ;').tokens()
+        self.assertEqual([(it.sort, it.kind, it.text, it.span.start, it.span.end) for it in tokens], [
+            ("ident", "raw", "r#in", 0, 4),
+            ("punct", "joint", "+", 5, 6),
+            ("punct", "alone", "=", 6, 7),
+            ("ident", "plain", "f", 8, 9),
+            ("open", "parenthesis", "(", 9, 10),
+            ("open", "brace", "{", 10, 11),
+            ("literal", "str", '"é"', 12, 16),
+            ("open", "bracket", "[", 17, 18),
+            ("close", "bracket", "]", 18, 19),
+            ("close", "brace", "}", 20, 21),
+            ("close", "parenthesis", ")", 21, 22),
+            ("punct", "alone", ";", 23, 24),
+        ])  # fmt: skip
+        self.assertEqual({it.span[2:] for it in tokens}, {(0, 0, 0)})
+        self.assertEqual(parse("").tokens(), [])
+
+    def test_literals_have_kinds(self):
+        for text, kind in (
+            ("b'a'", "byte"), ("'a'", "char"), ("1u8", "integer"), ("1.5", "float"), ('"a"', "str"), ('r#"a"#', "raw str"),
+            ('b"a"', "byte str"), ('br"a"', "raw byte str"), ('c"a"', "C str"), ('cr"a"', "raw C str"),
+        ):  # fmt: skip
+            token, = parse(text).tokens()
+            self.assertEqual(token, ("literal", kind, text, (0, len(text), 0, 0, 0)))
+
+    def test_many_tokens_find_room(self):
+        self.assertEqual([it.span.start for it in parse(";" * 1000).tokens()], list(range(1000)))
+
     def test_wrong_options_are_refused(self):
         self.is_fault("Unopened", 2, expand_with, "a ) b")
         for options in ({"root": b"a\xff"}, {"only": b"a\xff"}):

@@ -1,6 +1,6 @@
 //! Texts that are expanded with options, and what is found in them.
 
-use crate::{Error, Fault, checked, sys, text_of};
+use crate::{Error, Fault, made_both, sys, text_of};
 
 /// The options of an expansion.
 #[derive(Debug, Clone, Copy, PartialEq, Eq, Hash)]
@@ -9,6 +9,8 @@ pub struct ExpandOptions<'a> {
     pub root: &'a str,
     /// The name, without `r#`, of the only macros that are read and expanded. `None` and an empty name mean all macros.
     pub only: Option<&'a str>,
+    /// What is true in `#[cfg(..)]`: each is `NAME` or `NAME="VALUE"`, as rustc's `--cfg` takes it, without escapes. All else is open.
+    pub cfg: &'a [&'a str],
     /// Whether calls in the brackets of calls that stay are expanded too.
     pub everywhere: bool,
     /// How many expansions may be nested. The stack that a call needs is linear in it: 512 KiB were enough for 128.
@@ -18,11 +20,12 @@ pub struct ExpandOptions<'a> {
 }
 
 impl Default for ExpandOptions<'_> {
-    /// All macros, at most 128 nested expansions, and 4,000,000 tokens for a call; `$crate` becomes `crate`.
+    /// All macros, at most 128 nested expansions, and 4,000,000 tokens for a call; `$crate` becomes `crate`, and all conditions are open.
     fn default() -> Self {
         ExpandOptions {
             root: "crate",
             only: None,
+            cfg: &[],
             everywhere: false,
             limit: 128,
             max_tokens: 4_000_000,
@@ -74,14 +77,13 @@ impl Finding {
 
 /// The Rust text with the calls of its macros expanded, and all that is found. All else stays byte for byte.
 ///
-/// An error has the byte of the text at which it shows: the text has no tree, or memory ran out.
+/// An error has the byte of the text at which it shows: the text has no tree, or memory ran out. `Fault::NoCfg` has an index of `cfg`.
 pub fn expand_with(text: &str, options: &ExpandOptions<'_>) -> Result<Expansion, Error> {
     let only = options.only.unwrap_or("");
-    let (mut out, mut words) = (vec![0; 64 + 2 * text.len()], vec![0; 64]);
-    loop {
-        let (mut written, mut found, mut at) = (0, 0, 0);
+    let cfg = ended(options.cfg)?;
+    let (bytes, words) = made_both(64 + 2 * text.len(), 64, |out, written, words, found, at| {
         // Safety: each pointer is that of a slice or of a number which lives as long as the call, and none overlap.
-        let answer = unsafe {
+        unsafe {
             sys::tt_expand_text_with(
                 text.as_ptr(),
                 text.len(),
@@ -89,27 +91,32 @@ pub fn expand_with(text: &str, options: &ExpandOptions<'_>) -> Result<Expansion,
                 options.root.len(),
                 only.as_ptr(),
                 only.len(),
+                cfg.as_ptr(),
+                cfg.len(),
                 options.everywhere.into(),
                 options.limit,
                 options.max_tokens,
                 out.as_mut_ptr(),
                 out.len(),
-                &mut written,
+                written,
                 words.as_mut_ptr(),
                 words.len(),
-                &mut found,
-                &mut at,
+                found,
+                at,
             )
-        };
-        let is_short = written > out.len() || found > words.len();
-        match checked(answer, at) {
-            Ok(()) => return Ok(Expansion::of(&out[..written], &words[..found])),
-            Err(error) if error.fault == Fault::NoRoom && is_short => {
-                out.resize(out.len().max(written), 0);
-                words.resize(words.len().max(found), 0);
-            }
-            Err(error) => return Err(error),
         }
+    })?;
+    Ok(Expansion::of(&bytes, &words))
+}
+
+/// Conditions, each with a 0 behind it. One that contains a 0 would be two there, and is wrong.
+fn ended(cfg: &[&str]) -> Result<String, Error> {
+    match cfg.iter().position(|it| it.contains('\0')) {
+        Some(at) => Err(Error {
+            fault: Fault::NoCfg,
+            at,
+        }),
+        None => Ok(cfg.iter().flat_map(|it| [it, "\0"]).collect()),
     }
 }
 

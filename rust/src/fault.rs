@@ -72,6 +72,7 @@ faults! {
     SeveralChars = 42, "A character literal with several characters.";
     NullInCStr = 43, "A null in a C string.";
     LifetimeBeginsWithDigit = 44, "`'` and a digit.";
+    NoCfg = 50, "A condition is no `NAME` and no `NAME=\"VALUE\"`.";
     BytesTooShort = 60, "The bytes end too early.";
     BytesOfOtherFormat = 61, "The bytes have another format, or another version of this one.";
     BytesWithoutText = 62, "A symbol's text is not UTF-8.";

@@ -4,11 +4,13 @@ mod error;
 mod expanding;
 mod fault;
 mod sys;
+mod token;
 mod tree;
 
 pub use error::Error;
 pub use expanding::{Call, ExpandOptions, Expansion, Finding, expand_with};
 pub use fault::Fault;
+pub use token::{Delimiter, LiteralKind, Spacing, Span, Token};
 pub use tree::{Tree, parse};
 
 /// The Rust text with the calls of its own macros expanded. All else stays byte for byte.
@@ -46,6 +48,32 @@ fn made(
             }
             Err(error) if error.fault == Fault::NoRoom && written > out.len() => {
                 out = vec![0; written]
+            }
+            Err(error) => return Err(error),
+        }
+    }
+}
+
+/// The bytes and the words that a call makes: first with so much room, then with what it needs if that is more.
+fn made_both(
+    room: usize,
+    words_room: usize,
+    mut call: impl FnMut(&mut [u8], &mut usize, &mut [usize], &mut usize, &mut usize) -> u32,
+) -> Result<(Vec<u8>, Vec<usize>), Error> {
+    let (mut out, mut words) = (vec![0; room], vec![0; words_room]);
+    loop {
+        let (mut written, mut found, mut at) = (0, 0, 0);
+        let answer = call(&mut out, &mut written, &mut words, &mut found, &mut at);
+        let is_short = written > out.len() || found > words.len();
+        match checked(answer, at) {
+            Ok(()) => {
+                out.truncate(written);
+                words.truncate(found);
+                return Ok((out, words));
+            }
+            Err(error) if error.fault == Fault::NoRoom && is_short => {
+                out.resize(out.len().max(written), 0);
+                words.resize(words.len().max(found), 0);
             }
             Err(error) => return Err(error),
         }

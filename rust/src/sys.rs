@@ -19,6 +19,18 @@ unsafe extern "C" {
         at: *mut usize,
     ) -> u32;
 
+    pub fn tt_bytes_to_tokens(
+        bytes: *const u8,
+        bytes_len: usize,
+        out: *mut u8,
+        out_len: usize,
+        written: *mut usize,
+        tokens: *mut usize,
+        tokens_len: usize,
+        found: *mut usize,
+        at: *mut usize,
+    ) -> u32;
+
     pub fn tt_expand_text(
         text: *const u8,
         text_len: usize,
@@ -35,6 +47,8 @@ unsafe extern "C" {
         root_len: usize,
         only: *const u8,
         only_len: usize,
+        cfg: *const u8,
+        cfg_len: usize,
         everywhere: u32,
         limit: usize,
         max_tokens: usize,

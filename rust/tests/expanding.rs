@@ -129,6 +129,33 @@ fn options_are_heeded() {
 }
 
 #[test]
+fn conditions_are_known() {
+    let made = |cfg| {
+        let options = ExpandOptions {
+            cfg,
+            ..ExpandOptions::default()
+        };
+        expand_with(
+            "#[cfg(all(b, k = \"v\"))] macro_rules! m(() => {1}); #[cfg(not(b))] macro_rules! m(() => {2}); f(m!());",
+            &options,
+        )
+        .map(|made| (made.text.ends_with("f(1);"), made.findings.len()))
+    };
+    assert_eq!(made(&["b", " k = \"v\" "]), Ok((true, 0)));
+    assert_eq!(made(&["k=\"v\""]), Ok((false, 1)));
+    assert_eq!(made(&[]), Ok((false, 1)));
+    for (at, cfg) in [
+        (0, &["a b"] as &[&str]),
+        (1, &["b", "k=v"]),
+        (2, &["b", "c", ""]),
+        (1, &["b", "k=\"\0\""]),
+    ] {
+        let fault = Fault::NoCfg;
+        assert_eq!(made(cfg), Err(Error { fault, at }), "{cfg:?}");
+    }
+}
+
+#[test]
 fn limits_have_their_findings_with_the_calls_around() {
     let endless = "macro_rules! m { () => { m!() } } f(m!());";
     let limit = ExpandOptions {

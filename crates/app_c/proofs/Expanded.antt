@@ -1,12 +1,16 @@
 -- The expansion of a text, for the bytes that spell the text.
-use Rattle.std.proofs.Common.{◌≡◌, ℕ, List, None, inr, refl, subst}
+use Rattle.std.proofs.Common.{◌≡◌, ◌⊎◌, ℕ, List, None, inl, inr, refl, subst}
 use Rattle.std.specs.Prelude.{IsUtf8, string_bytes}
 use Rattle.app_c.specs.ExpandedTexts.{IsExpandedText, IsNotExpanded, IsUsual}
-use Rattle.app_c.specs.Failures.{expand_text_failure}
-use Rattle.app_c.specs.Listings.{Asked, AreAsked, IsListed, IsListingOf, IsNotListed}
+use Rattle.app_c.specs.Conditions.{IsNotSaid}
+use Rattle.app_c.specs.Failures.{expand_text_failure, placeless}
+use Rattle.app_c.specs.Listings.{AreAsked, IsListed, IsListingOf, IsNotListed}
+use Rattle.app_c.specs.declared.asked.Asked.{Asked}
 use Rattle.app_c.specs.declared.failure.Failure.{Failure}
+use Rattle.app_c.specs.declared.fault.Fault.TheVariants as answer
 use Rattle.expand_text.specs.Expansion.{IsExpanded, IsExpandTextError, IsLenientError, first_fault}
 use Rattle.expand_text.specs.declared.fault.ExpandTextError.{ExpandTextError}
+use Rattle.expand_text.specs.declared.fault.ExpandTextError.TheVariants.{Memory}
 use Rattle.expand_text.specs.declared.options.ExpandOptions.{ExpandOptions}
 use Rattle.expand_text.specs.declared.text.Expanded.{Expanded}
 
@@ -24,13 +28,14 @@ not_expanded options source text error failure usual same is made =
 
 -- A text is expanded with the options of a caller.
 pub is_listed : (asked : Asked) (options : ExpandOptions) (source text bytes words : List ℕ) (expanded : Expanded) → text ≡ source → IsUtf8 source
-    → IsUtf8 asked.root → IsUtf8 asked.only → AreAsked asked options → IsExpanded options text expanded → IsListingOf expanded bytes words
-    → IsListed source asked bytes words
-is_listed asked options source text bytes words expanded same source_utf8 root_utf8 only_utf8 are is listing =
+    → IsUtf8 asked.root.now → IsUtf8 asked.only.now → IsUtf8 asked.cfg.now → AreAsked asked options → IsExpanded options text expanded
+    → IsListingOf expanded bytes words → IsListed source asked bytes words
+is_listed asked options source text bytes words expanded same source_utf8 root_utf8 only_utf8 cfg_utf8 are is listing =
     record {
       source_utf8 = source_utf8;
       root_utf8 = root_utf8;
       only_utf8 = only_utf8;
+      cfg_utf8 = cfg_utf8;
       options = options;
       are = are;
       expanded = expanded;
@@ -41,4 +46,14 @@ is_listed asked options source text bytes words expanded same source_utf8 root_u
 -- A text is not read as trees.
 pub not_read : (asked : Asked) (source text : List ℕ) (error : ExpandTextError) (failure : Failure) → text ≡ source → IsLenientError text error
     → failure ≡ expand_text_failure error → IsNotListed source asked failure
-not_read asked source text error failure same is made = inr (error, subst (λ t. IsLenientError t error) same is, made)
+not_read asked source text error failure same is made = inr (inr (error, subst (λ t. IsLenientError t error) same is, made))
+
+-- Memory runs out.
+pub no_memory : (asked : Asked) (source : List ℕ) (failure : Failure) → failure ≡ placeless answer.Memory → IsNotListed source asked failure
+no_memory asked source failure is = inr (inr (Memory, tt, is))
+
+-- Nothing is said of conditions.
+pub not_said : (asked : Asked) (source : List ℕ) (failure : Failure) → IsUtf8 source → IsUtf8 asked.root.now → IsUtf8 asked.only.now
+    → IsNotSaid asked.cfg.now failure ⊎ (failure ≡ placeless answer.Memory) → IsNotListed source asked failure
+not_said asked source failure source_utf8 root_utf8 only_utf8 (inl none) = inr (inl (source_utf8, root_utf8, only_utf8, none))
+not_said asked source failure source_utf8 root_utf8 only_utf8 (inr memory) = no_memory asked source failure memory

@@ -1,5 +1,5 @@
 -- The words and the names so far, and those of what is left.
-use Rattle.std.proofs.Common.{◌≡◌, ◌∙◌, ◌+◌, ◌++◌, ◌∷◌, ℕ, List, ap, append_assoc, length, length-append, sym}
+use Rattle.std.proofs.Common.{◌≡◌, ◌∙◌, ◌++◌, ◌∷◌, ℕ, List, ap, append_assoc, length, length-append, sym}
 use Rattle.app_c.specs.Listings.{caller_words, callers_bytes, callers_words, ended, finding_words, findings_bytes, findings_words}
 use Rattle.expand_text.specs.declared.caller.Caller.{Caller}
 use Rattle.expand_text.specs.declared.fault.Finding.{Finding}

@@ -42,6 +42,7 @@ number_of fault.EmptyChar = 41
 number_of fault.SeveralChars = 42
 number_of fault.NullInCStr = 43
 number_of fault.LifetimeBeginsWithDigit = 44
+number_of fault.NoCfg = 50
 number_of fault.BytesTooShort = 60
 number_of fault.BytesOfOtherFormat = 61
 number_of fault.BytesWithoutText = 62

@@ -1,11 +1,12 @@
 -- What a caller gets of an expansion with options of its own: bytes, and words about the findings.
-use Rattle.std.specs.Prelude.{◌≡◌, ◌⊎◌, ◌+◌, ◌++◌, ℕ, List, [], ◌∷◌, Bool, Option, None, Some, IsUtf8, length, nat_lt, option_map, string_bytes}
+use Rattle.std.specs.Prelude.{◌≡◌, ◌⊎◌, ◌+◌, ◌++◌, ℕ, List, [], ◌∷◌, Option, None, Some, IsUtf8, length, nat_lt, option_map, string_bytes}
+use Rattle.app_c.specs.Conditions.{IsNotSaid, IsSaid}
 use Rattle.app_c.specs.Failures.{expand_text_failure, macro_fault}
 use Rattle.app_c.specs.Faults.{number_of}
 use Rattle.app_c.specs.Texts.{IsNoText}
-use Rattle.app_c.specs.declared.asked.Asked as asked_in_code
+use Rattle.app_c.specs.declared.asked.Asked.{Asked}
 use Rattle.app_c.specs.declared.failure.Failure.{Failure}
-use Rattle.expand_items.specs.Cfg.{known_of, unknown}
+use Rattle.expand_items.specs.Cfg.{known_of}
 use Rattle.expand_text.specs.Expansion.{IsExpanded, IsLenientError}
 use Rattle.expand_text.specs.declared.caller.Caller.{Caller}
 use Rattle.expand_text.specs.declared.fault.ExpandTextError.{ExpandTextError}
@@ -15,37 +16,19 @@ use Rattle.expand_text.specs.declared.fault.MacroFault.TheVariants as found
 use Rattle.expand_text.specs.declared.options.ExpandOptions.{ExpandOptions}
 use Rattle.expand_text.specs.declared.text.Expanded.{Expanded}
 
--- the options of a caller: the word for `$crate`, the name of the only macros (all, if it is empty), whether calls that stay are entered (not,
--- if it is 0), and the limits of nested expansions and of tokens
-pub record Asked : Type 0 where
-  pub root : List ℕ
-  pub only : List ℕ
-  pub everywhere : ℕ
-  pub limit : ℕ
-  pub max_tokens : ℕ
-
--- these options
-abbrev pub asked_for : (root only : List ℕ) → (everywhere limit max_tokens : ℕ) → Asked
-asked_for root only everywhere limit max_tokens =
-    record { root = root; only = only; everywhere = everywhere; limit = limit; max_tokens = max_tokens }
-
--- what the value of the code means
-abbrev pub asked_of : asked_in_code.Asked → Asked
-asked_of it = asked_for it.root.now it.only.now it.everywhere it.limit it.max_tokens
-
 -- an empty name means all macros
 abbrev pub only_of : (name : List ℕ) → Option (List ℕ)
 only_of [] = None
 only_of (byte ∷ bytes) = Some (byte ∷ bytes)
 
--- these are the options, and no condition is known
+-- these are the options of a caller
 pub record AreAsked (asked : Asked) (options : ExpandOptions) : Type 0 where
-  pub cfg : known_of options.cfg.now ≡ unknown
+  pub cfg : IsSaid asked.cfg.now (known_of options.cfg.now)
   pub limit : options.limit ≡ asked.limit
   pub max_tokens : options.max_tokens ≡ asked.max_tokens
-  pub root : options.root.now ≡ asked.root
+  pub root : options.root.now ≡ asked.root.now
   pub everywhere : options.everywhere ≡ nat_lt 0 asked.everywhere
-  pub only : option_map (λ name. name.now) options.only ≡ only_of asked.only
+  pub only : option_map (λ name. name.now) options.only ≡ only_of asked.only.now
 
 -- a number, or the largest word if there is none
 abbrev pub word_of : Option ℕ → ℕ
@@ -111,8 +94,9 @@ pub record IsListingOf (it : Expanded) (bytes words : List ℕ) : Type 0 where
 -- a text expands to this with these options
 pub record IsListed (source : List ℕ) (asked : Asked) (bytes words : List ℕ) : Type 0 where
   pub source_utf8 : IsUtf8 source
-  pub root_utf8 : IsUtf8 asked.root
-  pub only_utf8 : IsUtf8 asked.only
+  pub root_utf8 : IsUtf8 asked.root.now
+  pub only_utf8 : IsUtf8 asked.only.now
+  pub cfg_utf8 : IsUtf8 asked.cfg.now
   pub options : ExpandOptions
   pub are : AreAsked asked options
   pub expanded : Expanded
@@ -123,8 +107,12 @@ pub record IsListed (source : List ℕ) (asked : Asked) (bytes words : List ℕ)
 abbrev pub IsNotUtf8 : (source : List ℕ) → Asked → Failure → Type 0
 IsNotUtf8 source asked failure =
     IsNoText source failure
-    ⊎ ((IsUtf8 source × IsNoText asked.root failure)
-    ⊎ (IsUtf8 source × IsUtf8 asked.root × IsNoText asked.only failure))
+    ⊎ ((IsUtf8 source × IsNoText asked.root.now failure)
+    ⊎ (IsUtf8 source × IsUtf8 asked.root.now × IsNoText asked.only.now failure))
+
+-- all three are, and nothing is said of conditions, with the reason
+abbrev pub HasNoConditions : (source : List ℕ) → Asked → Failure → Type 0
+HasNoConditions source asked failure = IsUtf8 source × IsUtf8 asked.root.now × IsUtf8 asked.only.now × IsNotSaid asked.cfg.now failure
 
 -- a text cannot be read as trees, or memory runs out, with the reason
 abbrev pub IsNotRead : (source : List ℕ) → Failure → Type 0
@@ -132,4 +120,4 @@ IsNotRead source failure = (error : ExpandTextError) × IsLenientError source er
 
 -- why a text is not expanded
 abbrev pub IsNotListed : (source : List ℕ) → Asked → Failure → Type 0
-IsNotListed source asked failure = IsNotUtf8 source asked failure ⊎ IsNotRead source failure
+IsNotListed source asked failure = IsNotUtf8 source asked failure ⊎ (HasNoConditions source asked failure ⊎ IsNotRead source failure)

@@ -7,6 +7,8 @@ pub(crate) struct Asked<'a> {
     pub(crate) root: &'a [u8],
     /// The name of the only macros that are read and expanded; empty for all macros.
     pub(crate) only: &'a [u8],
+    /// What is true in conditions, each with a 0 behind it; what is not named is open.
+    pub(crate) cfg: &'a [u8],
     /// Whether the walk enters calls that are not expanded: 0 for no.
     pub(crate) everywhere: u32,
     /// The limit of nested expansions.

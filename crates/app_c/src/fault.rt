@@ -78,6 +78,8 @@ pub enum Fault {
     NullInCStr = 43,
     /// `'` and a digit.
     LifetimeBeginsWithDigit = 44,
+    /// A condition is no `NAME` and no `NAME="VALUE"`.
+    NoCfg = 50,
     /// The bytes end too early.
     BytesTooShort = 60,
     /// The bytes have another format, or another version of this one.

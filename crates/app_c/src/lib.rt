@@ -9,18 +9,22 @@ ghost use Rattle.app_c.specs.Answers.{Answers, AnswersBoth};
 ghost use Rattle.app_c.specs.Bytes.{IsChecked};
 ghost use Rattle.app_c.specs.ExpandedTexts.{IsExpandedText, IsNotExpanded};
 ghost use Rattle.app_c.specs.Expanding.{AreBytesOfExpansion, HasNoBytesOf};
-ghost use Rattle.app_c.specs.Listings.{asked_for, IsListed, IsNotListed};
+ghost use Rattle.app_c.specs.Listings.{IsListed, IsNotListed};
+ghost use Rattle.app_c.specs.declared.asked.Asked.{Asked};
 ghost use Rattle.app_c.specs.Texts.{AreBytesOfText, HasNone, HaveNoText, IsTextOfBytes};
+ghost use Rattle.app_c.specs.Tokens.{AreTokensIn, HaveNoTokens};
 
 mod answer;
 mod asked;
 mod bytes;
+mod conditions;
 mod expanding;
 mod failure;
 mod fault;
 mod listing;
 mod macros;
 mod text;
+mod tokens;
 
 use crate::answer::{give, give_both, tell};
 use crate::asked::Asked;
@@ -28,6 +32,7 @@ use crate::bytes::tree_of_bytes;
 use crate::expanding::{expanded_text, listed_text};
 use crate::macros::expanded_bytes;
 use crate::text::{bytes_of_text, text_of_bytes};
+use crate::tokens::tokens_of_bytes;
 use std::alloc::Global;
 
 /// Writes the bytes of the tree of a Rust text.
@@ -64,6 +69,28 @@ pub extern "C" fn tt_bytes_to_text(
     }
 }
 
+/// Writes the texts of the tokens of the tree that has these bytes, in reading order, and words about the tokens.
+#[unsafe(no_mangle)]
+pub extern "C" fn tt_bytes_to_tokens(
+    alloc: Global,
+    bytes: &[u8],
+    out: &mut [u8],
+    written: &mut usize,
+    tokens: &mut [usize],
+    found: &mut usize,
+    at: &mut usize,
+) -> u32
+    ensures { AnswersBoth (AreTokensIn bytes.now) (HaveNoTokens bytes.now) out.old out.new tokens.old tokens.new written.new found.new at.new result }
+{
+    match tokens_of_bytes(alloc, bytes) {
+        Ok(made) => give_both(&made, out, written, tokens, found, at),
+        Err(failure) => {
+            *found = 0;
+            tell(failure, written, at)
+        }
+    }
+}
+
 /// Writes the text in which each call of a macro in scope is replaced by its expansion, with the usual options.
 #[unsafe(no_mangle)]
 pub extern "C" fn tt_expand_text(
@@ -89,6 +116,7 @@ pub extern "C" fn tt_expand_text_with(
     text: &[u8],
     root: &[u8],
     only: &[u8],
+    cfg: &[u8],
     everywhere: u32,
     limit: usize,
     max_tokens: usize,
@@ -98,12 +126,13 @@ pub extern "C" fn tt_expand_text_with(
     found: &mut usize,
     at: &mut usize,
 ) -> u32
-    ensures { let asked = asked_for root.now only.now everywhere limit max_tokens in
+    ensures { let asked : Asked = record { root = root.entry; only = only.entry; cfg = cfg.entry; everywhere = everywhere; limit = limit; max_tokens = max_tokens } in
         AnswersBoth (IsListed text.now asked) (IsNotListed text.now asked) out.old out.new findings.old findings.new written.new found.new at.new result }
 {
     let asked = Asked {
         root,
         only,
+        cfg,
         everywhere,
         limit,
         max_tokens,

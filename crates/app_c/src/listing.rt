@@ -49,8 +49,8 @@ fn detail_of(fault: MacroFault) -> usize
 }
 
 impl Listing {
-    // Returns a listing of nothing.
-    fn new(alloc: Global) -> Listing
+    /// Returns a listing of nothing.
+    pub(crate) fn new(alloc: Global) -> Listing
         ensures bytes { result.bytes.items ≡ [] }
         ensures words { result.words.items ≡ [] }
     {

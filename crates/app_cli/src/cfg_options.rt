@@ -2,54 +2,22 @@
 use crate::arguments::{cfg_file_of, cfgs_of};
 use crate::failure::Failure;
 use crate::input::Input;
-use crate::options::is_name;
 use clap::ArgMatches;
 use expand_items::CfgOptions;
-
-// A name, or a key with a value.
-#[derive(Clone, Copy)]
-enum CfgText<'a> {
-    Flag(&'a str),
-    KeyValue(&'a str, &'a str),
-}
-
-// Returns the name in a text with white space around it: a raw name is the same name.
-fn name_in(text: &str) -> Option<&str> {
-    let text = text.trim();
-    let name = text.strip_prefix("r#").unwrap_or(text);
-    if is_name(name) { Some(name) } else { None }
-}
-
-// Returns the value in a text with white space around it: what is between two quotes, without quotes and escapes.
-fn value_in(text: &str) -> Option<&str> {
-    let value = text.trim().strip_prefix("\"")?.strip_suffix("\"")?;
-    if value.contains("\"") || value.contains("\\") {
-        None
-    } else {
-        Some(value)
-    }
-}
-
-// Returns what a text says, as rustc reads it: `NAME` or `NAME="VALUE"`.
-fn cfg_text(text: &str) -> Option<CfgText<'_>> {
-    match text.split_once("=") {
-        None => Some(CfgText::Flag(name_in(text)?)),
-        Some((key, value)) => Some(CfgText::KeyValue(name_in(key)?, value_in(value)?)),
-    }
-}
+use syntax_cfg::{Cfg, cfg_in};
 
 // Adds what is true.
-fn insert(rt: &HostRuntime, options: &mut CfgOptions, it: CfgText<'_>) -> Result<(), Failure> {
-    match it {
-        CfgText::Flag(name) => options.insert_flag(rt.alloc(), name)?,
-        CfgText::KeyValue(key, value) => options.insert_key_value(rt.alloc(), key, value)?,
+fn insert(rt: &HostRuntime, options: &mut CfgOptions, it: Cfg<'_>) -> Result<(), Failure> {
+    match it.value {
+        None => options.insert_flag(rt.alloc(), it.name)?,
+        Some(value) => options.insert_key_value(rt.alloc(), it.name, value)?,
     }
     Ok(())
 }
 
 // Adds the value of an option `--cfg`.
 fn insert_value(rt: &HostRuntime, options: &mut CfgOptions, value: &str) -> Result<(), Failure> {
-    let Some(it) = cfg_text(value) else {
+    let Some(it) = cfg_in(value) else {
         let message = format!(in rt.alloc();
             "{value:?} is no NAME and no NAME=\"VALUE\", as --cfg wants one"
         )?;
@@ -66,7 +34,7 @@ fn insert_line(
     number: usize,
     line: &str,
 ) -> Result<(), Failure> {
-    let Some(it) = cfg_text(line) else {
+    let Some(it) = cfg_in(line) else {
         let message = format!(in rt.alloc();
             "{name}:{number}: {line:?} is no NAME and no NAME=\"VALUE\""
         )?;

@@ -5,7 +5,8 @@ use crate::recursion_limit::recursion_limit;
 use clap::ArgMatches;
 use expand_items::CfgOptions;
 use expand_text::{ExpandOptions, USUAL_LIMIT, USUAL_MAX_TOKENS};
-use syntax_lex::{MOST_TEXT_BYTES, TokenKind, first_token};
+use syntax_cfg::is_name;
+use syntax_lex::MOST_TEXT_BYTES;
 
 /// The options for the expansion of texts.
 #[derive(Clone, Copy)]
@@ -29,15 +30,6 @@ fn limit_in(text: &str) -> usize {
         Some(limit) => limit.clamp(1, MOST_LIMIT as usize),
         None => USUAL_LIMIT,
     }
-}
-
-/// Returns whether a text is one name of Rust, and not raw.
-pub fn is_name(text: &str) -> bool {
-    if text.is_empty() || text.len() > MOST_TEXT_BYTES {
-        return false;
-    }
-    let token = first_token(text);
-    token.kind == TokenKind::Ident && token.len as usize == text.len()
 }
 
 // Refuses a value of an option if that name is none.

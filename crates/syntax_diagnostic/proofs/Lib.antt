@@ -1,5 +1,6 @@
--- Lemmas on characters, places and marks.
+-- Lemmas on characters, places, marks and widths.
 pub mod CharFacts
 pub mod MarkFacts
 pub mod PlaceFacts
+pub mod WidthFacts
 pub mod WindowFacts

@@ -17,10 +17,14 @@ abbrev pub spot_width : Option Spot → ℕ
 spot_width None = 1
 spot_width (Some spot) = number_width spot.place.line
 
+-- how many columns the number of a note's line takes
+abbrev pub note_width : PlacedNote → ℕ
+note_width note = number_width note.spot.place.line
+
 -- how many columns the longest number of a line takes: those of the notes, or that many
 abbrev pub widest : (width : ℕ) → List PlacedNote → ℕ
 widest width [] = width
-widest width (note ∷ notes) = widest (max width (number_width note.spot.place.line)) notes
+widest width (note ∷ notes) = max (note_width note) (widest width notes)
 
 abbrev pub width_of : Diagnostic → ℕ
 width_of diagnostic = widest (spot_width diagnostic.spot) diagnostic.placed_notes.items

@@ -1,0 +1,3 @@
+-- Lemmas on names, and what the definitions compute.
+pub mod NameFacts
+mod Rows
