@@ -28,4 +28,5 @@ pub use macros::{Expansions, MacroFault, expand_both};
 pub use rewriting::transform;
 pub use siblings::{pass_one, take_at};
 pub use tokens::{count_tokens, mentions};
+pub use tree_walk::walk_first;
 pub use walk::crossed_by_walk;
