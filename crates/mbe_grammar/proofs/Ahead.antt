@@ -1,5 +1,5 @@
 -- What is ahead of a derivation is passed event by event.
-use Rattle.std.proofs.Common.{◌≡◌, ◌+◌, ◌^◌, ◌<◌, ◌≤◌, ℕ, suc, zero, true, List, [], ◌∷◌, ◌++◌, drop, length, map, take, Option, None, Some, refl, sym, subst, ap, ap₂, ◌∙◌, arith}
+use Rattle.std.proofs.Common.{◌≡◌, ◌+◌, ◌^◌, ◌<◌, ◌≤◌, ℕ, suc, zero, true, List, [], ◌∷◌, ◌++◌, drop, length, map, take, Option, None, Some, refl, sym, subst, ap, ap₂, ◌∙◌, append_assoc, arith}
 use Rattle.std.proofs.Math.Seq.{drop-append_seam, take-append_seam}
 use Rattle.std.specs.Prelude.{slice_get}
 use Rattle.tt.specs.Types.Span.{Span}
@@ -15,7 +15,7 @@ use Rattle.mbe_grammar.specs.declared.event.Event.TheVariants as event
 use Rattle.mbe_grammar.specs.declared.event.Level.{Level}
 use Rattle.mbe_grammar.specs.declared.rule.Rule.{Rule}
 use Rattle.mbe_grammar.specs.Derivations.{Place, place}
-use Rattle.mbe_grammar.specs.Deriving.{Gives, Stops, StopsBehind, GivesFrom, StopsFrom, steps_of, IsRead, IsNext, IsEntered, left_by, behind_level}
+use Rattle.mbe_grammar.specs.Deriving.{Gives, Stops, StopsBehind, GivesFrom, StopsFrom, steps_of, IsRead, IsNext, IsEntered, left_by, behind_level, plain_event}
 use Rattle.mbe_grammar.specs.Left.{Left, ahead_in, around, inside, stopped}
 use Rattle.mbe_grammar.specs.Left as left
 
@@ -25,6 +25,24 @@ Passes rules level left it after behind =
     ((events : List Event) → GivesFrom rules after behind events → GivesFrom rules level left (it ∷ events))
     × ((at : Place) → StopsFrom rules after behind at → StopsFrom rules level left at)
     × (steps_of after behind < steps_of level left)
+
+-- these events are passed, from one state of a derivation to another
+abbrev pub Brings : (rules : List Rule) → Option Level → List Left → (passed : List Event) → Option Level → List Left → Type 0
+Brings rules level left passed after behind =
+    ((events : List Event) → GivesFrom rules after behind events → GivesFrom rules level left (passed ++ events))
+    × ((at : Place) → StopsFrom rules after behind at → StopsFrom rules level left at)
+    × (steps_of after behind ≤ steps_of level left)
+
+pub brings_none : (rules : List Rule) (level : Option Level) (left : List Left) → Brings rules level left [] level left
+brings_none rules level left = (λ events g. g, λ at s. s, omega arith)
+
+pub brings_more : (rules : List Rule) (level mid after : Option Level) (left between behind : List Left) (passed : List Event) (it : Event)
+    → Brings rules level left passed mid between → Passes rules mid between it after behind → Brings rules level left (passed ++ it ∷ []) after behind
+brings_more rules level mid after left between behind passed it b p = (
+  λ events g. subst (GivesFrom rules level left) (sym (append_assoc passed (it ∷ []) events)) (b.0 (it ∷ events) (p.0 events g)),
+  λ at s. b.1 at (p.1 at s),
+  omega (arith, b.2, p.2),
+)
 
 module _ (rules : List Rule) (others : List Left) where
   -- The next is an entry that needs no reading, or the end of a subtree.
@@ -79,6 +97,25 @@ module _ (rules : List Rule) (log : List Noted) (since at further : ℕ) (stop :
   entry_passed level none it is e p =
       subst (λ v. Passes rules v (left_by v log (record { since = since; next = at; stop = stop }) older) e v (left_by v log (record { since = since; next = further; stop = stop }) older)) (sym none)
       (subst (λ l. Passes rules None l e None (ahead_in log since further stop older)) (sym (ahead_at it is)) p)
+
+  -- the event is passed with the next entry
+  abbrev OverOne : Option Level → Event → Type 0
+  OverOne level e =
+      Passes rules level (left_by level log (record { since = since; next = at; stop = stop }) older) e level (left_by level log (record { since = since; next = further; stop = stop }) older)
+
+  plain_by : (level : Option Level) → level ≡ None → (o : Option Noted) → slice_get log at ≡ o → (e : Event) → plain_event o ≡ Some e → OverOne level e
+  plain_by level none None is e h = absurd (cc h)
+  plain_by level none (Some (noted.Enter name)) is e h =
+      let same : event.Enter name ≡ e = cc h in subst (OverOne level) same (entry_passed level none (noted.Enter name) is (event.Enter name) (passes_enter rules (ahead_in log since further stop older) name))
+  plain_by level none (Some noted.Leave) is e h =
+      let same : event.Leave ≡ e = cc h in subst (OverOne level) same (entry_passed level none noted.Leave is event.Leave (passes_leave rules (ahead_in log since further stop older)))
+  plain_by level none (Some (noted.Unit count)) is e h =
+      let same : event.Token count ≡ e = cc h in subst (OverOne level) same (entry_passed level none (noted.Unit count) is (event.Token count) (passes_unit rules (ahead_in log since further stop older) count))
+  plain_by level none (Some (noted.Holds trees close name)) is e h = absurd (cc h)
+
+  -- An entry that is no subtree is passed with its event.
+  pub plain_passed : (level : Option Level) → level ≡ None → (e : Event) → plain_event (slice_get log at) ≡ Some e → OverOne level e
+  plain_passed level none e h = plain_by level none (slice_get log at) refl e h
 
   -- A subtree is opened.
   pub subtree_opened : (level : Option Level) → level ≡ None → (it : Level) (close : Span) → it.close ≡ Some close → slice_get log at ≡ Some (noted.Holds it.trees close it.name)
@@ -153,6 +190,13 @@ next_behind old mid new level r (next.Refused at) n = r.2 (place at) n
 pub record Collects (Ahead : (events : List Event) → Type 0) (Stopped : Place → Type 0) (Whole : (events : List Event) → Type 0) (Refused : Place → Type 0) (events : List Event) : Type 0 where
   pub gives : (more : List Event) → Ahead more → Whole (events ++ more)
   pub stops : (at : Place) → Stopped at → Refused at
+
+-- the events that were passed so far, and were added to a list, with room in it for more
+pub record Adds (before after : List Event) (Brought : (passed : List Event) → Type 0) (Roomy : Type 0) : Type 0 where
+  pub passed : List Event
+  pub items : after ≡ before ++ passed
+  pub brings : Brought passed
+  pub room : Roomy
 
 -- the same if the events so far are dropped
 pub record Drops (Ahead : (events : List Event) → Type 0) (Stopped : Place → Type 0) (Whole : (events : List Event) → Type 0) (Refused : Place → Type 0) : Type 0 where

@@ -8,6 +8,7 @@ pub mod Decoding
 pub mod DeepReading
 pub mod Deriving
 pub mod EachWord
+pub mod Floor
 pub mod FragmentAnswers
 pub mod KindsOfTests
 pub mod KindsOfWordsAndPuncts
@@ -22,6 +23,7 @@ pub mod Noting
 pub mod OneAnswer
 pub mod OneDerivation
 pub mod Plain
+pub mod Prefixed
 pub mod Reached
 pub mod Reaching
 pub mod RustLaid

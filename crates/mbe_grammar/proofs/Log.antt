@@ -12,7 +12,7 @@ use Rattle.mbe_grammar.specs.Places.{position_of}
 use Rattle.mbe_grammar.specs.Running.{frame_of, room_of, left_in, frames_of, HasRoom, Extends}
 
 -- The front of an old log is the front of a log that extends it.
-take_part : (k : ℕ) (old new : List Entry) → k ≤ length old → Extends old new → take k new ≡ take k old
+pub take_part : (k : ℕ) (old new : List Entry) → k ≤ length old → Extends old new → take k new ≡ take k old
 take_part zero old new le e = refl
 take_part (suc k) [] new le e = absurd (omega (arith, le))
 take_part (suc k) (x ∷ old) [] le e = absurd (cc e)
@@ -21,7 +21,7 @@ take_part (suc k) (x ∷ old) (y ∷ new) le e =
     let others : take (length old) new ≡ old = cc e in
     ap (λ (h : Entry). h ∷ take k new) same ∙ ap (λ t. x ∷ t) (take_part k old new (omega (arith, le)) others)
 
-longer : (old new : List Entry) → Extends old new → length old ≤ length new
+pub longer : (old new : List Entry) → Extends old new → length old ≤ length new
 longer [] new e = omega arith
 longer (x ∷ old) [] e = absurd (cc e)
 longer (x ∷ old) (y ∷ new) e =
@@ -75,7 +75,7 @@ fits_new old new it e (inl is) = omega (arith, is, longer old new e)
 fits_new old new it e (inr is) = omega (arith, is)
 
 -- the length of the log when the frame began to wait
-left_length : (log : List Entry) (it : Frame) → room_of (length log) it ≤ length log → length (left_in log it) ≡ room_of (length log) it
+pub left_length : (log : List Entry) (it : Frame) → room_of (length log) it ≤ length log → length (left_in log it) ≡ room_of (length log) it
 left_length log (frame.InName since) le = length-take-le since log le
 left_length log (frame.InSequence second) le = refl
 left_length log (frame.InChoice other kept) le = length-take-le kept.taken log le

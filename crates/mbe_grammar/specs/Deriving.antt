@@ -1,5 +1,5 @@
 -- A derivation that is under way: what is left to read, and what comes of it.
-use Rattle.std.specs.Prelude.{◌≡◌, ◌⊎◌, ◌+◌, ◌*◌, ◌^◌, ◌++◌, ◌<◌, ℕ, suc, Bool, true, false, List, [], ◌∷◌, length, reverse, Option, None, Some}
+use Rattle.std.specs.Prelude.{◌≡◌, ◌⊎◌, ◌+◌, ◌*◌, ◌^◌, ◌++◌, ◌<◌, ◌≤◌, ℕ, suc, Bool, true, false, List, [], ◌∷◌, length, reverse, Option, None, Some}
 use Rattle.tt.specs.Forest.{size}
 use Rattle.tt.specs.Types.Span.{Span}
 use Rattle.tt.specs.Views.{trees_of}
@@ -107,6 +107,20 @@ IsNext old (next.Event it) new =
     ((events : List Event) → GivesAhead new events → GivesAhead old (it ∷ events)) × ((at : Place) → StopsAhead new at → StopsAhead old at) × (steps_ahead new < steps_ahead old)
 IsNext old next.End new = GivesAhead old []
 IsNext old (next.Refused level) new = StopsAhead old (place level)
+
+-- the event of an entry that is no subtree to be read
+abbrev pub plain_event : Option Entry → Option Event
+plain_event (Some (entry.Enter name)) = Some (event.Enter name)
+plain_event (Some entry.Leave) = Some event.Leave
+plain_event (Some (entry.Unit count)) = Some (event.Token count)
+plain_event (Some (entry.Holds trees close name)) = None
+plain_event None = None
+
+-- the next events of a derivation were added to a list, and it is then behind them
+abbrev pub IsPassed : (old : Derivation) → (before : List Event) → (new : Derivation) → (after : List Event) → Type 0
+IsPassed old before new after =
+    (passed : List Event) × (after ≡ before ++ passed) × ((events : List Event) → GivesAhead new events → GivesAhead old (passed ++ events))
+    × ((at : Place) → StopsAhead new at → StopsAhead old at) × (steps_ahead new ≤ steps_ahead old)
 
 -- the level that is read next was read, without an event; or its expression fails
 abbrev pub IsEntered : (old : Derivation) → Level → (yes : Bool) → (new : Derivation) → Type 0

@@ -1,12 +1,14 @@
 -- What a place of the machine is.
-use Rattle.std.specs.Prelude.{◌<◌, ℕ, List, length, map}
+use Rattle.std.specs.Prelude.{◌≡◌, ◌<◌, ℕ, List, length, map}
 use Rattle.tt.specs.Forest.{Forest}
 use Rattle.tt.specs.Gluing.{after_trees}
 use Rattle.tt.specs.Views.{trees_of}
 use Rattle.mbe_grammar.specs.declared.entry.Entry.{Entry as Noted}
 use Rattle.mbe_grammar.specs.declared.entry.Entry.TheVariants as noted
 use Rattle.mbe_grammar.specs.declared.units.Units.{Units}
+use Rattle.mbe_grammar.specs.Kinds.{kind_of}
 use Rattle.mbe_grammar.specs.Positions.{Entry, Position, enters, leaves, takes_unit, holds}
+use Rattle.mbe_grammar.specs.Units.{first_unit}
 
 -- the entry of the log
 abbrev pub entry : Noted → Entry
@@ -23,6 +25,6 @@ position_of trees log passed = record { passed = passed; rest = after_trees pass
 abbrev pub trees_in : Units → Forest
 trees_in units = trees_of units.trees
 
--- the unit after that many trees was decoded
+-- the unit after that many trees was decoded, and its kind is at hand
 abbrev pub IsDecoded : Units → (passed : ℕ) → Type 0
-IsDecoded units passed = passed < length units.reached.items
+IsDecoded units passed = (passed < length units.reached.items) × (units.kind ≡ kind_of (first_unit (after_trees passed (trees_in units))))

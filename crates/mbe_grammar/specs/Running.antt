@@ -69,6 +69,11 @@ abbrev pub HasRoom : (now : ℕ) → List Frame → Type 0
 HasRoom now [] = Unit {0}
 HasRoom now (frame ∷ older) = (room_of now frame ≤ now) × HasRoom (room_of now frame) older
 
+-- no frame cuts the log to fewer entries than that
+abbrev pub HasFloor : (floor now : ℕ) → List Frame → Type 0
+HasFloor floor now [] = floor ≤ now
+HasFloor floor now (frame ∷ older) = HasFloor floor (room_of now frame) older
+
 -- the old log is the front of the new one
 abbrev pub Extends : (old new : List Entry) → Type 0
 Extends old new = take (length old) new ≡ old

@@ -67,7 +67,7 @@ fn begin_name<'t>(
     log: &mut Vec<Entry<'t>>,
 ) -> Result<Begun, AllocError>
     ensures begun { IfOk result (λ it. begun_at (position_of (trees_in units.now) log.new.items here) it ≡ begun_name noting at other (position_of (trees_in units.now) log.old.items here)) }
-    ensures log { IfOk result (λ _. Extends log.old.items log.new.items) }
+    ensures log { Extends log.old.items log.new.items }
 {
     if !noting {
         return Ok(free(State::Reading(other)));
@@ -109,7 +109,7 @@ fn begin_sequence<'t>(
 ) -> Result<Begun, AllocError>
     requires decoded { IsDecoded units.now here.now }
     ensures begun { IfOk result (λ it. begun_at (position_of (trees_in units.old) log.new.items here.new) it ≡ begun_sequence noting (glance_at table.entry.known.now) first second (position_of (trees_in units.old) log.old.items here.old) (slice_get table.entry.rules.now first)) }
-    ensures log { IfOk result (λ _. Extends log.old.items log.new.items) }
+    ensures log { Extends log.old.items log.new.items }
     ensures same { trees_in units.new ≡ trees_in units.old }
     ensures decoded { IfOk result (λ _. IsDecoded units.new here.new) }
 {
@@ -175,7 +175,7 @@ pub(crate) fn begin<'t>(
 ) -> Result<Begun, AllocError>
     requires decoded { IsDecoded units.now here.now }
     ensures begun { IfOk result (λ it. begun_at (position_of (trees_in units.old) log.new.items here.new) it ≡ begun noting (glance_at table.entry.known.now) table.entry.rules.now at (position_of (trees_in units.old) log.old.items here.old)) }
-    ensures log { IfOk result (λ _. Extends log.old.items log.new.items) }
+    ensures log { Extends log.old.items log.new.items }
     ensures same { trees_in units.new ≡ trees_in units.old }
     ensures decoded { IfOk result (λ _. IsDecoded units.new here.new) }
 {

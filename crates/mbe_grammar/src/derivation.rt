@@ -1,11 +1,11 @@
 //! The derivation of trees: for each token the expressions that took it, at all depths.
-ghost use Rattle.std.specs.Prelude.{◌≡◌, ◌+◌, ◌^◌, ◌<◌, ◌≤◌, List, None, Some, if◌then◌else◌, length, option_map, reverse, vec_capacity, vec_len, IfOk, IfSome, OnErr};
+ghost use Rattle.std.specs.Prelude.{◌≡◌, ◌+◌, ◌^◌, ◌<◌, ◌≤◌, List, None, Some, if◌then◌else◌, length, option_map, reverse, slice_get, vec_capacity, vec_len, IfOk, IfSome, OnErr};
 ghost use Rattle.tt.specs.Views.{trees_of};
 ghost use Rattle.mbe_grammar.specs.declared.derivation.Open.{Open as OpenLevel};
 ghost use Rattle.mbe_grammar.specs.declared.entry.Entry.{Entry as EntryOf};
 ghost use Rattle.mbe_grammar.specs.declared.event.Event.{Event as EventOf};
 ghost use Rattle.mbe_grammar.specs.Derivations.{Derives, Refuses, IsDerived, TakesDeep, Place, whole, place};
-ghost use Rattle.mbe_grammar.specs.Deriving.{behind_level, IsRead, IsEntered, GivesAhead, StopsAhead, IsNext, IsSameAhead};
+ghost use Rattle.mbe_grammar.specs.Deriving.{behind_level, IsRead, IsEntered, GivesAhead, StopsAhead, IsNext, IsSameAhead, IsPassed, plain_event};
 ghost use Rattle.mbe_grammar.specs.Left.{around, inside};
 
 use crate::entry::Entry;
@@ -14,7 +14,6 @@ use crate::machine::{Frame, parse};
 use crate::table::Table;
 use crate::units::Units;
 use std::alloc::{AllocError, Global};
-use std::mem::swap;
 use tt::{Span, TokenTreesView};
 
 // For how many events there is room at first, for each token: about as many as source has.
@@ -55,7 +54,6 @@ pub(crate) struct Open<'t> {
 pub(crate) struct Room<'t> {
     units: Units<'t>,
     frames: Vec<Frame>,
-    log: Vec<Entry<'t>>,
 }
 
 // Returns the level if its expression stops before the end of its trees.
@@ -67,6 +65,7 @@ fn stop_of<'t>(ends: bool, it: Level<'t>) -> Option<Level<'t>>
 
 // Reads the trees of a level, and adds what its expression took to the log of the open levels. Returns the level as an open one; none if the
 // expression fails. If memory runs out, the log stays as it was.
+#[inline(never)]
 fn read<'t>(
     table: Table<'_>,
     it: Level<'t>,
@@ -77,33 +76,40 @@ fn read<'t>(
     ensures read { (older : List OpenLevel) → IfOk result (λ inner. IsRead table.entry.rules.now (place it.entry) (around log.old.items older) (option_map (λ o. inside log.new.items o older) inner)) }
     ensures err { OnErr result (log.new.items ≡ log.old.items) }
 {
-    room.log.reserve(it.trees.len())?;
-    room.log.truncate(0);
-    room.units.restart(it.trees);
-    let Some(to) = parse(
-        true,
-        table,
-        it.name,
-        &mut room.units,
-        &mut room.frames,
-        &mut room.log,
-    )?
-    else {
-        return Ok(None);
-    };
-    let stop = stop_of(room.units.is_at_end(to), it);
+    log.reserve(it.trees.len())?;
     let since = log.len();
-    let _taken = room.log.len();
-    if since == 0 {
-        swap(log, &mut room.log);
-    } else {
-        log.append(&mut room.log)?;
+    room.units.restart(it.trees);
+    let taken = parse(true, table, it.name, &mut room.units, &mut room.frames, log);
+    match taken {
+        Ok(Some(to)) => {
+            let stop = stop_of(room.units.is_at_end(to), it);
+            let _taken = log.len();
+            Ok(Some(Open {
+                since,
+                next: since,
+                stop,
+            }))
+        }
+        Ok(None) => Ok(None),
+        Err(error) => {
+            log.truncate(since);
+            Err(error)
+        }
     }
-    Ok(Some(Open {
-        since,
-        next: since,
-        stop,
-    }))
+}
+
+// Returns the event of the entry at that index of a log; none if there is no entry, or if it is a subtree that is to be read.
+#[inline(always)]
+fn plain_event(log: &[Entry<'_>], at: usize) -> Option<Event>
+    ensures event { result ≡ plain_event (slice_get log.now at) }
+    ensures within { IfSome result (λ _. at < length log.now) }
+{
+    match log.get(at) {
+        Some(Entry::Enter(name)) => Some(Event::Enter(*name)),
+        Some(Entry::Leave) => Some(Event::Leave),
+        Some(Entry::Unit(count)) => Some(Event::Token(*count)),
+        Some(Entry::Holds(_, _, _)) | None => None,
+    }
 }
 
 // Adds an open level to those around the level that is read next, if that is a subtree; nothing is around a file.
@@ -163,7 +169,6 @@ impl<'a, 't> Derivation<'a, 't> {
             room: Room {
                 units: Units::new(alloc, trees),
                 frames: Vec::new(alloc),
-                log: Vec::new(alloc),
             },
         }
     }
@@ -202,6 +207,24 @@ impl<'a, 't> Derivation<'a, 't> {
                 NextEvent::Event(Event::Close)
             }
         }
+    }
+
+    // Passes the entries of the innermost level before the next subtree that is to be read, and adds their events to the list. Passes nothing
+    // if a level is to be read before them.
+    fn pass_plain(&mut self, events: &mut Vec<Event>) -> Result<(), AllocError>
+        ensures { IfOk result (λ _. IsPassed self.old events.old.items self.new events.new.items) }
+    {
+        if self.level.is_some() {
+            return Ok(());
+        }
+        let mut at = self.inner.next;
+        events.reserve(self.log.len().saturating_sub(at))?;
+        while let Some(event) = plain_event(&self.log, at) {
+            events.push_reserved(event);
+            at += 1;
+        }
+        self.inner.next = at;
+        Ok(())
     }
 
     // Passes the next entry of the innermost level. No level is to be read before it.
@@ -258,6 +281,7 @@ pub fn derive<'t>(
     let mut events = Vec::with_capacity(alloc, trees.len().saturating_mul(EVENTS_OF_TOKEN))?;
     let mut derivation = Derivation::new(alloc, table, at, trees);
     loop {
+        derivation.pass_plain(&mut events)?;
         match derivation.next_event()? {
             NextEvent::Event(event) => events.push(event)?,
             NextEvent::End => return Ok(Derived::Whole(events)),
@@ -294,11 +318,7 @@ pub(crate) fn take_deep(
             stop: None,
         },
         around,
-        room: Room {
-            units,
-            frames,
-            log: Vec::new(alloc),
-        },
+        room: Room { units, frames },
     };
     loop {
         match derivation.next_event()? {

@@ -6,7 +6,7 @@ ghost use Rattle.mbe_grammar.specs.Machine.{resumed, IsStep};
 ghost use Rattle.mbe_grammar.specs.Parses.{Parses};
 ghost use Rattle.mbe_grammar.specs.Places.{position_of, trees_in, IsDecoded};
 ghost use Rattle.mbe_grammar.specs.Positions.{closed};
-ghost use Rattle.mbe_grammar.specs.Running.{answer_at, state_at, kept_at, frame_of, room_of, waiting_room, left_in, frames_of, HasRoom, Extends, waiting_at, next_at};
+ghost use Rattle.mbe_grammar.specs.Running.{answer_at, state_at, kept_at, frame_of, room_of, waiting_room, left_in, frames_of, HasRoom, HasFloor, Extends, waiting_at, next_at};
 
 use crate::begin::{begin, enter};
 use crate::entry::Entry;
@@ -126,7 +126,7 @@ fn come_back<'t>(
 fn close<'t>(since: usize, log: &mut Vec<Entry<'t>>) -> Result<(), AllocError>
     requires room { since ≤ length log.now.items }
     ensures closed { (trees : Forest) → (passed : ℕ) → IfOk result (λ _. position_of trees log.new.items passed ≡ closed true since (position_of trees log.old.items passed)) }
-    ensures log { IfOk result (λ _. Extends (take since log.old.items) log.new.items) }
+    ensures log { Extends (take since log.old.items) log.new.items }
 {
     if log.len() - since == 1 {
         log.truncate(since);
@@ -150,7 +150,7 @@ fn resume<'t>(
     requires decoded { IsDecoded units.now here.now }
     requires room { room_of (length log.now.items) frame ≤ length log.now.items }
     ensures state { IfOk result (λ state. state_at (position_of (trees_in units.old) log.new.items here.new) state ≡ resumed (glance_at table.entry.known.now) (frame_of (trees_in units.old) log.old.items frame) (answer_at (position_of (trees_in units.old) log.old.items here.old) ends)) }
-    ensures log { IfOk result (λ _. Extends (left_in log.old.items frame) log.new.items) }
+    ensures log { Extends (left_in log.old.items frame) log.new.items }
     ensures same { trees_in units.new ≡ trees_in units.old }
     ensures decoded { IfOk result (λ _. IsDecoded units.new here.new) }
 {
@@ -198,6 +198,8 @@ pub(crate) fn step<'t>(
     requires room { HasRoom (length log.now.items) (reverse frames.now.items) }
     ensures step { IfOk result (λ next. IsStep noting (glance_at table.entry.known.now) table.entry.rules.now (state_at (position_of (trees_in units.old) log.old.items here.old) state) (frames_of (trees_in units.old) log.old.items (reverse frames.old.items)) (next_at (position_of (trees_in units.old) log.new.items here.new) next) (frames_of (trees_in units.old) log.new.items (reverse frames.new.items))) }
     ensures room { IfOk result (λ _. HasRoom (length log.new.items) (reverse frames.new.items)) }
+    ensures floor { (floor : ℕ) → HasFloor floor (length log.old.items) (reverse frames.old.items) → IfOk result (λ _. HasFloor floor (length log.new.items) (reverse frames.new.items)) }
+    ensures kept { (floor : ℕ) → HasFloor floor (length log.old.items) (reverse frames.old.items) → take floor log.new.items ≡ take floor log.old.items }
     ensures same { trees_in units.new ≡ trees_in units.old }
     ensures decoded { IfOk result (λ _. IsDecoded units.new here.new) }
 {
@@ -217,7 +219,8 @@ pub(crate) fn step<'t>(
 }
 
 /// Reads the expression at that index of the table from the first tree on. Returns how many trees it takes, if it does not fail. If `noting`,
-/// then each name, each unit and each subtree that it took was added to the log, in order. Fails only if memory runs out.
+/// then each name, each unit and each subtree that it took was added to the log, in order. Keeps what was in the log before. Fails only if
+/// memory runs out.
 #[inline(always)]
 pub(crate) fn parse<'t>(
     noting: bool,
@@ -227,6 +230,7 @@ pub(crate) fn parse<'t>(
     frames: &mut Vec<Frame>,
     log: &mut Vec<Entry<'t>>,
 ) -> Result<Option<usize>, AllocError>
+    ensures log { Extends log.old.items log.new.items }
     ensures parses { IfOk result (λ answer. Parses noting table.entry.rules.now at (position_of (trees_in units.old) log.old.items 0) (option_map (position_of (trees_in units.old) log.new.items) answer)) }
     ensures same { trees_in units.new ≡ trees_in units.old }
     ensures decoded { IfOk result (λ answer. IfSome answer (λ passed. IsDecoded units.new passed)) }

@@ -21,6 +21,8 @@ pub(crate) struct Units<'t> {
     // the trees behind those that were reached
     behind: TokenTreesView<'t>,
     reached: Vec<Here<'t>>,
+    // the kind of the unit that was reached last
+    kind: u32,
     ghost fits: { size (trees_of trees) < 2 ^ 64 },
     ghost are_decoded: { AreDecoded (trees_of trees) reached.items (trees_of behind) } by { AreDecoded-prop (trees_of trees) reached.items (trees_of behind) },
 }
@@ -39,6 +41,7 @@ impl<'t> Units<'t> {
             trees,
             behind: trees,
             reached: Vec::new(alloc),
+            kind: 0,
         }
     }
 
@@ -50,6 +53,7 @@ impl<'t> Units<'t> {
             trees,
             behind: trees,
             reached: Vec::with_capacity(alloc, 8)?,
+            kind: 0,
         })
     }
 
@@ -80,7 +84,7 @@ impl<'t> Units<'t> {
         Ok(())
     }
 
-    /// Decodes the unit after that many trees, and those before it. Fails only if memory runs out.
+    /// Goes to the unit after that many trees, and decodes it and those before it if they were not. Fails only if memory runs out.
     #[inline(always)]
     pub fn reach(&mut self, passed: usize) -> Result<(), AllocError>
         ensures same { trees_in self.new ≡ trees_in self.old }
@@ -89,13 +93,14 @@ impl<'t> Units<'t> {
         while self.reached.len() <= passed {
             self.decode()?;
         }
+        self.kind = self.here(passed).kind;
         Ok(())
     }
 
-    // Returns the unit after that many trees.
+    // Returns the unit after that many trees, which was decoded.
     #[inline(always)]
     fn here(&self, passed: usize) -> Here<'t>
-        requires decoded { IsDecoded self.now passed }
+        requires within { passed < length self.now.reached.items }
         ensures { trees_of result.rest ≡ after_trees passed (trees_in self.now) }
     {
         self.reached[passed]
@@ -107,7 +112,7 @@ impl<'t> Units<'t> {
         requires decoded { IsDecoded self.now passed }
         ensures { result ≡ glance_at known.now at (position_of (trees_in self.now) [] passed) }
     {
-        look(known, at, self.here(passed).kind)
+        look(known, at, self.kind)
     }
 
     /// Returns whether no tree is left after that many.
@@ -130,7 +135,7 @@ impl<'t> Units<'t> {
     ) -> Result<bool, AllocError>
         requires decoded { IsDecoded self.now here.now }
         ensures answer { IfOk result (λ passes. answer_at (position_of (trees_in self.old) log.new.items here.new) passes ≡ takes noting test (position_of (trees_in self.old) log.old.items here.old)) }
-        ensures more { IfOk result (λ _. Extends log.old.items log.new.items) }
+        ensures more { Extends log.old.items log.new.items }
         ensures same { trees_in self.new ≡ trees_in self.old }
         ensures decoded { IfOk result (λ _. IsDecoded self.new here.new) }
     {

@@ -12,5 +12,5 @@ returns c =
     let items = c.args.self.now.reached.items in
     let it = c.index.result.now in
     let read : it ≡ get_or items c.args.passed it = search rules in
-    let is : slice_get items c.args.passed ≡ Some it = slice_get-get_or items c.args.passed it c.requires.decoded ∙ ap Some (sym read) in
+    let is : slice_get items c.args.passed ≡ Some it = slice_get-get_or items c.args.passed it c.requires.within ∙ ap Some (sym read) in
     decoded_at (trees_in c.args.self.now) (trees_of c.args.self.now.behind) items c.args.passed it c.args.self.now.are_decoded is
