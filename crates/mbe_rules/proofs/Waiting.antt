@@ -1,5 +1,5 @@
 -- The parts of several arms that wait.
-use Rattle.std.proofs.Common.{◌≡◌, ℕ, zero, suc, List, [], ◌∷◌, ◌++◌, map, drop, Some, None, refl, ap, sym, subst, ◌∙◌, append_assoc}
+use Rattle.std.proofs.Common.{◌≡◌, ℕ, zero, suc, List, [], ◌∷◌, ◌++◌, map, drop, Some, None, refl, sym, subst, append_assoc}
 use Rattle.std.specs.Prelude.{slice_get}
 use Rattle.tt.specs.Forest.{Forest}
 use Rattle.mbe_matcher.specs.Waiting.{AreWaiting}
