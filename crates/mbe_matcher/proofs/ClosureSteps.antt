@@ -68,11 +68,11 @@ may_label_at None trees h = absurd (cc h)
 may_label_at (Some place) trees h = may_label (label_of place.atom) trees h
 
 -- what is required is passed without a tree
-record IsPassedAtOnce (it : Label) (levels : List Forest) : Type 0 where
-  passes : Passes it levels
-  stays : onward it levels ≡ passed 0 levels
+pub record IsPassedAtOnce (it : Label) (levels : List Forest) : Type 0 where
+  pub passes : Passes it levels
+  pub stays : onward it levels ≡ passed 0 levels
 
-at_once : (it : Label) (trees : Forest) (outer : List Forest) → passes_nothing it trees ≡ true → IsPassedAtOnce it (trees ∷ outer)
+pub at_once : (it : Label) (trees : Forest) (outer : List Forest) → passes_nothing it trees ≡ true → IsPassedAtOnce it (trees ∷ outer)
 at_once (label.take which) trees outer h =
     record { passes = takes_it which.fragment trees h; stays = ap (λ n. passed n (trees ∷ outer)) (reach_none which.fragment trees h) }
 at_once (label.same its) trees outer h = absurd (cc h)
@@ -98,11 +98,11 @@ both_right : (a b : Bool) → (a && b) ≡ true → b ≡ true
 both_right true b h = h
 both_right false b h = absurd (cc h)
 
-module _ (places : List Place) (Last : Option Place → List Forest → Type 0) (Whole : List ℕ → Type 0) (trees : Forest) (outer : List Forest) where
+module _ (places : List Place) (Last : ℕ → List Forest → Type 0) (Whole : List ℕ → Type 0) (trees : Forest) (outer : List Forest) where
   abbrev levels : List Forest
   levels = trees ∷ outer
 
-  cover_one : (view : View) (old : List View) (olds : List Config) → (is_here trees view.wait ≡ true → (place : Place) → passes_nothing (label_of place.atom) trees ≡ true → Last (Some place) levels → ⊥)
+  cover_one : (view : View) (old : List View) (olds : List Config) → (is_here trees view.wait ≡ true → (at : ℕ) → passes_nothing_at (slice_get places at) trees ≡ true → Last at levels → ⊥)
       → Cover places Last Whole (threads levels old) (thread levels view ∷ olds)
       → Cover places Last Whole (threads levels (closure_one places trees view old)) olds
   cover_one view old olds goes_on cover = by (goes_at_once places trees view.at view.wait) refl
@@ -114,7 +114,7 @@ module _ (places : List Place) (Last : Option Place → List Forest → Type 0) 
           let is = at_once (label_of place.atom) trees outer h in
           cover_spread places Last Whole levels (delayed 0 view) 0 place.edges.items old olds
           (covering.cover_same Config (Leads places Last) IsMany Whole (threads levels old) olds (thread levels view) (fan 0 place.edges.items levels (delayed 0 view)) cover
-          (becomes_fan places Last levels view (here_is trees view.wait outer here) place found 0 levels is.stays is.passes (goes_on here place h)))
+          (becomes_fan places Last levels view (here_is trees view.wait outer here) place found 0 levels is.stays is.passes (goes_on here view.at (subst (λ at. passes_nothing_at at trees ≡ true) (sym found) h))))
 
       by : (b : Bool) → goes_at_once places trees view.at view.wait ≡ b
           → Cover places Last Whole (threads levels (cond b (spread (delayed 0 view) 0 (edges_of (slice_get places view.at)) old) (added view old))) olds
@@ -123,13 +123,13 @@ module _ (places : List Place) (Last : Option Place → List Forest → Type 0) 
           (both_right (is_here trees view.wait) (passes_nothing_at (slice_get places view.at) trees) h)
       by false h = cover_added places Last Whole levels view old olds (covering.cover_over Config (Leads places Last) IsMany Whole (threads levels old) olds (thread levels view) cover)
 
-  cover_all : (views old : List View) (olds : List Config) → AreGoingAtOnce Last levels trees views → Cover places Last Whole (threads levels old) (threads levels views ++ olds)
+  cover_all : (views old : List View) (olds : List Config) → AreGoingAtOnce places Last levels trees views → Cover places Last Whole (threads levels old) (threads levels views ++ olds)
       → Cover places Last Whole (threads levels (closure_all places trees views old)) olds
   cover_all [] old olds goes_on cover = cover
   cover_all (view ∷ views) old olds goes_on cover =
       cover_all views (closure_one places trees view old) olds (λ arrived. goes_on (inr arrived)) (cover_one view old (threads levels views ++ olds) (λ here. goes_on (inl here)) cover)
 
-  pub cover_closure : (n : ℕ) (views : List View) (olds : List Config) → AreGoingAtOnce Last levels trees views → Cover places Last Whole [] (threads levels views ++ olds)
+  pub cover_closure : (n : ℕ) (views : List View) (olds : List Config) → AreGoingAtOnce places Last levels trees views → Cover places Last Whole [] (threads levels views ++ olds)
       → Cover places Last Whole [] (threads levels (closure places trees n views) ++ olds)
   cover_closure zero views olds goes_on cover = cover
   cover_closure (suc n) views olds goes_on cover =

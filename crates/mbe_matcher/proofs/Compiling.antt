@@ -1,6 +1,5 @@
 -- The places of a pattern lead on exactly if the pattern takes trees.
 use Rattle.std.proofs.Common.{◌≡◌, ◌+◌, ℕ, suc, true, false, List, [], ◌∷◌, ◌++◌, length, refl, ap, sym, subst, arith, length-append}
-use Rattle.std.specs.Prelude.{Option}
 use Rattle.tt.specs.Forest.{Forest, end}
 use Rattle.tt.specs.Gluing.{after_trees}
 use Rattle.tt.specs.Moves.{after_tree}
@@ -97,7 +96,7 @@ module _ (places : List Place) (at : ℕ) (inner others : Pattern) (behind : Lis
         laid_right places (at + place_count inner) (at + place_count inner + separator_count separator) (separator_stops separator (entries at inner [])) behind_stops
         (omega (arith, length-separator separator (entries at inner []))) behind_round
 
-module _ (places : List Place) (Last : Option Place → List Forest → Type 0) where
+module _ (places : List Place) (Last : ℕ → List Forest → Type 0) where
   -- A separator leads to a round.
   from_separator : (at : ℕ) (it : Leaf) (others : List Leaf) (behind : List ℕ) (input rest : Forest) (outer : List Forest) (path : List ℕ)
       → AreLaid places at (separator_stops (it ∷ others) behind) → Separates (it ∷ others) input rest → Via places Last behind (rest ∷ outer) path

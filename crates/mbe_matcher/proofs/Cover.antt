@@ -27,8 +27,8 @@ module _ (places : List Place) (pattern : Pattern) (full : IsFull pattern) (laid
   -- An instance has its path.
   pub instance_reads : (reading : Reading) → IsInstance pattern input reading → ReadsAll places (starts_of pattern) input (path_of 0 pattern reading (0 ∷ []))
   instance_reads reading is =
-      of_via places Ends pattern input (path_of 0 pattern reading (0 ∷ []))
-      (from_reading places Ends 0 pattern (place_count pattern ∷ []) input reading end [] (0 ∷ []) full (laid_first places pattern laid) is ends)
+      of_via places (Ends places) pattern input (path_of 0 pattern reading (0 ∷ []))
+      (from_reading places (Ends places) 0 pattern (place_count pattern ∷ []) input reading end [] (0 ∷ []) full (laid_first places pattern laid) is ends)
     where
       ends : Reads places (place_count pattern) (end ∷ []) []
       ends = ends_by places (end ∷ []) (place_count pattern) last_stop (laid_last places pattern laid).0 refl refl
@@ -37,15 +37,15 @@ module _ (places : List Place) (pattern : Pattern) (full : IsFull pattern) (laid
   pub path_reads : (path : List ℕ) → ReadsAll places (starts_of pattern) input path
       → (reading : Reading) × IsInstance pattern input reading × (path ≡ path_of 0 pattern reading (0 ∷ []))
   path_reads path w =
-      elim (to_reading places Ends 0 pattern (place_count pattern ∷ []) [] input path full (laid_first places pattern laid) (to_via places Ends pattern input path w)) [
-        | inl found ↦ through found (via_one places Ends (found.rest ∷ []) (place_count pattern) found.tail found.via)
+      elim (to_reading places (Ends places) (λ at it trees outside. Unit {0}) (λ at stop trees outer arrived last. tt) 0 pattern (place_count pattern ∷ []) [] input path full (laid_first places pattern laid) (to_via places (Ends places) pattern input path w)) [
+        | inl found ↦ through found (via_one places (Ends places) (found.rest ∷ []) (place_count pattern) found.tail found.via)
         | inr halts ↦ absurd (halts.sooner halts.last)
       ]
     where
-      through : (found : Read places Ends 0 pattern (place_count pattern ∷ []) [] input path)
+      through : (found : Read places (Ends places) 0 pattern (place_count pattern ∷ []) [] input path)
           → (more : List ℕ) × (found.tail ≡ 0 ∷ more) × Reads places (place_count pattern) (found.rest ∷ []) more
           → (reading : Reading) × IsInstance pattern input reading × (path ≡ path_of 0 pattern reading (0 ∷ []))
-      through found (more, tail, reads) = elim (comes_by places Ends (found.rest ∷ []) (place_count pattern) last_stop (laid_last places pattern laid).0 more reads) [
+      through found (more, tail, reads) = elim (comes_by places (Ends places) (found.rest ∷ []) (place_count pattern) last_stop (laid_last places pattern laid).0 more reads) [
         | inl (none, ends) ↦
             let ended = ended_by places (found.rest ∷ []) (place_count pattern) last_stop (laid_last places pattern laid).0 ends in
             let over : found.rest ≡ end = cc ended.1 in (
@@ -53,7 +53,7 @@ module _ (places : List Place) (pattern : Pattern) (full : IsFull pattern) (laid
               subst (λ r. Takes pattern input found.reading r) over found.takes,
               found.is ∙ ap (path_of 0 pattern found.reading) (tail ∙ ap (λ p. 0 ∷ p) none),
             )
-        | inr (ended, v) ↦ absurd (via_none places Ends [] more v)
+        | inr (ended, v) ↦ absurd (via_none places (Ends places) [] more v)
       ]
 
   -- If there is no path, the input is no instance.

@@ -1,10 +1,11 @@
 -- Each path through the places of a pattern is the path of a reading, or ends in the pattern.
 use Rattle.std.proofs.Common.{◌≡◌, inl, inr, ◌+◌, ℕ, suc, List, [], ◌∷◌, ◌++◌, length, refl, ap, subst, ◌∙◌, arith}
-use Rattle.std.specs.Prelude.{◌⊎◌, Option}
+use Rattle.std.specs.Prelude.{◌⊎◌}
 use Rattle.tt.specs.Forest.{Forest, end}
 use Rattle.tt.specs.Gluing.{after_trees}
 use Rattle.tt.specs.Moves.{after_tree}
 use Rattle.tt.specs.Siblings.{children_of}
+use Rattle.mbe_matcher.specs.Labels.{Label}
 use Rattle.mbe_matcher.specs.Labels as label
 use Rattle.mbe_matcher.specs.declared.places.Place.{Place}
 use Rattle.mbe_matcher.specs.Compiled.{Stop, AreLaid, separator_count, place_count, entries, again, stops}
@@ -15,18 +16,17 @@ use Rattle.mbe_pattern.specs.Patterns.{Pattern, nothing, variable, token, subtre
 use Rattle.mbe_matcher.specs.Places.{Goes, Passes, left_in}
 use Rattle.mbe_matcher.specs.Readings.{done, took, held, Takes}
 use Rattle.mbe_matcher.proofs.Compiling.{laid_inside, laid_leave, laid_round, laid_separator, laid_behind}
-use Rattle.mbe_matcher.proofs.DecompilingRounds.{Read, Halts, halts_with, halts_at, to_rounds}
-use Rattle.mbe_matcher.proofs.Fronts.{whole_front}
+use Rattle.mbe_matcher.proofs.DecompilingRounds.{Read, Halts, IsNextWhere, halts_with, halts_at, to_rounds}
 use Rattle.mbe_matcher.proofs.Via.{Via, via_one, comes_by}
 
 -- There is a level outside.
 not_outermost : (a b : Forest) (o : List Forest) → a ∷ b ∷ o ≡ end ∷ [] → ⊥
 not_outermost a b o is = cc is
 
-module _ (places : List Place) (Last : Option Place → List Forest → Type 0) where
+module _ (places : List Place) (Last : ℕ → List Forest → Type 0) (Next : ℕ → Label → Forest → ℕ → Type 0) (next : IsNextWhere places Last Next) where
   -- a path leads through a pattern, or ends in it
   abbrev pub Found : (at : ℕ) (pattern : Pattern) (behind : List ℕ) (outer : List Forest) (input : Forest) (path : List ℕ) → Type 0
-  Found at pattern behind outer input path = Read places Last at pattern behind outer input path ⊎ Halts places Last (TakesUpTo pattern input (left_in outer))
+  Found at pattern behind outer input path = Read places Last at pattern behind outer input path ⊎ Halts places Last (TakesUpTo Next at pattern input (left_in outer))
 
   -- Each path that leads on from a pattern does one or the other.
   pub to_reading : (at : ℕ) (pattern : Pattern) (behind : List ℕ) (outer : List Forest) (input : Forest) (path : List ℕ)
@@ -55,13 +55,14 @@ module _ (places : List Place) (Last : Option Place → List Forest → Type 0) 
             less = λ e. omega (arith, found.shorter, ap length same);
           })
       on more same takes (inr halts) =
-          inr (halts_with places Last (TakesUpTo others (left_by it.fragment input) (left_in outer)) (TakesUpTo (variable it others) input (left_in outer)) (λ left up. inr (takes, up)) halts)
+          inr (halts_with places Last (TakesUpTo Next (suc at) others (left_by it.fragment input) (left_in outer)) (TakesUpTo Next at (variable it others) input (left_in outer))
+          (λ up. inr (takes, up)) halts)
 
       first : (more : List ℕ) × (path ≡ 0 ∷ more) × Goes places Last at (input ∷ outer) more
           → ((more : List ℕ) → Via places Last (entries (suc at) others behind) (left_by it.fragment input ∷ outer) more → Further more) → Found at (variable it others) behind outer input path
       first (more, same, goes) further = elim (comes_by places Last (input ∷ outer) at stop laid.0 more goes) [
         | inl (none, last) ↦
-            inr (halts_at places Last at (input ∷ outer) stop laid.0 (λ leave ended. cc leave) last (TakesUpTo (variable it others) input (left_in outer)) (inl refl))
+            inr (halts_at places Last at (input ∷ outer) stop laid.0 (λ leave ended. cc leave) last (TakesUpTo Next at (variable it others) input (left_in outer)) (inl (next at stop input outer laid.0 last)))
         | inr (takes, v) ↦ on more same takes (further more v)
       ]
   to_reading at (token its others) behind outer input path full laid via =
@@ -86,13 +87,14 @@ module _ (places : List Place) (Last : Option Place → List Forest → Type 0) 
             less = λ e. omega (arith, found.shorter, ap length same);
           })
       on more same like (inr halts) =
-          inr (halts_with places Last (TakesUpTo others (after_trees (length its) input) (left_in outer)) (TakesUpTo (token its others) input (left_in outer)) (λ left up. inr (like, up)) halts)
+          inr (halts_with places Last (TakesUpTo Next (suc at) others (after_trees (length its) input) (left_in outer)) (TakesUpTo Next at (token its others) input (left_in outer))
+          (λ up. inr (like, up)) halts)
 
       first : (more : List ℕ) × (path ≡ 0 ∷ more) × Goes places Last at (input ∷ outer) more
           → ((more : List ℕ) → Via places Last (entries (suc at) others behind) (after_trees (length its) input ∷ outer) more → Further more) → Found at (token its others) behind outer input path
       first (more, same, goes) further = elim (comes_by places Last (input ∷ outer) at stop laid.0 more goes) [
         | inl (none, last) ↦
-            inr (halts_at places Last at (input ∷ outer) stop laid.0 (λ leave ended. cc leave) last (TakesUpTo (token its others) input (left_in outer)) (inl refl))
+            inr (halts_at places Last at (input ∷ outer) stop laid.0 (λ leave ended. cc leave) last (TakesUpTo Next at (token its others) input (left_in outer)) (inl (next at stop input outer laid.0 last)))
         | inr (like, v) ↦ on more same like (further more v)
       ]
   to_reading at (subtree kind inner others) behind outer input path full laid via =
@@ -106,11 +108,11 @@ module _ (places : List Place) (Last : Option Place → List Forest → Type 0) 
       Further : List ℕ → Type 0
       Further more = Found (suc (suc at + place_count inner)) others behind outer (after_tree input) more
 
-      InnerUpTo : (left : ℕ) → Type 0
-      InnerUpTo left = TakesUpTo inner (children_of input) (left_in (after_tree input ∷ outer)) left
+      InnerUpTo : Type 0
+      InnerUpTo = TakesUpTo Next (suc at) inner (children_of input) (left_in (after_tree input ∷ outer))
 
-      UpTo : (left : ℕ) → Type 0
-      UpTo left = TakesUpTo (subtree kind inner others) input (left_in outer) left
+      UpTo : Type 0
+      UpTo = TakesUpTo Next at (subtree kind inner others) input (left_in outer)
 
       first : Stop
       first = record { label = label.enter kind; edges = entries (suc at) inner ((suc at + place_count inner) ∷ []) }
@@ -133,8 +135,8 @@ module _ (places : List Place) (Last : Option Place → List Forest → Type 0) 
             less = λ e. omega (arith, found.shorter, inside.shorter, ap length same, ap length tail);
           })
       out more same node inside after tail ended (inr halts) =
-          inr (halts_with places Last (TakesUpTo others (after_tree input) (left_in outer)) UpTo
-          (λ left up. inr (node, inr (inside.reading, subst (Takes inner (children_of input) inside.reading) ended inside.takes, up))) halts)
+          inr (halts_with places Last (TakesUpTo Next (suc (suc at + place_count inner)) others (after_tree input) (left_in outer)) UpTo
+          (λ up. inr (node, inr (inside.reading, subst (Takes inner (children_of input) inside.reading) ended inside.takes, up))) halts)
 
       leave_by : (more : List ℕ) → path ≡ 0 ∷ more → Passes (label.enter kind) (input ∷ outer)
           → (inside : Read places Last (suc at) inner ((suc at + place_count inner) ∷ []) (after_tree input ∷ outer) (children_of input) more)
@@ -147,7 +149,15 @@ module _ (places : List Place) (Last : Option Place → List Forest → Type 0) 
             | inl (none, last) ↦
                 inr (halts_at places Last (suc at + place_count inner) (inside.rest ∷ after_tree input ∷ outer) last_stop arrived
                 (λ leave ended. not_outermost inside.rest (after_tree input) outer ended) last UpTo
-                (inr (node, inl (whole_front inner (children_of input) inside.reading inside.rest (left_in (after_tree input ∷ outer)) inside.takes))))
+                (inr (
+                  node,
+                  inl (inr (
+                    inside.reading,
+                    inside.rest,
+                    inside.takes,
+                    next (suc at + place_count inner) last_stop inside.rest (after_tree input ∷ outer) arrived last,
+                  )),
+                )))
             | inr (ended, v) ↦ out more same node inside after tail ended (further after v)
           ]
 
@@ -156,14 +166,14 @@ module _ (places : List Place) (Last : Option Place → List Forest → Type 0) 
           → Found at (subtree kind inner others) behind outer input path
       within more same node (inl inside) further =
           leave_by more same node inside (via_one places Last (inside.rest ∷ after_tree input ∷ outer) (suc at + place_count inner) inside.tail inside.via) further
-      within more same node (inr halts) further = inr (halts_with places Last InnerUpTo UpTo (λ left up. inr (node, inl up)) halts)
+      within more same node (inr halts) further = inr (halts_with places Last InnerUpTo UpTo (λ up. inr (node, inl (inl up))) halts)
 
       enter : (more : List ℕ) × (path ≡ 0 ∷ more) × Goes places Last at (input ∷ outer) more
           → ((more : List ℕ) → Via places Last (entries (suc at) inner ((suc at + place_count inner) ∷ [])) (children_of input ∷ after_tree input ∷ outer) more → Inner more)
           → ((more : List ℕ) → Via places Last (entries (suc (suc at + place_count inner)) others behind) (after_tree input ∷ outer) more → Further more)
           → Found at (subtree kind inner others) behind outer input path
       enter (more, same, goes) inner_of further = elim (comes_by places Last (input ∷ outer) at first laid.0 more goes) [
-        | inl (none, last) ↦ inr (halts_at places Last at (input ∷ outer) first laid.0 (λ leave ended. cc leave) last UpTo (inl refl))
+        | inl (none, last) ↦ inr (halts_at places Last at (input ∷ outer) first laid.0 (λ leave ended. cc leave) last UpTo (inl (next at first input outer laid.0 last)))
         | inr (node, v) ↦ within more same node (inner_of more v) further
       ]
   to_reading at (repetition inner separator op others) behind outer input path full laid via =
@@ -171,7 +181,7 @@ module _ (places : List Place) (Last : Option Place → List Forest → Type 0) 
       let next_edges = again at inner separator op ++ entries after others behind in
       let sooner = laid_round places at inner others behind separator op laid in
       let later = laid_behind places at inner others behind separator op laid in
-      to_rounds places Last at inner others behind outer separator op full.0 full.1 (laid_separator places at inner others behind separator op laid)
+      to_rounds places Last Next next at inner others behind outer separator op full.0 full.1 (laid_separator places at inner others behind separator op laid)
       (λ trees p v. to_reading at inner next_edges outer trees p full.1 sooner v)
       (λ trees p v. to_reading after others behind outer trees p full.2 later v)
       input path via

@@ -1,6 +1,5 @@
 -- What holds at the start.
 use Rattle.std.proofs.Common.{◌≡◌, inl, inr, ◌+◌, ℕ, false, List, [], ◌∷◌, ◌++◌, ap, sym, subst, ◌∙◌, arith}
-use Rattle.std.specs.Prelude.{Option}
 use Rattle.tt.specs.Forest.{Forest}
 use Rattle.mbe_matcher.specs.declared.places.Place.{Place}
 use Rattle.mbe_matcher.specs.Levels.{AreTwo}
@@ -13,7 +12,7 @@ use Rattle.mbe_matcher.proofs.Covering as covering
 abbrev pub outside : View
 outside = record { at = 0; wait = 0; is_many = false; trace = [] }
 
-module _ (places : List Place) (Last : Option Place → List Forest → Type 0) where
+module _ (places : List Place) (Last : ℕ → List Forest → Type 0) where
   -- At the start the edges from outside account for all paths.
   pub cover_start : (starts : List ℕ) (input : Forest) → Cover places Last (GoesAll places Last starts input) [] (threads (input ∷ []) (spread outside 0 starts []) ++ [])
   cover_start starts input =

@@ -1,45 +1,30 @@
--- How far a pattern comes at least.
-use Rattle.std.proofs.Common.{◌≡◌, inl, inr, ◌+◌, ℕ, zero, suc, List, ap}
+-- The first part of a pattern comes next at the beginning.
+use Rattle.std.proofs.Common.{◌≡◌, inl, inr, ◌+◌, ℕ, false, refl, sym, subst}
+use Rattle.std.specs.Prelude.{◌⊎◌}
 use Rattle.tt.specs.Forest.{Forest, size}
-use Rattle.tt.specs.Types.Leaf.{Leaf}
-use Rattle.mbe_pattern.specs.declared.pattern.RepeatKind.{RepeatKind}
-use Rattle.mbe_pattern.specs.Patterns.{Pattern, nothing, variable, token, subtree, repetition}
-use Rattle.mbe_matcher.specs.Fronts.{OtherRoundsUpTo, TakesUpTo}
-use Rattle.mbe_matcher.specs.Readings.{Reading, done, took, held, round, over, Takes, AreOtherRounds}
+use Rattle.mbe_matcher.specs.Compiled.{place_count}
+use Rattle.mbe_matcher.specs.Fronts.{ComesTo, EndsUpTo, HasLeft, TakesUpTo}
+use Rattle.mbe_matcher.specs.Readings.{done}
+use Rattle.mbe_pattern.specs.Patterns.{Pattern, nothing, variable, token, subtree, repetition, may_be_empty, IsFull}
 
--- Each pattern stops at its beginning, if nothing else.
-pub front_here : (pattern : Pattern) (input : Forest) (outside left : ℕ) → left ≡ size input + outside → TakesUpTo pattern input outside left
-front_here nothing input outside left is = is
-front_here (variable it others) input outside left is = inl is
-front_here (token its others) input outside left is = inl is
-front_here (subtree kind inner others) input outside left is = inl is
-front_here (repetition inner separator op others) input outside left is = inl is
+-- Each pattern that is not nothing has a first part.
+front_part : (at : ℕ) (pattern : Pattern) (input : Forest) (outside left : ℕ) → IsFull pattern → left ≡ size input + outside
+    → (pattern ≡ nothing) ⊎ TakesUpTo (HasLeft left) at pattern input outside
+front_part at nothing input outside left full is = inl refl
+front_part at (variable it others) input outside left full is = inr (inl is)
+front_part at (token its others) input outside left full is = inr (inl is)
+front_part at (subtree kind inner others) input outside left full is = inr (inl is)
+front_part at (repetition inner separator op others) input outside left full is = elim (front_part at inner input outside left full.1 is) [
+  | inl none ↦ absurd (empty inner none full.0)
+  | inr comes ↦ inr (inl (inl comes))
+]
+  where
+    empty : (inner : Pattern) → inner ≡ nothing → may_be_empty inner ≡ false → ⊥
+    empty inner none full = let filled : may_be_empty nothing ≡ false = subst (λ p. may_be_empty p ≡ false) none full in cc filled
 
--- Some number of rounds follows a round, and what follows them comes as far.
-module _ (op : RepeatKind) (separator : List Leaf) (One : Forest → Reading → Forest → Type 0) (Behind : Forest → Reading → Type 0) (Within BehindUpTo : Forest → Type 0)
-    (behind : (input : Forest) (more : Reading) → Behind input more → BehindUpTo input) where
-  others_front : (reading : Reading) (input : Forest) → AreOtherRounds op separator One Behind input reading
-      → (n : ℕ) × OtherRoundsUpTo op separator (λ trees rest. (this : Reading) × One trees this rest) Within BehindUpTo n input
-  others_front done input rounds = absurd rounds
-  others_front (took trees more) input rounds = absurd rounds
-  others_front (held inside more) input rounds = absurd rounds
-  others_front (round this others) input (start, rest, more, separates, one, rounds) =
-      let found = others_front others rest rounds in (suc found.0, (start, more, separates, inr (rest, (this, one), found.1)))
-  others_front (over more) input rounds = (zero, behind input more rounds)
-
--- If a pattern takes trees whole, it takes them up to the rest.
-pub whole_front : (pattern : Pattern) (input : Forest) (reading : Reading) (rest : Forest) (outside : ℕ) → Takes pattern input reading rest
-    → TakesUpTo pattern input outside (size rest + outside)
-whole_front nothing input reading rest outside takes = ap (λ trees. size trees + outside) takes.1
-whole_front (variable it others) input reading rest outside (more, is, taken, takes) = inr (taken, whole_front others _ more rest outside takes)
-whole_front (token its others) input reading rest outside (like, takes) = inr (like, whole_front others _ reading rest outside takes)
-whole_front (subtree kind inner others) input reading rest outside (inside, more, is, node, takes, further) =
-    inr (node, inr (inside, takes, whole_front others _ more rest outside further))
-whole_front (repetition inner separator op others) input done rest outside rounds = absurd rounds
-whole_front (repetition inner separator op others) input (took trees more) rest outside rounds = absurd rounds
-whole_front (repetition inner separator op others) input (held inside more) rest outside rounds = absurd rounds
-whole_front (repetition inner separator op others) input (round this more_rounds) rest outside (middle, takes, rounds) =
-    let found = others_front op separator (Takes inner) (λ trees more. Takes others trees more rest) (λ trees. TakesUpTo inner trees outside (size rest + outside))
-    (λ trees. TakesUpTo others trees outside (size rest + outside)) (λ trees more behind. whole_front others trees more rest outside behind) more_rounds middle rounds in
-    inr (inl (inr (found.0, middle, (this, takes), found.1)))
-whole_front (repetition inner separator op others) input (over more) rest outside (none, behind) = inr (inr (none, whole_front others input more rest outside behind))
+-- So the pattern stops at the beginning, if nothing else.
+pub front_here : (pattern : Pattern) (input : Forest) (left : ℕ) → IsFull pattern → left ≡ size input + 0 → ComesTo (HasLeft left) pattern input
+front_here pattern input left full is = elim (front_part 0 pattern input 0 left full is) [
+  | inl none ↦ inr (subst (λ p. EndsUpTo (HasLeft left) (place_count pattern) p input 0) (sym none) (done, input, (refl, refl), is))
+  | inr comes ↦ inl comes
+]

@@ -1,10 +1,9 @@
 -- Threads that are at their places.
-use Rattle.std.proofs.Common.{◌≡◌, inl, inr, ℕ, zero, suc, Bool, true, false, List, [], ◌∷◌, Some, refl, cond}
-use Rattle.std.specs.Prelude.{◌⊎◌, ◌&&◌, slice_get, Option}
+use Rattle.std.proofs.Common.{◌≡◌, inl, inr, ℕ, zero, suc, Bool, true, false, List, [], ◌∷◌, refl, cond}
+use Rattle.std.specs.Prelude.{◌⊎◌, ◌&&◌, slice_get}
 use Rattle.tt.specs.Forest.{Forest}
 use Rattle.mbe_matcher.specs.declared.places.Place.{Place}
-use Rattle.mbe_matcher.specs.Labels.{label_of}
-use Rattle.mbe_matcher.specs.Closures.{is_here, passes_nothing, passes_nothing_at, goes_at_once, closure_one, closure_all, closure}
+use Rattle.mbe_matcher.specs.Closures.{is_here, passes_nothing_at, goes_at_once, closure_one, closure_all, closure}
 use Rattle.mbe_matcher.specs.Threads.{View, meet, doubled, added, delayed, turned, spread, edges_of}
 
 -- a thread is at its place before these trees
@@ -12,13 +11,21 @@ abbrev pub HasArrived : Forest → List View → Type 0
 HasArrived trees [] = ⊥
 HasArrived trees (view ∷ views) = (is_here trees view.wait ≡ true) ⊎ HasArrived trees views
 
--- if a thread is at its place, paths do not end
-abbrev pub AreGoingOn : (Last : Option Place → List Forest → Type 0) → (levels : List Forest) → Forest → List View → Type 0
-AreGoingOn Last levels trees views = HasArrived trees views → (place : Option Place) → Last place levels → ⊥
+-- if a thread is at its place, no path ends there
+abbrev pub AreGoingOn : (Last : ℕ → List Forest → Type 0) → (levels : List Forest) → Forest → List View → Type 0
+AreGoingOn Last levels trees [] = Unit {0}
+AreGoingOn Last levels trees (view ∷ views) = (is_here trees view.wait ≡ true → Last view.at levels → ⊥) × AreGoingOn Last levels trees views
+
+-- That is so if no path ends at any place.
+pub going_on : (Last : ℕ → List Forest → Type 0) (levels : List Forest) (trees : Forest) (views : List View)
+    → (HasArrived trees views → (at : ℕ) → Last at levels → ⊥) → AreGoingOn Last levels trees views
+going_on Last levels trees [] never = tt
+going_on Last levels trees (view ∷ views) never = (λ here. never (inl here) view.at, going_on Last levels trees views (λ arrived. never (inr arrived)))
 
 -- paths do not end at a place that requires nothing either
-abbrev pub AreGoingAtOnce : (Last : Option Place → List Forest → Type 0) → (levels : List Forest) → Forest → List View → Type 0
-AreGoingAtOnce Last levels trees views = HasArrived trees views → (place : Place) → passes_nothing (label_of place.atom) trees ≡ true → Last (Some place) levels → ⊥
+abbrev pub AreGoingAtOnce : List Place → (Last : ℕ → List Forest → Type 0) → (levels : List Forest) → Forest → List View → Type 0
+AreGoingAtOnce places Last levels trees views =
+    HasArrived trees views → (at : ℕ) → passes_nothing_at (slice_get places at) trees ≡ true → Last at levels → ⊥
 
 module _ (trees : Forest) where
   -- A thread at its place after an addition is the added one, or was there before.

@@ -25,7 +25,7 @@ IsMany (fan turn edges levels view) = view.is_many ≡ true
 abbrev pub threads : List Forest → List View → List Config
 threads levels views = map (thread levels) views
 
-module _ (places : List Place) (Last : Option Place → List Forest → Type 0) where
+module _ (places : List Place) (Last : ℕ → List Forest → Type 0) where
   -- it leads to the path
   abbrev pub Leads : Config → List ℕ → Type 0
   Leads (thread levels view) path = (more : List ℕ) × (path ≡ view.trace ++ more) × Goes places Last view.at (passed view.wait levels) more
@@ -317,13 +317,13 @@ module _ (places : List Place) (Last : Option Place → List Forest → Type 0) 
     module _ (here : passed view.wait levels ≡ levels) where
       -- A thread whose place is passed is replaced by the edges of its place.
       pub becomes_fan : (place : Place) → slice_get places view.at ≡ Some place → (n : ℕ) (further : List Forest)
-          → onward (label_of place.atom) levels ≡ passed n further → Passes (label_of place.atom) levels → (Last (Some place) levels → ⊥)
+          → onward (label_of place.atom) levels ≡ passed n further → Passes (label_of place.atom) levels → (Last view.at levels → ⊥)
           → covering.Becomes Config Leads IsMany (thread levels view) (fan 0 place.edges.items further (delayed n view))
       becomes_fan place found n further on passes goes_on =
           record { goes = goes; comes = comes; many = (λ m. m, λ m. m) }
         where
           goes : (path : List ℕ) → Leads (thread levels view) path → Leads (fan 0 place.edges.items further (delayed n view)) path
-          goes path ([], is, reads) = absurd (goes_on (subst (λ at. Last at levels) found (subst (λ ls. Goes places Last view.at ls []) here reads)))
+          goes path ([], is, reads) = absurd (goes_on (subst (λ ls. Goes places Last view.at ls []) here reads))
           goes path (turn ∷ more, is, reads) =
               let same : turn ≡ 0 + turn = omega arith in (
                 turn,
@@ -344,12 +344,12 @@ module _ (places : List Place) (Last : Option Place → List Forest → Type 0) 
               )
 
       -- A thread whose place is not passed leads nowhere.
-      pub leads_nowhere : ((place : Place) → slice_get places view.at ≡ Some place → Passes (label_of place.atom) levels → ⊥) → ((place : Option Place) → Last place levels → ⊥)
+      pub leads_nowhere : ((place : Place) → slice_get places view.at ≡ Some place → Passes (label_of place.atom) levels → ⊥) → (Last view.at levels → ⊥)
           → (path : List ℕ) → Leads (thread levels view) path → ⊥
       leads_nowhere stuck goes_on path (more, is, reads) = by (slice_get places view.at) refl more (subst (λ ls. Goes places Last view.at ls more) here reads)
         where
           by : (at : Option Place) → slice_get places view.at ≡ at → (more : List ℕ) → Goes places Last view.at levels more → ⊥
-          by at found [] reads = goes_on (slice_get places view.at) reads
+          by at found [] reads = goes_on reads
           by None found (turn ∷ more) reads = subst (λ at. GoesOn at levels turn (λ to further. Goes places Last to further more)) found reads
           by (Some place) found (turn ∷ more) reads =
               stuck place found (subst (λ at. GoesOn at levels turn (λ to further. Goes places Last to further more)) found reads).0

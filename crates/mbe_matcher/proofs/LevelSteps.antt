@@ -46,10 +46,10 @@ calm_place places trees view place here calm found =
     by true b t e = e
     by false b t e = absurd (cc t)
 
-module _ (places : List Place) (Last : Option Place → List Forest → Type 0) (Whole : List ℕ → Type 0) (levels : List Forest) where
+module _ (places : List Place) (Last : ℕ → List Forest → Type 0) (Whole : List ℕ → Type 0) (levels : List Forest) where
   -- A thread is moved.
   cover_moved : (by : Move) (further : List Forest) (sound : (it : Label) → IsMoved by it → Passes it levels × (onward it levels ≡ passed (wait_of by it) further))
-      (view : View) (old : List View) (olds : List Config) → ((place : Option Place) → Last place levels → ⊥) → passed view.wait levels ≡ levels → IsMovedAt by (slice_get places view.at)
+      (view : View) (old : List View) (olds : List Config) → (Last view.at levels → ⊥) → passed view.wait levels ≡ levels → IsMovedAt by (slice_get places view.at)
       → Cover places Last Whole (threads further old) (thread levels view ∷ olds)
       → Cover places Last Whole (threads further (spread (delayed (wait_at by (slice_get places view.at)) view) 0 (edges_of (slice_get places view.at)) old)) olds
   cover_moved by further sound view old olds goes_on here moved cover = at (slice_get places view.at) refl moved
@@ -62,10 +62,10 @@ module _ (places : List Place) (Last : Option Place → List Forest → Type 0) 
           let is = sound (label_of place.atom) m in
           cover_spread places Last Whole further (delayed n view) 0 place.edges.items old olds
           (covering.cover_same Config (Leads places Last) IsMany Whole (threads further old) olds (thread levels view) (fan 0 place.edges.items further (delayed n view)) cover
-          (becomes_fan places Last levels view here place found n further is.1 is.0 (goes_on (Some place))))
+          (becomes_fan places Last levels view here place found n further is.1 is.0 goes_on))
 
   -- A thread whose place requires something else is dropped.
-  cover_stuck : (news : List Config) (view : View) (olds : List Config) → ((place : Option Place) → Last place levels → ⊥) → passed view.wait levels ≡ levels
+  cover_stuck : (news : List Config) (view : View) (olds : List Config) → (Last view.at levels → ⊥) → passed view.wait levels ≡ levels
       → ((place : Place) → slice_get places view.at ≡ Some place → Passes (label_of place.atom) levels → ⊥)
       → Cover places Last Whole news (thread levels view ∷ olds) → Cover places Last Whole news olds
   cover_stuck news view olds goes_on here stuck cover =
@@ -89,7 +89,7 @@ module _ (places : List Place) (Last : Option Place → List Forest → Type 0) 
       (nearer : (view : View) (old : List View) (olds : List Config) → is_waiting by view.wait ≡ true
       → Cover places Last Whole (threads further old) (thread levels view ∷ olds) → Cover places Last Whole (threads further (waited by view old)) olds) where
     cover_step : (view : View) (old new : List View) (olds : List Config) → goes_at_once places trees view.at view.wait ≡ false
-        → (is_here trees view.wait ≡ true → (place : Option Place) → Last place levels → ⊥) → Steps places by view old new
+        → (is_here trees view.wait ≡ true → Last view.at levels → ⊥) → Steps places by view old new
         → Cover places Last Whole (threads further old) (thread levels view ∷ olds) → Cover places Last Whole (threads further new) olds
     cover_step view old new olds calm goes_on (inl (waits, is)) cover =
         subst (λ views. Cover places Last Whole (threads further views) olds) (sym is) (nearer view old olds waits cover)
@@ -104,7 +104,7 @@ module _ (places : List Place) (Last : Option Place → List Forest → Type 0) 
         → Cover places Last Whole (threads further old) (threads levels views ++ olds) → Cover places Last Whole (threads further new) olds
     cover_steps [] old new olds calm goes_on is cover = subst (λ views. Cover places Last Whole (threads further views) olds) (sym is) cover
     cover_steps (view ∷ views) old new olds calm goes_on (middle, step, steps) cover =
-        cover_steps views middle new olds calm.1 (λ arrived. goes_on (inr arrived)) steps (cover_step view old middle (threads levels views ++ olds) calm.0 (λ here. goes_on (inl here)) step cover)
+        cover_steps views middle new olds calm.1 goes_on.1 steps (cover_step view old middle (threads levels views ++ olds) calm.0 goes_on.0 step cover)
 
   -- If some threads pass the first tree, and some enter it.
   module _ (before : Ahead) (kind : DelimiterKind) (behind inside : List Forest)
@@ -115,7 +115,7 @@ module _ (places : List Place) (Last : Option Place → List Forest → Type 0) 
       (here : (n : ℕ) → is_waiting (move.Passes before) n ≡ false → passed n levels ≡ levels)
       (arriving : (n : ℕ) → is_waiting (move.Passes before) n ≡ false → is_here trees n ≡ true)
       (nearer : (n : ℕ) → is_waiting (move.Passes before) n ≡ true → passed n levels ≡ passed (n - 1) behind) where
-    cover_here : (view : View) (old new old_in new_in : List View) (olds : List Config) → ((place : Option Place) → Last place levels → ⊥) → passed view.wait levels ≡ levels
+    cover_here : (view : View) (old new old_in new_in : List View) (olds : List Config) → (Last view.at levels → ⊥) → passed view.wait levels ≡ levels
         → ((place : Place) → slice_get places view.at ≡ Some place → passes_nothing (label_of place.atom) trees ≡ false)
         → StepsOn places (move.Passes before) view old new → StepsOn places (move.Enters kind) view old_in new_in
         → Cover places Last Whole (threads inside old_in) ((thread levels view ∷ olds) ++ threads behind old)
@@ -166,7 +166,7 @@ module _ (places : List Place) (Last : Option Place → List Forest → Type 0) 
     alike (suc n) = refl
 
     cover_either : (view : View) (old new old_in new_in : List View) (olds : List Config) → goes_at_once places trees view.at view.wait ≡ false
-        → (is_here trees view.wait ≡ true → (place : Option Place) → Last place levels → ⊥)
+        → (is_here trees view.wait ≡ true → Last view.at levels → ⊥)
         → Steps places (move.Passes before) view old new → Steps places (move.Enters kind) view old_in new_in
         → Cover places Last Whole (threads inside old_in) ((thread levels view ∷ olds) ++ threads behind old)
         → Cover places Last Whole (threads inside new_in) (olds ++ threads behind new)
@@ -184,8 +184,8 @@ module _ (places : List Place) (Last : Option Place → List Forest → Type 0) 
         subst (λ views. Cover places Last Whole (threads inside new_in) (olds ++ threads behind views)) (sym is)
         (subst (λ views. Cover places Last Whole (threads inside views) (olds ++ threads behind old)) (sym is_in) cover)
     cover_both (view ∷ views) old new old_in new_in olds calm goes_on (middle, step, steps) (middle_in, step_in, steps_in) cover =
-        cover_both views middle new middle_in new_in olds calm.1 (λ arrived. goes_on (inr arrived)) steps steps_in
-        (cover_either view old middle old_in middle_in (threads levels views ++ olds) calm.0 (λ here. goes_on (inl here)) step step_in cover)
+        cover_both views middle new middle_in new_in olds calm.1 goes_on.1 steps steps_in
+        (cover_either view old middle old_in middle_in (threads levels views ++ olds) calm.0 goes_on.0 step step_in cover)
 
 -- A thread that does not wait is at its place; one that waits is a tree nearer after the first.
 arrived_here : (before : Ahead) (trees : Forest) (outer : List Forest) (n : ℕ) → is_waiting (move.Passes before) n ≡ false → passed n (trees ∷ outer) ≡ trees ∷ outer
@@ -206,7 +206,7 @@ goes_nearer before trees outer (suc n) waits =
     let same : n ≡ suc n - 1 = omega arith in
     ap (λ k. passed k (after_tree trees ∷ outer)) same
 
-module _ (places : List Place) (Last : Option Place → List Forest → Type 0) (Whole : List ℕ → Type 0) where
+module _ (places : List Place) (Last : ℕ → List Forest → Type 0) (Whole : List ℕ → Type 0) where
   -- trees with a first tree are not the end
   leaf_no_end : (trees rest : Forest) (it : Leaf) → trees ≡ leaf it rest → trees ≡ end → ⊥
   leaf_no_end trees rest it is ended = cc (sym is ∙ ended)

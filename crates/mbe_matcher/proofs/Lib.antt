@@ -19,10 +19,13 @@ pub mod LeafSteps
 pub mod LevelSteps
 pub mod Levelling
 pub mod Logs
+pub mod Marking
+pub mod Missing
 pub mod OneReading
 pub mod ParseLevels
 pub mod ParseSteps
 pub mod ParseWhole
+pub mod Parts
 pub mod PathsBack
 pub mod Ranked
 pub mod Reaching

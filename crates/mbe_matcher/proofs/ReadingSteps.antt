@@ -7,7 +7,7 @@ use Rattle.mbe_matcher.specs.declared.places.Place.{Place}
 use Rattle.mbe_matcher.specs.declared.reading.Level.{Level}
 use Rattle.mbe_matcher.specs.declared.threads.Thread.{Thread}
 use Rattle.mbe_matcher.specs.declared.threads.Turn.{Turn}
-use Rattle.std.specs.Prelude.{◌⊎◌, Option}
+use Rattle.std.specs.Prelude.{◌⊎◌}
 use Rattle.mbe_matcher.specs.Levels.{LevelView, level_view, level_views, AreLevelsWithin, reached}
 use Rattle.mbe_matcher.specs.Places.{Ends, GoesAll, AreLeft, left_in}
 use Rattle.mbe_matcher.specs.Closures.{IsClosure}
@@ -21,7 +21,7 @@ use Rattle.mbe_matcher.proofs.HasArrived.{HasArrived}
 use Rattle.mbe_matcher.proofs.Stopping.{AreCounted, AreCovering, IsUpTo, AreUpTo, cover_here, cover_calm, reached_is}
 
 -- At the start the threads account for all wanted paths.
-pub cover_init : (places : List Place) (Last : Option Place → List Forest → Type 0) (starts : List ℕ) (input : TtIter) (log : List Turn) (its : List Thread) (levels : List Level) (level : Level)
+pub cover_init : (places : List Place) (Last : ℕ → List Forest → Type 0) (starts : List ℕ) (input : TtIter) (log : List Turn) (its : List Thread) (levels : List Level) (level : Level)
     → its ≡ threads_spread 0 false 0 0 starts [] → levels ≡ [] ++ level ∷ [] → rest_of level.rest ≡ rest_of input → level.threads.items ≡ its
     → Cover places Last (GoesAll places Last starts (rest_of input)) [] (configs_of (level_views log (reverse levels)))
 cover_init places Last starts input log its levels level spreads is rest same =
@@ -100,7 +100,7 @@ pub cover_first : (places : List Place) (starts : List ℕ) (input : TtIter) (lo
     → AreCovering places starts (rest_of input) 0 (level_views log (reverse levels))
 cover_first places starts input log its levels level spreads is rest until same =
     record {
-      whole = cover_init places Ends starts input log its levels level spreads is rest same;
+      whole = cover_init places (Ends places) starts input log its levels level spreads is rest same;
       stops = λ left less. cover_init places (AreLeft left) starts input log its levels level spreads is rest same;
       comes = (size (rest_of input), omega arith, inl refl);
       counted = subst (AreCounted (size (rest_of input))) (sym first) (omega (arith, until), omega (arith, until, ap size rest), tt);

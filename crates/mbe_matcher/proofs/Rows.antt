@@ -17,7 +17,7 @@ use Rattle.mbe_matcher.specs.Steps.{steps_of}
 use Rattle.mbe_matcher.specs.Compiled.{starts_of, all_stops}
 use Rattle.mbe_matcher.specs.GrammarReach.{is_block}
 use Rattle.mbe_matcher.specs.Fragments.{takes, taken, reach}
-use Rattle.mbe_matcher.specs.Fronts.{StopsAt, TakesUpTo}
+use Rattle.mbe_matcher.specs.Fronts.{ComesTo, HasLeft, StopsAt, Waits}
 use Rattle.mbe_pattern.specs.Patterns.{Pattern}
 use Rattle.mbe_matcher.specs.Readings.{Reading, done, took, held, round, over, IsInstance, IsNoInstance, IsReadBy, IsAmbiguous}
 use Rattle.mbe_pattern.specs.Placed.{pattern_of}
@@ -247,42 +247,127 @@ abbrev group : (inside rest : Forest) → Forest
 group inside rest = word (codes "a") (word (codes "d") (join (subtree Parenthesis inside) rest))
 
 stops_before_name : StopsAt grouped (word (codes "a") (comma end)) 1
-stops_before_name = record { left = 1; comes = inr ((refl, ((refl, refl), tt)), inl refl); least = least; place = refl }
+stops_before_name = record { left = 1; comes = inl (inr ((refl, ((refl, refl), tt)), inl refl)); least = least; place = refl }
   where
-    least : (other : ℕ) → TakesUpTo grouped (word (codes "a") (comma end)) 0 other → 1 ≤ other
-    least other (inl is) = omega (arith, is)
-    least other (inr (a, inl is)) = omega (arith, is)
-    least other (inr (a, inr (name, more))) = absurd (cc name)
+    least : (other : ℕ) → ComesTo (HasLeft other) grouped (word (codes "a") (comma end)) → 1 ≤ other
+    least other (inl (inl is)) = omega (arith, is)
+    least other (inl (inr (a, inl is))) = omega (arith, is)
+    least other (inl (inr (a, inr (name, more)))) = absurd (cc name)
+    least other (inr (reading, rest, (a, (more, is, name, takes)), next)) = absurd (cc name)
 
 stops_in_group : StopsAt grouped (group (word (codes "b") (comma end)) end) 4
 stops_in_group =
-    record { left = 1; comes = inr ((refl, ((refl, refl), tt)), inr (refl, inr (refl, inl (inr ((refl, ((refl, refl), tt)), inl refl))))); least = least; place = refl }
+    record {
+      left = 1;
+      comes = inl (inr ((refl, ((refl, refl), tt)), inr (refl, inr (refl, inl (inl (inr ((refl, ((refl, refl), tt)), inl refl)))))));
+      least = least;
+      place = refl;
+    }
   where
-    least : (other : ℕ) → TakesUpTo grouped (group (word (codes "b") (comma end)) end) 0 other → 1 ≤ other
-    least other (inl is) = omega (arith, is)
-    least other (inr (a, inl is)) = omega (arith, is)
-    least other (inr (a, inr (name, inl is))) = omega (arith, is)
-    least other (inr (a, inr (name, inr (node, inl (inl is))))) = omega (arith, is)
-    least other (inr (a, inr (name, inr (node, inl (inr (b, inl is)))))) = omega (arith, is)
-    least other (inr (a, inr (name, inr (node, inl (inr (b, inr (c, more))))))) = absurd c.1.0
-    least other (inr (a, inr (name, inr (node, inr (inside, (b, (c, all)), more))))) = absurd c.1.0
+    least : (other : ℕ) → ComesTo (HasLeft other) grouped (group (word (codes "b") (comma end)) end) → 1 ≤ other
+    least other (inl (inl is)) = omega (arith, is)
+    least other (inl (inr (a, inl is))) = omega (arith, is)
+    least other (inl (inr (a, inr (name, inl is)))) = omega (arith, is)
+    least other (inl (inr (a, inr (name, inr (node, inl (inl (inl is))))))) = omega (arith, is)
+    least other (inl (inr (a, inr (name, inr (node, inl (inl (inr (b, inl is)))))))) = omega (arith, is)
+    least other (inl (inr (a, inr (name, inr (node, inl (inl (inr (b, inr (c, more))))))))) = absurd c.1.0
+    least other (inl (inr (a, inr (name, inr (node, inl (inr (inside, rest, (b, (c, all)), next))))))) = absurd c.1.0
+    least other (inl (inr (a, inr (name, inr (node, inr (inside, (b, (c, all)), more)))))) = absurd c.1.0
+    least other (inr (reading, rest, (a, (more, is, name, (inside, further, same, node, (b, (c, all)), others))), next)) = absurd c.1.0
 
 -- It comes to the subtree's end, and beyond it.
-comes_to_end : TakesUpTo grouped (group (word (codes "b") (word (codes "c") (comma end))) end) 0 1
-comes_to_end = inr ((refl, ((refl, refl), tt)), inr (refl, inr (refl, inl (inr ((refl, ((refl, refl), tt)), inr ((refl, ((refl, refl), tt)), refl))))))
+abbrev beyond_c : Forest
+beyond_c = group (word (codes "b") (word (codes "c") (comma end))) end
 
-comes_behind : TakesUpTo grouped (group (word (codes "b") (word (codes "c") end)) (comma end)) 0 1
-comes_behind = inr ((refl, ((refl, refl), tt)), inr (refl, inr (refl, inr (done, ((refl, ((refl, refl), tt)), ((refl, ((refl, refl), tt)), (refl, refl))), refl))))
+abbrev beyond_group : Forest
+beyond_group = group (word (codes "b") (word (codes "c") end)) (comma end)
+
+comes_to_end : ComesTo (HasLeft 1) grouped beyond_c
+comes_to_end =
+    inl (inr ((refl, ((refl, refl), tt)), inr (refl, inr (refl, inl (inr (done, comma end, ((refl, ((refl, refl), tt)), ((refl, ((refl, refl), tt)), (refl, refl))), refl))))))
+
+comes_behind : ComesTo (HasLeft 1) grouped beyond_group
+comes_behind =
+    inr (_, comma end, ((refl, ((refl, refl), tt)), (_, refl, refl, (done, done, refl, refl, ((refl, ((refl, refl), tt)), ((refl, ((refl, refl), tt)), (refl, refl))), (refl, refl)))), refl)
+
+-- There its parts wait: the name is the part 1, `(` is 2, `b` is 3, `c` is 4, `)` is 5, and the end of the input is 6.
+name_waits : Waits grouped (word (codes "a") (comma end)) 1 1
+name_waits = (1, refl, inl (inr ((refl, ((refl, refl), tt)), inl (refl, refl, λ name. cc name))))
+
+subtree_waits : Waits grouped (word (codes "a") (word (codes "d") (comma end))) 2 2
+subtree_waits = (1, refl, inl (inr ((refl, ((refl, refl), tt)), inr (refl, inl (refl, refl, λ node. node)))))
+
+token_waits : Waits grouped (group (word (codes "b") (comma end)) end) 4 4
+token_waits = (1, refl, inl (inr ((refl, ((refl, refl), tt)), inr (refl, inr (refl, inl (inl (inr ((refl, ((refl, refl), tt)), inl (refl, refl, λ c. c.1.0)))))))))
+
+subtree_end_waits : Waits grouped beyond_c 5 5
+subtree_end_waits =
+    (1, refl, inl (inr ((refl, ((refl, refl), tt)), inr (refl, inr (refl, inl (inr (done, comma end, ((refl, ((refl, refl), tt)), ((refl, ((refl, refl), tt)), (refl, refl))), (refl, refl, λ ended. cc ended))))))))
+
+end_waits : Waits grouped beyond_group 5 6
+end_waits =
+    (1, refl, inr (_, comma end, ((refl, ((refl, refl), tt)), (_, refl, refl, (done, done, refl, refl, ((refl, ((refl, refl), tt)), ((refl, ((refl, refl), tt)), (refl, refl))), (refl, refl)))), (refl, refl, λ ended. cc ended)))
+
+-- The `)` that is there does not wait.
+subtree_end_there : Waits grouped beyond_group 5 5 → ⊥
+subtree_end_there (left, place, inl (inl (is, at, stuck))) = cc is
+subtree_end_there (left, place, inl (inr (a, inl (is, at, stuck)))) = cc is
+subtree_end_there (left, place, inl (inr (a, inr (name, inl (is, at, stuck))))) = cc is
+subtree_end_there (left, place, inl (inr (a, inr (name, inr (node, inl (inl (inl (is, at, stuck)))))))) = cc is
+subtree_end_there (left, place, inl (inr (a, inr (name, inr (node, inl (inl (inr (b, inl (is, at, stuck))))))))) = cc is
+subtree_end_there (left, place, inl (inr (a, inr (name, inr (node, inl (inl (inr (b, inr (c, more))))))))) = absurd more
+subtree_end_there (left, place, inl (inr (a, inr (name, inr (node, inl (inr (inside, rest, (b, (c, (finished, all))), (is, at, stuck)))))))) =
+    stuck all
+subtree_end_there (left, place, inl (inr (a, inr (name, inr (node, inr (inside, all, more)))))) = absurd more
+subtree_end_there (left, place, inr (reading, rest, whole, (is, at, stuck))) = cc is
 
 -- `$($x:ident +),*` comes beyond a separator, and into a round.
 abbrev added : Pattern
 added = pattern_of (rounds (var (codes "x") (codes "ident") (alone 43 end)) (comma (alone 42 end)))
 
-comes_behind_separator : TakesUpTo added (word (codes "a") (alone 43 (comma (comma end)))) 0 1
-comes_behind_separator = inr (inl (inr (1, _, (_, (_, refl, refl, ((refl, (refl, tt)), (refl, refl)))), (_, refl, ((refl, (refl, tt)), refl), inl (inl refl)))))
+comes_behind_separator : ComesTo (HasLeft 1) added (word (codes "a") (alone 43 (comma (comma end))))
+comes_behind_separator = inl (inl (inr (1, _, (_, (_, refl, refl, ((refl, (refl, tt)), (refl, refl)))), (_, refl, ((refl, (refl, tt)), refl), inl (inl refl)))))
 
-comes_into_round : TakesUpTo added (word (codes "a") (alone 43 (comma (word (codes "b") (comma end))))) 0 1
-comes_into_round = inr (inl (inr (1, _, (_, (_, refl, refl, ((refl, (refl, tt)), (refl, refl)))), (_, refl, ((refl, (refl, tt)), refl), inl (inr (refl, inl refl))))))
+comes_into_round : ComesTo (HasLeft 1) added (word (codes "a") (alone 43 (comma (word (codes "b") (comma end)))))
+comes_into_round = inl (inl (inr (1, _, (_, (_, refl, refl, ((refl, (refl, tt)), (refl, refl)))), (_, refl, ((refl, (refl, tt)), refl), inl (inr (refl, inl refl))))))
+
+-- After a separator another round waits with its first part. After a round wait the separator, which is the part 2, and the end of the input.
+round_waits : Waits added (word (codes "a") (alone 43 (comma (comma end)))) 3 0
+round_waits =
+    (1, refl, inl (inl (inr (1, _, (_, (_, refl, refl, ((refl, (refl, tt)), (refl, refl)))), (_, refl, ((refl, (refl, tt)), refl), inl (inl (refl, refl, λ name. cc name)))))))
+
+separator_waits : Waits added (word (codes "a") (alone 43 (word (codes "b") end))) 2 2
+separator_waits = (1, refl, inl (inl (inr (0, _, (_, (_, refl, refl, ((refl, (refl, tt)), (refl, refl)))), inl (refl, (refl, refl, λ comma. comma.1.0))))))
+
+rounds_end : Waits added (word (codes "a") (alone 43 (word (codes "b") end))) 2 3
+rounds_end = (1, refl, inr (round _ (over done), _, (_, (_, refl, refl, ((refl, (refl, tt)), (refl, refl))), (refl, refl)), (refl, refl, λ ended. cc ended)))
+
+-- `$($x:ident)* +`: after a round without a separator wait its first part and what follows.
+abbrev named : Pattern
+named = pattern_of (rounds (var (codes "x") (codes "ident") end) (alone 42 (alone 43 end)))
+
+again_waits : Waits named (word (codes "a") (comma end)) 1 0
+again_waits = (1, refl, inl (inl (inr (1, _, (_, (_, refl, refl, (refl, refl))), (_, refl, refl, inl (inl (refl, refl, λ name. cc name)))))))
+
+behind_waits : Waits named (word (codes "a") (comma end)) 1 1
+behind_waits = (1, refl, inl (inl (inr (0, _, (_, (_, refl, refl, (refl, refl))), inr (inl (refl, refl, λ plus. cc plus.1.0))))))
+
+-- A fragment that fails after its first tree waits before it: `$l:literal` before `-a`.
+literal_waits : Waits (pattern_of (var (codes "l") (codes "literal") end)) (alone 45 (word (codes "a") end)) 0 0
+literal_waits = (2, refl, inl (inl (refl, refl, λ literal. cc literal)))
+
+-- A visibility that takes nothing does not wait, and what follows it does: `$v:vis $x:ident` before `,`.
+abbrev viewed : Pattern
+viewed = pattern_of (var (codes "v") (codes "vis") (var (codes "x") (codes "ident") end))
+
+behind_nothing_waits : Waits viewed (comma end) 0 1
+behind_nothing_waits = (1, refl, inl (inr (refl, inl (refl, refl, λ name. cc name))))
+
+nothing_taken : Waits viewed (comma end) 0 0 → ⊥
+nothing_taken (left, place, inl (inl (is, at, stuck))) = stuck refl
+nothing_taken (left, place, inl (inr (vis, inl (is, at, stuck)))) = cc is
+nothing_taken (left, place, inl (inr (vis, inr (name, more)))) = more
+nothing_taken (left, place, inr (reading, rest, (more, same, vis, (others, alike, name, further)), next)) = cc
 
 -- No two of the three answers can hold of one input.
 module _ (pattern : Pattern) (input : Forest) where

@@ -1,6 +1,5 @@
 -- The places of a whole pattern, and the paths from its starts.
 use Rattle.std.proofs.Common.{ℕ, List, [], ◌∷◌, arith}
-use Rattle.std.specs.Prelude.{Option}
 use Rattle.tt.specs.Forest.{Forest}
 use Rattle.mbe_matcher.specs.Labels as label
 use Rattle.mbe_matcher.specs.declared.places.Place.{Place}
@@ -24,7 +23,7 @@ module _ (places : List Place) (pattern : Pattern) (laid : AreLaid places 0 (all
       laid_right places 0 (place_count pattern) (stops 0 pattern (place_count pattern ∷ [])) (last_stop ∷ []) (omega (arith, length-stops 0 pattern (place_count pattern ∷ []))) laid
 
 -- The wanted paths, in two forms.
-module _ (places : List Place) (Last : Option Place → List Forest → Type 0) (pattern : Pattern) (input : Forest) where
+module _ (places : List Place) (Last : ℕ → List Forest → Type 0) (pattern : Pattern) (input : Forest) where
   pub to_via : (path : List ℕ) → GoesAll places Last (starts_of pattern) input path → Via places Last (starts_of pattern) (input ∷ []) path
   to_via [] w = w
   to_via (turn ∷ more) w = w

@@ -2,7 +2,7 @@
 use Rattle.std.proofs.Common.{◌≡◌, ◌+◌, ◌-◌, ◌<◌, ◌≤◌, ◌∙◌, inl, inr, ℕ, Bool, true, false, List, [], ◌∷◌, ◌++◌, append-nil, length, drop, get_or, Some, None, refl, ap, ap₂, sym, subst, arith, cond}
 use Rattle.std.proofs.lemmas.List.{drop_more, drop_all}
 use Rattle.std.specs.Global.{Global}
-use Rattle.std.specs.Prelude.{◌⊎◌, ◌||◌, Vec, nat_eq}
+use Rattle.std.specs.Prelude.{◌⊎◌, ◌||◌, Vec, Option, nat_eq, slice_get}
 use Rattle.tt.specs.Forest.{Forest, end, size}
 use Rattle.tt.specs.Siblings.{is_end}
 use Rattle.mbe_matcher.specs.Labels.{Label, label_of}
@@ -13,15 +13,15 @@ use Rattle.mbe_matcher.specs.declared.reading.Choice.TheVariants as choice
 use Rattle.mbe_matcher.specs.declared.threads.Thread.{Thread}
 use Rattle.mbe_matcher.specs.declared.threads.Turn.{Turn}
 use Rattle.mbe_matcher.specs.Levels.{LevelView, Advances, IsEndedWith, AreStopped, Finds, choice_of, found_of, reached}
-use Rattle.mbe_matcher.specs.Places.{is_leave, Ends, ReadsAll, StopsAll, AreLeft, left_in}
-use Rattle.mbe_matcher.specs.Closures.{is_here, passes_nothing, AreClosed, IsClosure}
+use Rattle.mbe_matcher.specs.Places.{is_leave, IsLast, Ends, ReadsAll, StopsAll, AreLeft, left_in}
+use Rattle.mbe_matcher.specs.Closures.{is_here, passes_nothing, passes_nothing_at, AreClosed, IsClosure}
 use Rattle.mbe_matcher.specs.Threads.{View, view_of, views_of}
 use Rattle.mbe_matcher.proofs.Ending.{Says, says}
 use Rattle.mbe_matcher.proofs.Leading.{threads, Has, HasMany, Cover}
 use Rattle.mbe_matcher.proofs.LevelSteps.{configs_of, levels_of, cover_advances}
 use Rattle.mbe_matcher.proofs.Results.{less_or_not}
 use Rattle.mbe_matcher.proofs.ClosureSteps.{here_is, cover_closure}
-use Rattle.mbe_matcher.proofs.HasArrived.{HasArrived, AreGoingOn, AreGoingAtOnce, arrived_closed}
+use Rattle.mbe_matcher.proofs.HasArrived.{HasArrived, AreGoingOn, going_on, AreGoingAtOnce, arrived_closed}
 
 -- the levels, the innermost first, end where the tokens of the ones outside begin
 abbrev pub AreCounted : (total : ℕ) → List LevelView → Type 0
@@ -29,7 +29,7 @@ AreCounted total [] = Unit {0}
 AreCounted total (level ∷ outer) = (level.until + left_in (levels_of outer) ≡ total) × (size level.trees ≤ level.until) × AreCounted total outer
 
 -- Each step keeps them so.
-counted_on : (places : List Place) (total : ℕ) (level : LevelView) (outer news : List LevelView) → Advances places level outer news → AreCounted total (level ∷ outer) → AreCounted total news
+pub counted_on : (places : List Place) (total : ℕ) (level : LevelView) (outer news : List LevelView) → Advances places level outer news → AreCounted total (level ∷ outer) → AreCounted total news
 counted_on places total level outer news (inl is) counted =
     subst (AreCounted total) (sym is.news_are) (subst (AreCounted total) is.outer_is counted.2)
 counted_on places total level outer news (inr (inl is)) counted =
@@ -51,16 +51,22 @@ left_on places level outer news (inr (inr (inl is))) = omega (arith, ap (λ ls. 
 left_on places level outer news (inr (inr (inr is))) = omega (arith, ap (λ ls. left_in (levels_of ls)) is.news_are, ap size is.first)
 
 -- If a step is made, no path ends at the end of everything.
-no_end : (places : List Place) (level : LevelView) (outer news : List LevelView) → Advances places level outer news → AreGoingOn Ends (level.trees ∷ levels_of outer) level.trees level.views
-no_end places level outer news is arrived None ends = ends
-no_end places level outer news (inl is) arrived (Some place) ends =
+no_last : (places : List Place) (level : LevelView) (outer news : List LevelView) → Advances places level outer news
+    → (place : Option Place) → IsLast place (level.trees ∷ levels_of outer) → ⊥
+no_last places level outer news is None ends = ends
+no_last places level outer news (inl is) (Some place) ends =
     not_outermost (levels_of is.below) (subst (λ o. level.trees ∷ levels_of o ≡ end ∷ []) is.outer_is ends.1)
   where
     not_outermost : (below : List Forest) → level.trees ∷ is.next.trees ∷ below ≡ end ∷ [] → ⊥
     not_outermost below e = cc e
-no_end places level outer news (inr (inl is)) arrived (Some place) ends = let none : level.trees ≡ end = cc ends.1 in cc (sym is.first ∙ none)
-no_end places level outer news (inr (inr (inl is))) arrived (Some place) ends = let none : level.trees ≡ end = cc ends.1 in cc (sym is.first ∙ none)
-no_end places level outer news (inr (inr (inr is))) arrived (Some place) ends = let none : level.trees ≡ end = cc ends.1 in cc (sym is.first ∙ none)
+no_last places level outer news (inr (inl is)) (Some place) ends = let none : level.trees ≡ end = cc ends.1 in cc (sym is.first ∙ none)
+no_last places level outer news (inr (inr (inl is))) (Some place) ends = let none : level.trees ≡ end = cc ends.1 in cc (sym is.first ∙ none)
+no_last places level outer news (inr (inr (inr is))) (Some place) ends = let none : level.trees ≡ end = cc ends.1 in cc (sym is.first ∙ none)
+
+no_end : (places : List Place) (level : LevelView) (outer news : List LevelView) → Advances places level outer news
+    → AreGoingOn (Ends places) (level.trees ∷ levels_of outer) level.trees level.views
+no_end places level outer news is =
+    going_on (Ends places) (level.trees ∷ levels_of outer) level.trees level.views (λ arrived at. no_last places level outer news is (slice_get places at))
 
 -- A place that requires nothing is no end.
 asks_inside : (it : Label) (trees : Forest) → passes_nothing it trees ≡ true → is_leave it ≡ true → ⊥
@@ -69,8 +75,12 @@ asks_inside (label.same its) trees none leave = cc leave
 asks_inside (label.enter kind) trees none leave = cc leave
 asks_inside label.leave trees none leave = cc none
 
-no_end_at_once : (levels : List Forest) (trees : Forest) (views : List View) → AreGoingAtOnce Ends levels trees views
-no_end_at_once levels trees views arrived place none ends = asks_inside (label_of place.atom) trees none ends.0
+no_end_at_once : (places : List Place) (levels : List Forest) (trees : Forest) (views : List View) → AreGoingAtOnce places (Ends places) levels trees views
+no_end_at_once places levels trees views arrived at = by (slice_get places at)
+  where
+    by : (place : Option Place) → passes_nothing_at place trees ≡ true → IsLast place levels → ⊥
+    by None none ends = ends
+    by (Some place) none ends = asks_inside (label_of place.atom) trees none ends.0
 
 module _ (places : List Place) (starts : List ℕ) (input : Forest) where
   -- that many tokens precede the place where paths stop
@@ -79,7 +89,7 @@ module _ (places : List Place) (starts : List ℕ) (input : Forest) where
 
   -- what the threads of the levels account for, if some came up to a flat place
   pub record AreCovering (at : ℕ) (levels : List LevelView) : Type 0 where
-    pub whole : Cover places Ends (ReadsAll places starts input) [] (configs_of levels)
+    pub whole : Cover places (Ends places) (ReadsAll places starts input) [] (configs_of levels)
     pub stops : (left : ℕ) → at + left < size input → Cover places (AreLeft left) (StopsAll places left starts input) [] (configs_of levels)
     pub comes : Comes at
     pub counted : AreCounted (size input) levels
@@ -152,7 +162,8 @@ module _ (places : List Place) (starts : List ℕ) (input : Forest) where
 
     -- Paths do not stop before the place where the threads are.
     no_stop : IsUpTo at level outer → (left : ℕ) → at + left < size input → AreGoingOn (AreLeft left) (level.trees ∷ levels_of outer) level.trees level.views
-    no_stop up left less arrived place is = omega (arith, up arrived, less, is)
+    no_stop up left less =
+        going_on (AreLeft left) (level.trees ∷ levels_of outer) level.trees level.views (λ arrived at is. omega (arith, up arrived, less, is))
 
     module _ (cover : AreCovering at (level ∷ outer)) (up : IsUpTo at level outer) where
       -- Settled threads account for the same.
@@ -161,12 +172,12 @@ module _ (places : List Place) (starts : List ℕ) (input : Forest) where
       cover_calm views by = (
         record {
           whole =
-              subst (λ vs. Cover places Ends (ReadsAll places starts input) [] (threads levels vs ++ configs_of outer)) (sym by.same)
-              (cover_closure places Ends (ReadsAll places starts input) level.trees (levels_of outer) by.count level.views (configs_of outer) (no_end_at_once levels level.trees level.views) cover.whole);
+              subst (λ vs. Cover places (Ends places) (ReadsAll places starts input) [] (threads levels vs ++ configs_of outer)) (sym by.same)
+              (cover_closure places (Ends places) (ReadsAll places starts input) level.trees (levels_of outer) by.count level.views (configs_of outer) (no_end_at_once places levels level.trees level.views) cover.whole);
           stops = λ left less.
               subst (λ vs. Cover places (AreLeft left) (StopsAll places left starts input) [] (threads levels vs ++ configs_of outer)) (sym by.same)
               (cover_closure places (AreLeft left) (StopsAll places left starts input) level.trees (levels_of outer) by.count level.views (configs_of outer)
-              (λ arrived place none. no_stop up left less arrived (Some place)) (cover.stops left less));
+              (λ arrived at none is. omega (arith, up arrived, less, is)) (cover.stops left less));
           comes = cover.comes;
           counted = cover.counted;
           behind = cover.behind;
@@ -181,7 +192,7 @@ module _ (places : List Place) (starts : List ℕ) (input : Forest) where
       pub cover_on : (news : List LevelView) → AreClosed places level.trees level.views → Advances places level outer news → AreCovering at news
       cover_on news calm is =
           record {
-            whole = cover_advances places Ends (ReadsAll places starts input) level outer news calm (no_end places level outer news is) is cover.whole;
+            whole = cover_advances places (Ends places) (ReadsAll places starts input) level outer news calm (no_end places level outer news is) is cover.whole;
             stops = λ left less. cover_advances places (AreLeft left) (StopsAll places left starts input) level outer news calm (no_stop up left less) is (cover.stops left less);
             comes = cover.comes;
             counted = counted_on places (size input) level outer news is cover.counted;
@@ -193,8 +204,8 @@ module _ (places : List Place) (starts : List ℕ) (input : Forest) where
           → Says places (ReadsAll places starts input) log (choice_of places choice.Nothing its)
       says_ended log its calm is =
           says places (ReadsAll places starts input) log its level.trees is.is_ended (subst (AreClosed places level.trees) (sym is.views_are) calm)
-          (subst (λ vs. Cover places Ends (ReadsAll places starts input) [] (threads (level.trees ∷ []) vs ++ [])) (sym is.views_are)
-          (subst (λ ls. Cover places Ends (ReadsAll places starts input) [] (configs_of (level ∷ ls))) is.is_outermost cover.whole))
+          (subst (λ vs. Cover places (Ends places) (ReadsAll places starts input) [] (threads (level.trees ∷ []) vs ++ [])) (sym is.views_are)
+          (subst (λ ls. Cover places (Ends places) (ReadsAll places starts input) [] (configs_of (level ∷ ls))) is.is_outermost cover.whole))
 
       -- No path goes on from there.
       pub stopped_ended : (views : List View) → IsEndedWith level outer views → AreStopped (λ left. StopsAll places left starts input) (size input) at
@@ -249,7 +260,7 @@ module _ (places : List Place) (starts : List ℕ) (input : Forest) where
   pub none_covered : (at : ℕ) → AreCovering at [] → (path : List ℕ) → ReadsAll places starts input path → ⊥
   none_covered at cover path w = none (cover.whole.whole path w)
     where
-      none : (Has places Ends [] path ⊎ Has places Ends [] path) ⊎ (HasMany places Ends [] ⊎ HasMany places Ends []) → ⊥
+      none : (Has places (Ends places) [] path ⊎ Has places (Ends places) [] path) ⊎ (HasMany places (Ends places) [] ⊎ HasMany places (Ends places) []) → ⊥
       none (inl (inl h)) = h
       none (inl (inr h)) = h
       none (inr (inl m)) = m

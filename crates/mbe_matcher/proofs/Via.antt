@@ -5,7 +5,7 @@ use Rattle.tt.specs.Forest.{Forest, end}
 use Rattle.mbe_matcher.specs.declared.places.Place.{Place}
 use Rattle.mbe_matcher.specs.Compiled.{Stop, IsStop, AreLaid}
 use Rattle.mbe_matcher.specs.Paths.{shift}
-use Rattle.mbe_matcher.specs.Places.{Passes, onward, OnEdge, Ends, Goes, GoesOn, Reads, is_leave}
+use Rattle.mbe_matcher.specs.Places.{Passes, onward, OnEdge, IsLast, Ends, Goes, GoesOn, Reads, is_leave}
 
 module _ (places : List Place) where
   pub laid_left : (at : ℕ) (xs ys : List Stop) → AreLaid places at (xs ++ ys) → AreLaid places at xs
@@ -21,18 +21,18 @@ module _ (places : List Place) where
     pub ends_by : is_leave stop.label ≡ true → levels ≡ end ∷ [] → Reads places at levels []
     ends_by leave ended = by (slice_get places at) arrived
       where
-        by : (place : Option Place) → IsStop place stop → Ends place levels
+        by : (place : Option Place) → IsStop place stop → IsLast place levels
         by None is = absurd is
         by (Some place) is = (subst (λ a. is_leave a ≡ true) (sym is.0) leave, ended)
 
-    pub ended_by : Ends (slice_get places at) levels → (is_leave stop.label ≡ true) × (levels ≡ end ∷ [])
+    pub ended_by : Ends places at levels → (is_leave stop.label ≡ true) × (levels ≡ end ∷ [])
     ended_by ends = by (slice_get places at) arrived ends
       where
-        by : (place : Option Place) → IsStop place stop → Ends place levels → (is_leave stop.label ≡ true) × (levels ≡ end ∷ [])
+        by : (place : Option Place) → IsStop place stop → IsLast place levels → (is_leave stop.label ≡ true) × (levels ≡ end ∷ [])
         by None is e = absurd is
         by (Some place) is e = (subst (λ a. is_leave a ≡ true) is.0 e.0, e.1)
 
-module _ (places : List Place) (Last : Option Place → List Forest → Type 0) where
+module _ (places : List Place) (Last : ℕ → List Forest → Type 0) where
   -- the path leads on by one of the edges, to where that holds
   abbrev pub Via : (edges : List ℕ) → (levels : List Forest) → (path : List ℕ) → Type 0
   Via edges levels [] = ⊥
@@ -110,12 +110,12 @@ module _ (places : List Place) (Last : Option Place → List Forest → Type 0) 
 
       -- Conversely, if the path does not end.
       pub comes_by : (path : List ℕ) → Goes places Last at levels path
-          → ((path ≡ []) × Last (slice_get places at) levels) ⊎ (Passes stop.label levels × Via stop.edges (onward stop.label levels) path)
+          → ((path ≡ []) × Last at levels) ⊎ (Passes stop.label levels × Via stop.edges (onward stop.label levels) path)
       comes_by [] last = inl (refl, last)
       comes_by (turn ∷ more) goes = by (slice_get places at) arrived goes
         where
           by : (place : Option Place) → IsStop place stop → GoesOn place levels turn (λ to further. Goes places Last to further more)
-              → ((turn ∷ more ≡ []) × Last (slice_get places at) levels) ⊎ (Passes stop.label levels × Via stop.edges (onward stop.label levels) (turn ∷ more))
+              → ((turn ∷ more ≡ []) × Last at levels) ⊎ (Passes stop.label levels × Via stop.edges (onward stop.label levels) (turn ∷ more))
           by None is g = absurd is
           by (Some place) is g = inr (
             subst (λ a. Passes a levels) is.0 g.0,

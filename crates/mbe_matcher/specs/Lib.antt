@@ -15,6 +15,7 @@ pub mod Levels
 pub mod Marks
 pub mod Matchers
 pub mod Parsing
+pub mod Parts
 pub mod Paths
 pub mod Pieces
 pub mod Places
@@ -22,4 +23,5 @@ pub mod Readings
 pub mod Stepping
 pub mod Steps
 pub mod Threads
+pub mod Waiting
 pub mod Walking

@@ -10,6 +10,9 @@
 //!
 //! `walking` then goes along that path through the pattern's steps and the input, and notes marks: the trees that a variable takes, the
 //! beginning of a round, the end of a repetition. A `Binding` is these marks; `trees` and `ends` read them.
+//!
+//! If the input is no instance, `Matcher::waiting` reads it again, and `waiting` sets a flag for each place that has a thread where the
+//! pattern stops and does not go on. The numbers of the flags are those of the parts that are expected there.
 #![tactic(auto)]
 
 mod ahead;
@@ -24,10 +27,12 @@ mod places;
 mod reading;
 mod steps;
 mod threads;
+mod waiting;
 mod walking;
 
 pub use binding::{Binding, Found};
 pub use matcher::Matcher;
 pub use mbe_pattern::{Fragment, GrammarFragment, PatternError, RepeatKind, Variable};
+pub use places::Atom;
 pub use steps::Binder;
 pub use walking::Mark;

@@ -1,8 +1,11 @@
 //! The matcher of a pattern. It reads any number of inputs.
-ghost use Rattle.std.specs.Prelude.{◌≡◌, None, IfOk, IfErr};
+ghost use Rattle.std.specs.Prelude.{◌≡◌, None, Some, IfOk, IfErr, MatchOption};
 ghost use Rattle.tt.specs.Iters.{rest_of};
 ghost use Rattle.mbe_matcher.specs.Finding.{IsFound};
+ghost use Rattle.mbe_matcher.specs.Labels.{label_of};
 ghost use Rattle.mbe_matcher.specs.Matchers.{IsMatcherOf};
+ghost use Rattle.mbe_matcher.specs.Parts.{part_of};
+ghost use Rattle.mbe_matcher.specs.Waiting.{AreWaiting};
 ghost use Rattle.mbe_pattern.specs.Faults.{pattern_fault, IsPatternError};
 ghost use Rattle.mbe_pattern.specs.Patterns.{Pattern};
 ghost use Rattle.mbe_pattern.specs.Placed.{pattern_of};
@@ -10,9 +13,10 @@ ghost use Rattle.mbe_pattern.specs.Placed.{pattern_of};
 use crate::binding::{Found, found_by};
 use crate::compile::{Compiled, compile};
 use crate::parse::parse;
-use crate::places::Place;
+use crate::places::{Atom, Place};
 use crate::reading::read_all;
 use crate::steps::{Binder, Step, Stepped, step_by_step};
+use crate::waiting::{set_numbers, stuck_at};
 use mbe_pattern::{PatternError, validate};
 use std::alloc::{AllocError, Global};
 use tt::TtIter;
@@ -80,5 +84,32 @@ impl Matcher {
     {
         let paths = read_all(alloc, &self.places, &self.starts, input.remaining().iter())?;
         found_by(alloc, &self.steps, paths, input)
+    }
+
+    /// Returns what the part of that number requires; none if there are fewer parts.
+    ///
+    /// The parts of a pattern are numbered from 0 in its order: variables, tokens, the beginnings and the ends of subtrees, the separator of a
+    /// repetition after what it separates, and at last the end of the input.
+    pub fn part(&self, number: usize) -> Option<&Atom>
+        ensures { (pattern : Pattern) → IsMatcherOf pattern self.now → MatchOption result (part_of pattern number ≡ None) (λ atom. part_of pattern number ≡ Some (label_of atom.now)) }
+    {
+        let place = self.places.get(number)?;
+        Some(&place.atom)
+    }
+
+    /// Returns the numbers of the parts that wait at that flat place of the input, in order: some reading of the trees before it leaves the
+    /// part as the next one, and the trees there are not what the part requires. Where the pattern stops, these parts are what is expected.
+    ///
+    /// Time and memory are those of `read`, which does nothing for it. Fails only if memory runs out.
+    pub fn waiting(
+        &self,
+        alloc: Global,
+        input: TtIter<'_>,
+        at: usize,
+    ) -> Result<Vec<usize>, AllocError>
+        ensures { IfOk result (λ numbers. (pattern : Pattern) → IsMatcherOf pattern self.now → AreWaiting pattern (rest_of input.entry) at numbers.items) }
+    {
+        let flags = stuck_at(alloc, &self.places, &self.starts, input, at)?;
+        set_numbers(alloc, &flags)
     }
 }

@@ -4,7 +4,7 @@ use tt::{DelimiterKind, Leaf};
 
 /// What a place requires of the rest of an input.
 #[derive(Drop)]
-pub(crate) enum Atom {
+pub enum Atom {
     /// The variable takes the trees at the front.
     Take(Variable),
     /// The first token has these leaves; spans and spacing do not count.

@@ -1,5 +1,5 @@
 //! Reads an input: which paths lead through all of it.
-ghost use Rattle.std.specs.Prelude.{◌≡◌, ◌-◌, [], ℕ, OnOk, IfOk, MatchOption, reverse, slice_get};
+ghost use Rattle.std.specs.Prelude.{◌≡◌, ◌-◌, [], ℕ, false, OnOk, IfOk, MatchOption, reverse, slice_get};
 ghost use Rattle.tt.specs.Forest.{size};
 ghost use Rattle.tt.specs.Iters.{rest_of};
 ghost use Rattle.tt.specs.Moves.{after_tree};
@@ -7,7 +7,7 @@ ghost use Rattle.mbe_matcher.specs.Aheads.{IsAhead, IsAheadIn};
 ghost use Rattle.mbe_matcher.specs.Levels.{level_view, view_before, level_views, AreLevelsWithin, Advances, IsEndedWith, Finds, is_leave_at, with_thread, choice_of, found_of, reached};
 ghost use Rattle.mbe_matcher.specs.Places.{ReadsAll, StopsAll};
 ghost use Rattle.mbe_matcher.specs.Closures.{IsClosure, AreRanked};
-ghost use Rattle.mbe_matcher.specs.Threads.{views_of, AreWithin, IsGrown, AllStep};
+ghost use Rattle.mbe_matcher.specs.Threads.{views_of, AreWithin, IsGrown, AllStep, threads_spread};
 
 use crate::ahead::Ahead;
 use crate::closure::closure;
@@ -20,9 +20,9 @@ use tt::TtIter;
 /// and the threads before what is left.
 #[derive(Drop)]
 pub(crate) struct Level<'i> {
-    rest: TtIter<'i>,
-    until: usize,
-    threads: Vec<Thread>,
+    pub(crate) rest: TtIter<'i>,
+    pub(crate) until: usize,
+    pub(crate) threads: Vec<Thread>,
 }
 
 /// How many paths lead through an input.
@@ -45,6 +45,24 @@ fn level_of<'i>(alloc: Global, rest: TtIter<'i>, until: usize) -> Level<'i>
         until,
         threads: Vec::new(alloc),
     }
+}
+
+/// Returns the whole input as a level, with a thread for each of the places with these numbers.
+pub(crate) fn first_level<'i>(
+    alloc: Global,
+    starts: &[usize],
+    input: TtIter<'i>,
+) -> Result<Level<'i>, AllocError>
+    ensures threads { IfOk result (λ level. level.threads.items ≡ threads_spread 0 false 0 0 starts.now []) }
+    ensures rest { IfOk result (λ level. (rest_of level.rest ≡ rest_of input.entry) × (level.until ≡ size (rest_of input.entry))) }
+{
+    let mut threads = Vec::new(alloc);
+    spread_to(starts, 0, false, 0, &mut threads)?;
+    Ok(Level {
+        until: input.remaining().len(),
+        rest: input,
+        threads,
+    })
 }
 
 // Adds to the level the threads that the given threads become by that move.
@@ -77,8 +95,8 @@ fn moved<'i>(
     })
 }
 
-// Returns the level after its threads went on from places that require nothing.
-fn closure_level<'i>(
+/// Returns the level after its threads went on from places that require nothing.
+pub(crate) fn closure_level<'i>(
     alloc: Global,
     places: &[Place],
     level: Level<'i>,
@@ -141,8 +159,8 @@ fn pass<'i>(
     Ok(levels.push(inside)?)
 }
 
-// Goes on by one tree, or out of a level that is at its end. At the end of the outermost level, returns its threads.
-fn advance<'i>(
+/// Goes on by one tree, or out of a level that is at its end. At the end of the outermost level, returns its threads.
+pub(crate) fn advance<'i>(
     alloc: Global,
     places: &[Place],
     level: Level<'i>,
@@ -258,14 +276,9 @@ pub(crate) fn read_all(
     ensures { IfOk result (λ found. (rank : ℕ → ℕ) → AreRanked places.now rank → Finds (ReadsAll places.now starts.now (rest_of input.entry)) (λ left. StopsAll places.now left starts.now (rest_of input.entry)) (size (rest_of input.entry)) found) }
 {
     let mut log = Vec::new(alloc);
-    let mut threads = Vec::new(alloc);
-    spread_to(starts, 0, false, 0, &mut threads)?;
     let mut levels = Vec::new(alloc);
-    levels.push(Level {
-        until: input.remaining().len(),
-        rest: input,
-        threads,
-    })?;
+    let first = first_level(alloc, starts, input)?;
+    levels.push(first)?;
     let mut farthest = 0;
     while let Some(level) = levels.pop() {
         farthest = reached(&level, farthest);

@@ -16,5 +16,7 @@ pub mod Scans
 pub mod Seeing
 pub mod Stepping
 pub mod Validates
+pub mod Waiting
+pub mod WaitingRows
 pub mod Wholeness
 pub mod Writes

@@ -18,6 +18,7 @@ pub mod Stepping
 pub mod Templates
 pub mod Transcribing
 pub mod Validating
+pub mod Waiting
 pub mod Wholes
 pub mod Working
 pub mod Writing

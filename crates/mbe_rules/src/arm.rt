@@ -1,7 +1,10 @@
 //! One arm of a macro.
-ghost use Rattle.std.specs.Prelude.{◌≡◌, IfOk, IfErr};
+ghost use Rattle.std.specs.Prelude.{◌≡◌, None, Some, IfOk, IfErr, MatchOption};
 ghost use Rattle.tt.specs.Forest.{Forest};
 ghost use Rattle.tt.specs.Iters.{rest_of};
+ghost use Rattle.mbe_matcher.specs.Labels.{label_of};
+ghost use Rattle.mbe_matcher.specs.Parts.{part_of};
+ghost use Rattle.mbe_matcher.specs.Waiting.{AreWaiting};
 ghost use Rattle.mbe_rules.specs.Arms.{Arm as ArmOf, IsArm, IsBehind};
 ghost use Rattle.mbe_rules.specs.Expansions.{IsMade, IsAnswer, IsRefusal};
 ghost use Rattle.mbe_rules.specs.ArmFaults.{place, body_fault, arm_fault, IsArmFault};
@@ -10,9 +13,9 @@ use crate::arrow::{ARROW_LEN, is_arrow_in, is_punct_in};
 use crate::rules_error::ArmFault;
 use crate::template::Template;
 use crate::transcribe_error::TranscribeError;
-use mbe_matcher::{Found, Matcher};
+use mbe_matcher::{Atom, Found, Matcher};
 use mbe_pattern::pass;
-use std::alloc::Global;
+use std::alloc::{AllocError, Global};
 use tt::{Delimiter, TopSubtree, TtIter};
 
 /// An arm: a pattern that is ready to read inputs, and a template under a delimiter.
@@ -101,5 +104,23 @@ impl Arm {
             .template
             .transcribe(alloc, self.matcher.binders(), binding, self.delimiter)?;
         Ok(Answer::Tree(tree))
+    }
+    /// Returns the parts of the arm's pattern that wait at that flat place of an input. Fails only if memory runs out.
+    pub(crate) fn waiting(
+        &self,
+        alloc: Global,
+        input: TtIter<'_>,
+        at: usize,
+    ) -> Result<Vec<usize>, AllocError>
+        ensures { IfOk result (λ parts. (arm : ArmOf) → IsMade arm self.now → AreWaiting arm.pattern (rest_of input.entry) at parts.items) }
+    {
+        self.matcher.waiting(alloc, input, at)
+    }
+
+    /// Returns what the part of that number of its pattern requires.
+    pub(crate) fn part(&self, number: usize) -> Option<&Atom>
+        ensures { (arm : ArmOf) → IsMade arm self.now → MatchOption result (part_of arm.pattern number ≡ None) (λ atom. part_of arm.pattern number ≡ Some (label_of atom.now)) }
+    {
+        self.matcher.part(number)
     }
 }

@@ -29,7 +29,8 @@ mod transcribe_error;
 mod validate;
 
 pub use error::TemplateError;
-pub use macro_rules::{Expansion, MacroRules};
+pub use macro_rules::{ArmPart, Expansion, MacroRules};
+pub use mbe_matcher::Atom;
 pub use parts::Part;
 pub use rules_error::{ArmFault, ExpandError, RulesError};
 pub use template::Template;

@@ -1,12 +1,15 @@
 //! A macro of several arms.
-ghost use Rattle.std.specs.Prelude.{◌≡◌, List, IfOk, IfErr};
+ghost use Rattle.std.specs.Prelude.{◌≡◌, ◌++◌, List, None, Some, IfOk, IfErr, OnOk, MatchOption, map};
 ghost use Rattle.tt.specs.Forest.{size};
 ghost use Rattle.tt.specs.Iters.{rest_of};
+ghost use Rattle.mbe_matcher.specs.Labels.{label_of};
 ghost use Rattle.mbe_rules.specs.Arms.{Arm as ArmOf, Spell};
+ghost use Rattle.mbe_rules.specs.Waiting.{in_arm, part_in, AreWaitingIn};
 
 use crate::arm::{Answer, Arm};
 use crate::rules_error::{ArmFault, ExpandError, RulesError};
-use std::alloc::Global;
+use mbe_matcher::Atom;
+use std::alloc::{AllocError, Global};
 use tt::{TopSubtree, TtIter};
 
 /// A macro: arms, each a pattern and a template.
@@ -26,6 +29,23 @@ pub enum Expansion {
     Ambiguous(usize),
     /// The template of the first arm that matches the input, filled with what its pattern binds, under the template's delimiter.
     Tree(TopSubtree),
+}
+
+/// A part of an arm's pattern: the number of the arm, and the number of the part in the pattern. Both are counted from 0.
+#[derive(Debug, Clone, Copy, PartialEq, Eq)]
+pub struct ArmPart {
+    pub arm: usize,
+    pub part: usize,
+}
+
+// Adds the parts of that arm.
+fn add_parts(arm: usize, parts: &[usize], all: &mut Vec<ArmPart>) -> Result<(), AllocError>
+    ensures { OnOk result (all.new.items ≡ all.old.items ++ map (in_arm arm) parts.now) }
+{
+    for part in parts {
+        all.push(ArmPart { arm, part: *part })?;
+    }
+    Ok(())
 }
 
 impl MacroRules {
@@ -86,5 +106,34 @@ impl MacroRules {
             number += 1;
         }
         Ok(Expansion::NoMatch(farthest))
+    }
+    /// Returns the parts of the arms' patterns that wait at that flat place of an input, arm by arm, as `Matcher::waiting` does. At the
+    /// place of `Expansion::NoMatch` they are what is expected there, in the arms that come farthest.
+    ///
+    /// Time and memory are those of `Matcher::waiting` for each arm. Fails only if memory runs out.
+    pub fn waiting(
+        &self,
+        alloc: Global,
+        input: TtIter<'_>,
+        at: usize,
+    ) -> Result<Vec<ArmPart>, AllocError>
+        ensures { IfOk result (λ parts. (arms : List ArmOf) → AreMade arms self.now.arms.items → AreWaitingIn arms 0 (rest_of input.entry) at parts.items) }
+    {
+        let mut all = Vec::new(alloc);
+        let mut number = 0;
+        while let Some(arm) = self.arms.get(number) {
+            let parts = arm.waiting(alloc, input.remaining().iter(), at)?;
+            add_parts(number, &parts, &mut all)?;
+            number += 1;
+        }
+        Ok(all)
+    }
+
+    /// Returns what a part requires; none if there is no such part.
+    pub fn part(&self, it: ArmPart) -> Option<&Atom>
+        ensures { (arms : List ArmOf) → AreMade arms self.now.arms.items → MatchOption result (part_in arms it.arm it.part ≡ None) (λ atom. part_in arms it.arm it.part ≡ Some (label_of atom.now)) }
+    {
+        let arm = self.arms.get(it.arm)?;
+        arm.part(it.part)
     }
 }

@@ -24,6 +24,8 @@ mod texts;
 #[cfg(test)]
 mod transcribed;
 #[cfg(test)]
+mod waiting;
+#[cfg(test)]
 mod ways;
 #[cfg(test)]
 mod written;

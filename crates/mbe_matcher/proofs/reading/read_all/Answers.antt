@@ -17,16 +17,14 @@ use Rattle.mbe_matcher.proofs.reading.read_all.Goals as goal
 pub loop-level-init : goal.loop-level-init
 loop-level-init c =
     let log = c.new-log.result.items in
-    let its = c.spread_to.new.threads.items in
-    let input = rest_of c.args.input in
-    let level : Level = record { rest = c.args.input; until = c.len.result; threads = c.spread_to.new.threads } in
-    let before : c.new-threads.result.items ≡ [] = search rules in
-    let added : its ≡ threads_spread 0 false 0 0 c.args.starts.now c.new-threads.result.items = search rules in
-    let spreads : its ≡ threads_spread 0 false 0 0 c.args.starts.now [] = added ∙ ap (threads_spread 0 false 0 0 c.args.starts.now) before in
-    let until : c.len.result ≡ size input = search rules in
+    let level : Level = c.in_ok-first.first in
+    let its = level.threads.items in
+    let spreads : its ≡ threads_spread 0 false 0 0 c.args.starts.now [] = search rules in
+    let rest : rest_of level.rest ≡ rest_of c.args.input = search rules in
+    let until : level.until ≡ size (rest_of c.args.input) = search rules in
     let is : c.push.new.self.items ≡ [] ++ level ∷ [] = search rules in
     record {
-      cover = λ rank ranked. cover_first c.args.places.now c.args.starts.now c.args.input log its c.push.new.self.items level spreads is refl until refl;
+      cover = λ rank ranked. cover_first c.args.places.now c.args.starts.now c.args.input log its c.push.new.self.items level spreads is rest until refl;
       within = subst (AreLevelsWithin log) (sym is) (within_init log c.args.starts.now its spreads, tt);
     }
 
