@@ -107,6 +107,7 @@ impl MacroRules {
         }
         Ok(Expansion::NoMatch(farthest))
     }
+
     /// Returns the parts of the arms' patterns that wait at that flat place of an input, arm by arm, as `Matcher::waiting` does. At the
     /// place of `Expansion::NoMatch` they are what is expected there, in the arms that come farthest.
     ///

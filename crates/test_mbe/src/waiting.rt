@@ -37,7 +37,7 @@ fn push_part(text: &mut String, atom: &Atom) -> Option<()> {
 }
 
 // Returns the parts that wait where no arm takes more of the input, each after the number of its arm.
-fn told(alloc: Global, arms: &str, input: &str) -> Option<String> {
+fn waiting_text(alloc: Global, arms: &str, input: &str) -> Option<String> {
     let arms = tree_of(alloc, arms)?;
     let input = tree_of(alloc, input)?;
     let rules = MacroRules::new(alloc, arms.token_trees().iter()).ok()?;
@@ -79,7 +79,7 @@ const WAITING: [(&str, &str, &str); 17] = [
 
 fn are_waiting(alloc: Global) -> bool {
     for (arms, input, wanted) in &WAITING {
-        match told(alloc, arms, input) {
+        match waiting_text(alloc, arms, input) {
             Some(text) if text.as_str() == *wanted => {}
             _ => return false,
         }

@@ -87,6 +87,7 @@ impl Call for Macro<'_> {
         match self.call {
             "MacroRules::new" => self.is_made(),
             "MacroRules::expand" => self.expands(),
+            "MacroRules::waiting" => self.waits(),
             _ => Ok(false),
         }
     }
@@ -108,5 +109,11 @@ impl Macro<'_> {
             Some(tree) => Ok(tree == *self.after),
             None => Ok(false),
         }
+    }
+
+    // Before the input the `;` and the end of the second arm wait, since its first repetition may have no round.
+    fn waits(&self) -> Result<bool, TtFault> {
+        let input = self.input.token_trees().iter();
+        Ok(self.rules.waiting(self.alloc, input, 0)?.len() == 2)
     }
 }
