@@ -1,0 +1,9 @@
+pub mod Chunks
+pub mod Words
+pub mod GapChunks
+pub mod Between
+pub mod LaidChunks
+pub mod Ahead
+pub mod Plain
+pub mod Returns
+pub mod Rows

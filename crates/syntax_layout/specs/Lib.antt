@@ -1,0 +1,4 @@
+-- A text with other gaps between its tokens, and the gaps that rustfmt would choose.
+pub mod Gap
+pub mod Layout
+pub mod Spelling
