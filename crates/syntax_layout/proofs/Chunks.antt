@@ -80,7 +80,7 @@ pub record Put (front : List ℕ) (tail : List Chunk) : Type 0 where
   pub line : ends_in_line (tokens_of tail) ≡ false → ends_in_line (tokens_of new) ≡ false
 
 -- white space as a chunk
-abbrev white : List ℕ → Chunk
+abbrev pub white : List ℕ → Chunk
 white w = record { text = w; kind = kinds.Whitespace; role = Nothing; means = [] }
 
 space_read : (r : List ℕ) → reading (chars (32 ∷ []) ++ r) ≡ (kinds.Whitespace, behind is_whitespace r)
@@ -93,7 +93,7 @@ some_space t e = by (sym (ascii_first 32 t (omega arith)) ∙ e)
     by h = cc
 
 -- a space before what begins with no white space
-space_is : (chunks : List Chunk) → behind is_whitespace (text chunks) ≡ text chunks → IsChunk (white (32 ∷ [])) chunks
+pub space_is : (chunks : List Chunk) → behind is_whitespace (text chunks) ≡ text chunks → IsChunk (white (32 ∷ [])) chunks
 space_is chunks none = record {
   utf8 = space_blank.utf8;
   some = λ e. some_space [] e;

@@ -6,4 +6,6 @@ pub mod LaidChunks
 pub mod Ahead
 pub mod Plain
 pub mod Returns
+pub mod SpaceGaps
 pub mod Rows
+pub mod SpacingRows

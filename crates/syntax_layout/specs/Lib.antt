@@ -2,3 +2,6 @@
 pub mod Gap
 pub mod Layout
 pub mod Spelling
+pub mod Parts
+pub mod Passed
+pub mod Spaces

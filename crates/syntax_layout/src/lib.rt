@@ -9,8 +9,12 @@ mod gap;
 mod kinds;
 pub mod laws;
 mod layout;
+mod part;
+mod passed;
+mod spacing;
 mod trees;
 
 pub use gap::{MOST_BYTES, is_gap};
 pub use layout::laid_out;
+pub use spacing::{rust_text_spaced, spaces};
 pub use trees::{fit, rust_text_with_gaps};
