@@ -47,6 +47,7 @@ takes_brace _ = false
 abbrev pub takes_bracket : Part → Bool
 takes_bracket part.Name = true
 takes_bracket part.Type = true
+takes_bracket part.Literal = true
 takes_bracket part.Close = true
 takes_bracket part.CloseAngle = true
 takes_bracket part.Question = true

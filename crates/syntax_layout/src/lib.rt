@@ -1,8 +1,11 @@
-//! Rust text with other gaps between its tokens, which no gap can change the meaning of.
+//! Trees as Rust text with gaps between its tokens, and no gap changes how the text is read.
 //!
-//! `rust_text_with_gaps` writes the plain text of trees and lays it out: `laid_out` goes through its tokens, and puts the caller's gap before
-//! each. It puts a space where two tokens would be read as others, and nothing after a joint punct. The lexer itself decides that, except
-//! before white space, brackets, commas and semicolons, which end each token.
+//! `rust_text_with_gaps` writes the plain text of trees and lays it out: `laid_out` goes through its tokens and puts the caller's gap before
+//! each. It puts a space between two tokens that would be read as others, and nothing after a joint punct. The lexer itself decides that,
+//! except before white space, brackets, commas and semicolons, which end each token.
+//!
+//! `rust_text_spaced` does the same with the spaces that rustfmt puts within a line. `spaces` gives each token a `Part`, by the token before it
+//! and whether generic arguments, the parameters of a closure or a `use` are open; a table over two parts (`touches`) says whether they touch.
 #![tactic(auto)]
 
 mod gap;

@@ -95,6 +95,7 @@ fn takes_bracket(part: Part) -> bool
         part,
         Part::Name
             | Part::Type
+            | Part::Literal
             | Part::Close
             | Part::CloseAngle
             | Part::Question
