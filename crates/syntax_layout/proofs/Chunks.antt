@@ -1,10 +1,10 @@
 -- The chunks of a text, and chunks with a space before them.
-use Rattle.std.proofs.Common.{◌≡◌, ◌≢◌, inl, ℕ, Bool, true, false, List, [], ◌∷◌, ◌++◌, take, drop, None, Some, refl, sym, ap, ap₂, ◌∙◌, subst, append-nil, arith, append_assoc, if◌then◌else◌}
+use Rattle.std.proofs.Common.{◌≡◌, ◌≢◌, inl, ℕ, Bool, true, false, List, [], ◌∷◌, ◌++◌, take, drop, None, Some, refl, sym, ap, ap₂, ◌∙◌, subst, append-nil, arith}
 use Rattle.std.proofs.lemmas.List.{nil_from_length, take-append-drop}
 use Rattle.std.proofs.lemmas.Str.{IsUtf8-append, IsUtf8-nil, chars-append, chars-nil}
 use Rattle.std.specs.Str.{chars, IsUtf8}
 use Rattle.laws_round_trip.proofs.KindFacts.{blank_read, pieces_same, some_part}
-use Rattle.laws_round_trip.proofs.Seams.{empty_front, match_cons, space_blank, space_chunk}
+use Rattle.laws_round_trip.proofs.Seams.{match_cons, space_blank, space_chunk}
 use Rattle.laws_round_trip.proofs.Sources.{match_front}
 use Rattle.laws_round_trip.proofs.Words.{first_word}
 use Rattle.laws_round_trip.specs.Kept.{ends_in_line}

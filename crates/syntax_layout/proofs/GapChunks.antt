@@ -1,8 +1,8 @@
 -- The chunks of a gap, before others.
-use Rattle.std.proofs.Common.{◌≡◌, ◌≢◌, ℕ, zero, suc, ◌<◌, ◌^◌, Bool, true, false, ◌&&◌, List, [], ◌∷◌, ◌++◌, length, get_or, Option, None, Some, refl, sym, ap, ◌∙◌, ⊎_elim, subst, arith, append-nil, if◌then◌else◌}
+use Rattle.std.proofs.Common.{◌≡◌, ◌≢◌, ℕ, zero, suc, ◌<◌, ◌^◌, Bool, true, false, List, [], ◌∷◌, ◌++◌, length, get_or, None, Some, refl, sym, ap, ◌∙◌, ⊎_elim, subst, arith, append-nil, if◌then◌else◌}
 use Rattle.std.proofs.lemmas.Bool.{false≢true, and_parts}
-use Rattle.std.proofs.lemmas.Str.{IsUtf8-from_ascii, IsUtf8-nil, chars-IsAscii, chars-append, chars-nil}
-use Rattle.std.specs.Str.{chars, IsUtf8}
+use Rattle.std.proofs.lemmas.Str.{IsUtf8-nil, chars-append, chars-nil}
+use Rattle.std.specs.Str.{chars}
 use Rattle.laws_round_trip.proofs.KindFacts.{blank_read, last_is, some_part}
 use Rattle.laws_round_trip.proofs.Seams.{empty_front}
 use Rattle.laws_round_trip.proofs.Sources.{joined-append}
@@ -21,7 +21,7 @@ use Rattle.syntax_lex.specs.Reading.{reading}
 use Rattle.syntax_lex.specs.declared.token.TokenKind.{TokenKind}
 use Rattle.syntax_lex.specs.declared.token.TokenKind.TheVariants as kinds
 use Rattle.syntax_parse.specs.Parsed.{next_kind}
-use Rattle.syntax_parse.specs.Pieces.{pieces_as, pieces_of, spacing_before}
+use Rattle.syntax_parse.specs.Pieces.{pieces_as, spacing_before}
 use Rattle.syntax_parse.specs.Role.{role_in}
 use Rattle.syntax_parse.specs.declared.bracket.Bracket.{Bracket}
 use Rattle.syntax_parse.specs.declared.role.Role.TheVariants.{Nothing}

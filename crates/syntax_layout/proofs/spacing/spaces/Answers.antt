@@ -1,4 +1,4 @@
-use Rattle.std.proofs.Common.{◌≡◌, ◌<◌, [], ◌∷◌, ◌++◌, true, false, length, map, arith, rules, sym, ap, ap₂, ◌∙◌, subst}
+use Rattle.std.proofs.Common.{◌≡◌, ◌<◌, [], ◌∷◌, ◌++◌, true, false, length, map, arith, rules, sym, ap, ◌∙◌, subst}
 use Rattle.std.proofs.lemmas.Bool.{eqb-true}
 use Rattle.std.proofs.lemmas.List.{map-append}
 use Rattle.std.specs.Prelude.{slice_get}
@@ -6,7 +6,7 @@ use Rattle.std.specs.Str.{IsCharBoundary}
 use Rattle.syntax_layout.proofs.SpaceGaps.{spaces_blank, spaces_end, spaces_gaps, spaces_word}
 use Rattle.syntax_layout.specs.Gap.{AreGaps, is_blank}
 use Rattle.syntax_layout.specs.Passed.{part_of, start}
-use Rattle.syntax_layout.specs.Spaces.{AreSpaces, space_between}
+use Rattle.syntax_layout.specs.Spaces.{space_between}
 use Rattle.syntax_parse.proofs.TextFacts.{cut, more_than_none}
 use Rattle.syntax_layout.proofs.spacing.spaces.Goals as goal
 

@@ -1,10 +1,9 @@
-use Rattle.std.proofs.Common.{◌≡◌, map, sym, ◌∙◌, subst, ⊎_elim}
+use Rattle.std.proofs.Common.{map, sym, ◌∙◌, subst, ⊎_elim}
 use Rattle.std.specs.Prelude.{string_bytes}
 use Rattle.syntax_layout.proofs.Plain.{no_others}
 use Rattle.syntax_layout.proofs.Returns.{plain_spelling, tree_text_spells}
 use Rattle.syntax_layout.specs.Layout.{HasOthers, IsLaidOut}
 use Rattle.syntax_layout.specs.Spelling.{IsSpelling}
-use Rattle.syntax_unparse.specs.Text.{text_of}
 use Rattle.tt_view.specs.Views.{trees_of}
 use Rattle.syntax_layout.proofs.trees.lay_out_trees.Goals as goal
 
