@@ -7,5 +7,6 @@ pub mod Ahead
 pub mod Plain
 pub mod Returns
 pub mod SpaceGaps
+pub mod SourceGaps
 pub mod Rows
 pub mod SpacingRows

@@ -5,3 +5,4 @@ pub mod Spelling
 pub mod Parts
 pub mod Passed
 pub mod Spaces
+pub mod Sources

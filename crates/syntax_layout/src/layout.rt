@@ -102,8 +102,8 @@ fn touched<'t>(
     Ok("")
 }
 
-// Returns the gap before the token of this number.
-fn gap_at<'g>(gaps: &[&'g str], number: usize) -> &'g str
+/// Returns the gap before the token of this number, or an empty one.
+pub fn gap_at<'g>(gaps: &[&'g str], number: usize) -> &'g str
     ensures { result.now ≡ slice_index_or (map (λ g. g.now) gaps.now) number [] }
 {
     match gaps.get(number) {

@@ -6,6 +6,9 @@
 //!
 //! `rust_text_spaced` does the same with the spaces that rustfmt puts within a line. `spaces` gives each token a `Part`, by the token before it
 //! and whether generic arguments, the parameters of a closure or a `use` are open; a table over two parts (`touches`) says whether they touch.
+//!
+//! `rust_text_with_source` takes the gap between two neighbours from a source, where a gap stands between their places there, and else the
+//! space of `rust_text_spaced`.
 #![tactic(auto)]
 
 mod gap;
@@ -14,10 +17,12 @@ pub mod laws;
 mod layout;
 mod part;
 mod passed;
+mod sources;
 mod spacing;
 mod trees;
 
 pub use gap::{MOST_BYTES, is_gap};
 pub use layout::laid_out;
+pub use sources::{Place, rust_text_with_source, source_gaps};
 pub use spacing::{rust_text_spaced, spaces};
 pub use trees::{fit, rust_text_with_gaps};
