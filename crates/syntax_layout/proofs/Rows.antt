@@ -1,5 +1,5 @@
 -- Examples of texts with gaps. Each holds by computation.
-use Rattle.std.proofs.Common.{◌≡◌, ℕ, true, false, [], ◌∷◌, codes, refl}
+use Rattle.std.proofs.Common.{◌≡◌, ℕ, true, false, List, [], ◌∷◌, length, codes, refl}
 use Rattle.ucd_emoji.proofs.Computing.{ucd_emoji}
 use Rattle.unicode_ident.proofs.Computing.{unicode_ident}
 use Rattle.std.specs.Str.{chars}
@@ -15,6 +15,9 @@ use Rattle.syntax_lex.specs.declared.token.LiteralKind.TheVariants as literals
 use Rattle.syntax_lex.specs.declared.token.Token.{Token}
 use Rattle.syntax_lex.specs.declared.token.TokenKind.{TokenKind}
 use Rattle.syntax_lex.specs.declared.token.TokenKind.TheVariants as kinds
+use Rattle.syntax_layout.proofs.SpacingRows.{tokens_of}
+use Rattle.laws_round_trip.specs.Kept.{ends_in_line}
+use Rattle.syntax_layout.specs.Gap.{are_blank}
 use Rattle.syntax_layout.specs.Layout.{laid_out, stays_before}
 
 abbrev token : (kind : TokenKind) → (len : ℕ) → Token
@@ -57,3 +60,18 @@ laid_out_rows : (laid_out (codes "a :: b") (token kinds.Ident 1 ∷ token kinds.
     × (laid_out (codes "0 .. n") (token (kinds.Literal (literals.Int base.Decimal false) 1) 1 ∷ token kinds.Whitespace 1 ∷ token kinds.Dot 1 ∷ token kinds.Dot 1 ∷ token kinds.Whitespace 1 ∷ token kinds.Ident 1 ∷ []) [] ≡ codes "0..n")
 unfolding chars first_token_of reading reading_of opening symbol word number with_fraction with_exponent literal quoted_char apostrophe raw_text byte_length unicode_ident ucd_emoji lib.Utf8.encode
 laid_out_rows = (refl, refl, refl, refl, refl, refl)
+
+-- the tokens of a text that may be a gap
+abbrev tokens : (text : List ℕ) → List Token
+tokens text = tokens_of (length text) (chars text)
+
+-- a gap has only blank tokens, and its last token is no comment to the end of a line: three gaps, and four texts that are none
+gaps : (are_blank (tokens (codes " // c\n")) ≡ true) × (ends_in_line (tokens (codes " // c\n")) ≡ false)
+    × (are_blank (tokens (codes " /* c */")) ≡ true) × (ends_in_line (tokens (codes " /* c */")) ≡ false)
+    × (are_blank (tokens (codes "")) ≡ true) × (ends_in_line (tokens (codes "")) ≡ false)
+    × (are_blank (tokens (codes " // c")) ≡ true) × (ends_in_line (tokens (codes " // c")) ≡ true)
+    × (are_blank (tokens (codes "/// d\n")) ≡ false) × (ends_in_line (tokens (codes "/// d\n")) ≡ false)
+    × (are_blank (tokens (codes "/* c")) ≡ false) × (ends_in_line (tokens (codes "/* c")) ≡ false)
+    × (are_blank (tokens (codes "x")) ≡ false) × (ends_in_line (tokens (codes "x")) ≡ false)
+unfolding chars first_token_of reading reading_of opening symbol word number with_fraction with_exponent literal quoted_char apostrophe raw_text byte_length unicode_ident ucd_emoji lib.Utf8.encode
+gaps = (refl, refl, refl, refl, refl, refl, refl, refl, refl, refl, refl, refl, refl, refl)

@@ -16,7 +16,7 @@ use Rattle.ucd_emoji.proofs.Computing.{ucd_emoji}
 use Rattle.unicode_ident.proofs.Computing.{unicode_ident}
 
 -- at most so many tokens of a text
-abbrev tokens_of : (most : ℕ) → (text : List ℕ) → List Token
+abbrev pub tokens_of : (most : ℕ) → (text : List ℕ) → List Token
 tokens_of zero text = []
 tokens_of (suc most) [] = []
 tokens_of (suc most) (c ∷ cs) = first_token_of (c ∷ cs) ∷ tokens_of most (reading (c ∷ cs)).1
