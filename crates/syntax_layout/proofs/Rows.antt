@@ -10,18 +10,19 @@ use Rattle.syntax_lex.specs.Opening.{opening, symbol}
 use Rattle.syntax_lex.specs.Quoted.{apostrophe, literal, quoted_char}
 use Rattle.syntax_lex.specs.Reading.{first_token_of, reading, reading_of}
 use Rattle.syntax_lex.specs.Word.{word}
-use Rattle.syntax_lex.specs.declared.token.Base.TheVariants as base
-use Rattle.syntax_lex.specs.declared.token.LiteralKind.TheVariants as literals
 use Rattle.syntax_lex.specs.declared.token.Token.{Token}
-use Rattle.syntax_lex.specs.declared.token.TokenKind.{TokenKind}
-use Rattle.syntax_lex.specs.declared.token.TokenKind.TheVariants as kinds
 use Rattle.syntax_layout.proofs.SpacingRows.{tokens_of}
 use Rattle.laws_round_trip.specs.Kept.{ends_in_line}
 use Rattle.syntax_layout.specs.Gap.{are_blank}
 use Rattle.syntax_layout.specs.Layout.{laid_out, stays_before}
 
-abbrev token : (kind : TokenKind) → (len : ℕ) → Token
-token kind len = record { kind = kind; len = len }
+-- the tokens of a text
+abbrev tokens : (text : List ℕ) → List Token
+tokens text = tokens_of (length text) (chars text)
+
+-- a text with these gaps
+abbrev with_gaps : (text : List ℕ) → (gaps : List (List ℕ)) → List ℕ
+with_gaps text gaps = laid_out text (tokens text) gaps
 
 -- tokens that stay the same before others
 touches : (stays_before (codes "a") (codes ".") ≡ true)
@@ -51,19 +52,18 @@ parts : (stays_before (codes "a") (codes "b") ≡ false)
 unfolding chars first_token_of reading reading_of opening symbol word number with_fraction with_exponent literal quoted_char apostrophe raw_text byte_length unicode_ident ucd_emoji lib.Utf8.encode
 parts = (refl, refl, refl, refl, refl, refl, refl, refl, refl, refl)
 
--- `a :: b` without gaps, `: :` that is not joint, gaps with a line break and a comment, a comment after `/`, a number before a point, and one before two
-laid_out_rows : (laid_out (codes "a :: b") (token kinds.Ident 1 ∷ token kinds.Whitespace 1 ∷ token kinds.Colon 1 ∷ token kinds.Colon 1 ∷ token kinds.Whitespace 1 ∷ token kinds.Ident 1 ∷ []) [] ≡ codes "a::b")
-    × (laid_out (codes "a : : b") (token kinds.Ident 1 ∷ token kinds.Whitespace 1 ∷ token kinds.Colon 1 ∷ token kinds.Whitespace 1 ∷ token kinds.Colon 1 ∷ token kinds.Whitespace 1 ∷ token kinds.Ident 1 ∷ []) [] ≡ codes "a: :b")
-    × (laid_out (codes "a + b") (token kinds.Ident 1 ∷ token kinds.Whitespace 1 ∷ token kinds.Plus 1 ∷ token kinds.Whitespace 1 ∷ token kinds.Ident 1 ∷ []) ([] ∷ codes "\n  " ∷ codes " /* c */ " ∷ []) ≡ codes "a\n  + /* c */ b")
-    × (laid_out (codes "a / b") (token kinds.Ident 1 ∷ token kinds.Whitespace 1 ∷ token kinds.Slash 1 ∷ token kinds.Whitespace 1 ∷ token kinds.Ident 1 ∷ []) ([] ∷ [] ∷ codes "/* c */" ∷ []) ≡ codes "a/ /* c */b")
-    × (laid_out (codes "t . 0 . x") (token kinds.Ident 1 ∷ token kinds.Whitespace 1 ∷ token kinds.Dot 1 ∷ token kinds.Whitespace 1 ∷ token (kinds.Literal (literals.Int base.Decimal false) 1) 1 ∷ token kinds.Whitespace 1 ∷ token kinds.Dot 1 ∷ token kinds.Whitespace 1 ∷ token kinds.Ident 1 ∷ []) [] ≡ codes "t.0.x")
-    × (laid_out (codes "0 .. n") (token (kinds.Literal (literals.Int base.Decimal false) 1) 1 ∷ token kinds.Whitespace 1 ∷ token kinds.Dot 1 ∷ token kinds.Dot 1 ∷ token kinds.Whitespace 1 ∷ token kinds.Ident 1 ∷ []) [] ≡ codes "0..n")
+-- Without gaps: `a :: b`, `: :` that is not joint, a number before a point and before two. With gaps: a line break and a comment, a comment
+-- right after `/`, a comment to the end of a line, and a gap before the first token.
+laid_out_rows : (with_gaps (codes "a :: b") [] ≡ codes "a::b")
+    × (with_gaps (codes "a : : b") [] ≡ codes "a: :b")
+    × (with_gaps (codes "a + b") ([] ∷ codes "\n  " ∷ codes " /* c */ " ∷ []) ≡ codes "a\n  + /* c */ b")
+    × (with_gaps (codes "a / b") ([] ∷ [] ∷ codes "/* c */" ∷ []) ≡ codes "a/ /* c */b")
+    × (with_gaps (codes "a / b") ([] ∷ codes " // c\n" ∷ []) ≡ codes "a // c\n/b")
+    × (with_gaps (codes "t . 0 . x") [] ≡ codes "t.0.x")
+    × (with_gaps (codes "0 .. n") [] ≡ codes "0..n")
+    × (with_gaps (codes "a b") (codes "\n" ∷ []) ≡ codes "\na b")
 unfolding chars first_token_of reading reading_of opening symbol word number with_fraction with_exponent literal quoted_char apostrophe raw_text byte_length unicode_ident ucd_emoji lib.Utf8.encode
-laid_out_rows = (refl, refl, refl, refl, refl, refl)
-
--- the tokens of a text that may be a gap
-abbrev tokens : (text : List ℕ) → List Token
-tokens text = tokens_of (length text) (chars text)
+laid_out_rows = (refl, refl, refl, refl, refl, refl, refl, refl)
 
 -- a gap has only blank tokens, and its last token is no comment to the end of a line: three gaps, and four texts that are none
 gaps : (are_blank (tokens (codes " // c\n")) ≡ true) × (ends_in_line (tokens (codes " // c\n")) ≡ false)

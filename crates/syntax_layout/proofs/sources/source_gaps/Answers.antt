@@ -1,7 +1,7 @@
 use Rattle.std.proofs.Common.{◌≡◌, ◌+◌, [], ◌∷◌, ◌++◌, get_or, map, None, sym, ap, ◌∙◌, subst}
 use Rattle.std.proofs.lemmas.List.{map-append}
 use Rattle.syntax_layout.proofs.SourceGaps.{AreSoFar, one_more, so_far_gaps}
-use Rattle.syntax_layout.specs.Sources.{IsSourceGap, place_before}
+use Rattle.syntax_layout.specs.Sources.{IsSourceGap}
 use Rattle.syntax_layout.proofs.sources.source_gaps.Goals as goal
 
 pub loop-number-preserved : goal.loop-number-preserved
