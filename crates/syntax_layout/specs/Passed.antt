@@ -71,6 +71,10 @@ glued passed touching = touching && is_operator passed.part
 abbrev pub sign_part : Passed → (touching : Bool) → Part
 sign_part passed touching = if glued passed touching || ends_value passed.part then part.Operator else part.Prefix
 
+-- `-`: an operator in `->`
+abbrev pub minus_part : Passed → (touching : Bool) → (next : Option ℕ) → Part
+minus_part passed touching next = if is_next next 62 then part.Operator else sign_part passed touching
+
 -- `|`
 abbrev pub bar_part : Passed → (touching : Bool) → Part
 bar_part passed touching =
@@ -128,6 +132,10 @@ takes_names _ = false
 abbrev pub brace_part : Passed → Part
 brace_part passed = if passed.uses && takes_names passed.part then part.Open else part.Brace
 
+-- `}`
+abbrev pub end_brace_part : Passed → Part
+end_brace_part passed = if passed.uses then part.Close else part.EndBrace
+
 -- a punct or a bracket; any other token is like a name
 abbrev pub symbol_part : Passed → (touching : Bool) → (next : Option ℕ) → TokenKind → Part
 symbol_part passed touching next kinds.OpenParen = part.Open
@@ -135,7 +143,7 @@ symbol_part passed touching next kinds.OpenBracket = part.Open
 symbol_part passed touching next kinds.OpenBrace = brace_part passed
 symbol_part passed touching next kinds.CloseParen = part.Close
 symbol_part passed touching next kinds.CloseBracket = part.Close
-symbol_part passed touching next kinds.CloseBrace = if passed.uses then part.Close else part.EndBrace
+symbol_part passed touching next kinds.CloseBrace = end_brace_part passed
 symbol_part passed touching next kinds.Comma = part.Comma
 symbol_part passed touching next kinds.Semi = part.Comma
 symbol_part passed touching next kinds.Dot = part.Dot
@@ -146,7 +154,7 @@ symbol_part passed touching next kinds.Lt = less_part passed touching next
 symbol_part passed touching next kinds.Gt = greater_part passed touching
 symbol_part passed touching next kinds.And = sign_part passed touching
 symbol_part passed touching next kinds.Star = sign_part passed touching
-symbol_part passed touching next kinds.Minus = if is_next next 62 then part.Operator else sign_part passed touching
+symbol_part passed touching next kinds.Minus = minus_part passed touching next
 symbol_part passed touching next kinds.Or = bar_part passed touching
 symbol_part passed touching next kinds.Question = question_part passed.part
 symbol_part passed touching next kinds.Plus = part.Operator

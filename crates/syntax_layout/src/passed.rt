@@ -1,7 +1,7 @@
 //! Which part a token is, by the tokens that were passed.
 ghost use Rattle.std.specs.Char.{is_ascii_lowercase};
 ghost use Rattle.std.specs.Prelude.{◌≡◌};
-ghost use Rattle.syntax_layout.specs.Passed.{angles_after, bang_part, bar_part, bars_after, brace_part, colon_part, equals_part, glued, greater_part, is_next, is_there, is_type, less_part, name_part, part_of, passed_after, question_part, sign_part, start, symbol_part, uses_after, word_part};
+ghost use Rattle.syntax_layout.specs.Passed.{angles_after, bang_part, bar_part, bars_after, brace_part, colon_part, end_brace_part, equals_part, glued, greater_part, is_next, is_there, is_type, less_part, minus_part, name_part, part_of, passed_after, question_part, sign_part, start, symbol_part, uses_after, word_part};
 
 use crate::part::{Part, ends_piece, ends_value};
 use syntax_lex::TokenKind;
@@ -133,6 +133,17 @@ fn sign_part(passed: Passed, touching: bool) -> Part
     }
 }
 
+// Returns the part of a `-`.
+fn minus_part(passed: Passed, touching: bool, next: Option<u8>) -> Part
+    ensures { result ≡ minus_part passed touching next }
+{
+    if is_next(next, b'>') {
+        Part::Operator
+    } else {
+        sign_part(passed, touching)
+    }
+}
+
 // Returns the part of a `|`.
 fn bar_part(passed: Passed, touching: bool) -> Part
     ensures { result ≡ bar_part passed touching }
@@ -230,6 +241,17 @@ fn brace_part(passed: Passed) -> Part
     }
 }
 
+// Returns the part of a `}`.
+fn end_brace_part(passed: Passed) -> Part
+    ensures { result ≡ end_brace_part passed }
+{
+    if passed.uses {
+        Part::Close
+    } else {
+        Part::EndBrace
+    }
+}
+
 // Returns the part of a punct or a bracket; any other token is like a name.
 fn symbol_part(passed: Passed, touching: bool, next: Option<u8>, kind: TokenKind) -> Part
     ensures { result ≡ symbol_part passed touching next kind }
@@ -238,13 +260,7 @@ fn symbol_part(passed: Passed, touching: bool, next: Option<u8>, kind: TokenKind
         TokenKind::OpenParen | TokenKind::OpenBracket => Part::Open,
         TokenKind::OpenBrace => brace_part(passed),
         TokenKind::CloseParen | TokenKind::CloseBracket => Part::Close,
-        TokenKind::CloseBrace => {
-            if passed.uses {
-                Part::Close
-            } else {
-                Part::EndBrace
-            }
-        }
+        TokenKind::CloseBrace => end_brace_part(passed),
         TokenKind::Comma | TokenKind::Semi => Part::Comma,
         TokenKind::Dot => Part::Dot,
         TokenKind::Colon => colon_part(passed, touching, next),
@@ -253,13 +269,7 @@ fn symbol_part(passed: Passed, touching: bool, next: Option<u8>, kind: TokenKind
         TokenKind::Lt => less_part(passed, touching, next),
         TokenKind::Gt => greater_part(passed, touching),
         TokenKind::And | TokenKind::Star => sign_part(passed, touching),
-        TokenKind::Minus => {
-            if is_next(next, b'>') {
-                Part::Operator
-            } else {
-                sign_part(passed, touching)
-            }
-        }
+        TokenKind::Minus => minus_part(passed, touching, next),
         TokenKind::Or => bar_part(passed, touching),
         TokenKind::Question => question_part(passed.part),
         TokenKind::Plus
