@@ -208,14 +208,9 @@ pub fn laid_out(alloc: Global, text: &str, gaps: &[&str]) -> Result<Option<Strin
             }
             let gap = gap_at(gaps, used + 1);
             let touched = touched(&mut room, token.kind, word, gap, behind)?;
+            let before = gap_at(gaps, used);
             push_word(
-                &mut laid,
-                &mut room,
-                last,
-                gap_at(gaps, used),
-                token.kind,
-                word,
-                touched,
+                &mut laid, &mut room, last, before, token.kind, word, touched,
             )?;
             last = Last {
                 is_none: false,

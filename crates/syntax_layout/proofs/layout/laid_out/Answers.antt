@@ -27,7 +27,7 @@ returns-then-not-is_whole c =
 
 pub push_word-requires-clause-fits_gap : goal.push_word-requires-clause-fits_gap
 push_word-requires-clause-fits_gap c =
-    omega (arith, c.loop-last.invariant.1.shorter, c.requires.fits, ap length c.gap_at.ensures, gap_short (map (λ g. g.now) c.args.gaps.now) c.loop-last.used c.requires.gaps)
+    omega (arith, c.loop-last.invariant.1.shorter, c.requires.fits, ap length c.gap_at-before.ensures, gap_short (map (λ g. g.now) c.args.gaps.now) c.loop-last.used c.requires.gaps)
 
 pub loop-last-smaller-then-is_blank : goal.loop-last-smaller-then-is_blank
 loop-last-smaller-then-is_blank c =
@@ -69,10 +69,10 @@ loop-last-preserved c =
     ++ (put_before last.is_none last.touches (joins last.kind c.first_token-token.result.kind) last.text.now (get_or gaps c.loop-last.used []) (c.split_at.result.0.now ++ touched true c.first_token-token.result.kind c.split_at.result.0.now (get_or gaps (c.loop-last.used + 1) []) c.split_at.result.1.now tokens) ++ c.split_at.result.0.now) =
     λ tokens are.
     let put : string_bytes c.push_word.new.laid ≡ string_bytes c.loop-last.laid
-    ++ (put_before last.is_none last.touches (joins last.kind c.first_token-token.result.kind) last.text.now c.gap_at.result.now (c.split_at.result.0.now ++ c.in_ok-touched.touched.now) ++ c.split_at.result.0.now) =
+    ++ (put_before last.is_none last.touches (joins last.kind c.first_token-token.result.kind) last.text.now c.gap_at-before.result.now (c.split_at.result.0.now ++ c.in_ok-touched.touched.now) ++ c.split_at.result.0.now) =
     search rules in
     put ∙ ap₂ (λ g t. string_bytes c.loop-last.laid
-    ++ (put_before last.is_none last.touches (joins last.kind c.first_token-token.result.kind) last.text.now g (c.split_at.result.0.now ++ t) ++ c.split_at.result.0.now)) c.gap_at.ensures (c.in_ok-touched.ensures.value tokens are ∙ ap (λ g. touched true c.first_token-token.result.kind c.split_at.result.0.now g c.split_at.result.1.now tokens) c.gap_at-gap.ensures) in (
+    ++ (put_before last.is_none last.touches (joins last.kind c.first_token-token.result.kind) last.text.now g (c.split_at.result.0.now ++ t) ++ c.split_at.result.0.now)) c.gap_at-before.ensures (c.in_ok-touched.ensures.value tokens are ∙ ap (λ g. touched true c.first_token-token.result.kind c.split_at.result.0.now g c.split_at.result.1.now tokens) c.gap_at-gap.ensures) in (
       search rules,
       record {
         within = omega (arith, k.some, len, c.split_at.ensures.back_len, c.loop-last.invariant.1.within);
