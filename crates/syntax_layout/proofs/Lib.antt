@@ -1,0 +1,12 @@
+pub mod Chunks
+pub mod Words
+pub mod GapChunks
+pub mod Between
+pub mod LaidChunks
+pub mod Ahead
+pub mod Plain
+pub mod Returns
+pub mod SpaceGaps
+pub mod SourceGaps
+pub mod Rows
+pub mod SpacingRows
