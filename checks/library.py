@@ -301,9 +301,9 @@ def try_long_c(room):
 
 
 def try_stack(room):
-    """As many expansions inside one another as are allowed, on the stack that the header says."""
+    """1,000 expansions inside one another, and none, on the stack that the header says."""
     made = c_program(room, "checks/stack.c")
-    for depth, size in ((127, 512), (0, 32)):
+    for depth, size in ((999, 64), (0, 64)):
         done = subprocess.run([made, str(depth), str(size << 10)], capture_output=True, text=True, timeout=SECONDS, check=False)
         if (done.returncode, done.stdout) != (0, "0\n"):
             raise Wrong(f"{depth} calls inside one another on {size} KiB: status {done.returncode}, {done.stdout!r}")

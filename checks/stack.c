@@ -10,12 +10,18 @@ static const char DEFINITION[] = "macro_rules! m { (a $($x:tt)*) => { m!($($x)*)
 static char *text;
 static uint32_t answer = 1;
 
-// Expands the text. The output is static, so that it takes no stack.
+// Expands the text, with 1,000 nested expansions at most. The outputs are static, so that they take no stack. If something is found, the answer is
+// the fault of the first finding.
 static void *expand(void *unused) {
     static uint8_t out[1 << 16];
-    size_t written, at;
+    static size_t findings[1 << 10];
+    size_t written, found, at;
     (void)unused;
-    answer = tt_expand_text((const uint8_t *)text, strlen(text), out, sizeof out, &written, &at);
+    answer = tt_expand_text_with((const uint8_t *)text, strlen(text), (const uint8_t *)"crate", 5, out, 0, out, 0, 0, 1000, 4000000, out,
+                                 sizeof out, &written, findings, sizeof findings / sizeof *findings, &found, &at);
+    if (answer == 0 && findings[1] != 0) {
+        answer = (uint32_t)findings[2];
+    }
     return NULL;
 }
 

@@ -69,8 +69,8 @@ struct cuvolemin_token {
     size_t context;
 };
 
-/* A Rust text with the calls of its own macros expanded. All else stays byte for byte. Up to 128 expansions may be nested, for which
- * 512 KiB of stack were enough when measured; a call with all that comes of it may write 4,000,000 tokens. $crate becomes crate. A call
+/* A Rust text with the calls of its own macros expanded. All else stays byte for byte. Up to 128 expansions may be nested, and
+ * a call with all that comes of it may write 4,000,000 tokens; 64 KiB of stack were enough when measured. $crate becomes crate. A call
  * under #[cfg(..)] stays only if the condition cannot apply to each part of its expansion. A call of a macro whose last definition is under
  * #[cfg(..)] stays if another definition of the name is in scope.
  * Faults: 1 to 44; 81 to 92 but for 84, of definitions; 100 to 108, of calls; and 5 to 9 of either. *at is a byte of the text; 0 for faults
@@ -82,7 +82,7 @@ uint32_t tt_expand_text(const uint8_t *text, size_t text_len, uint8_t *out, size
  *   only        the name, without r#, of the only macros that are read and expanded; all are if only_len is 0
  *   cfg         what is true in #[cfg(..)], each with a 0 behind it: NAME or NAME="VALUE". All else is open
  *   everywhere  not 0: calls in the brackets of calls that stay are expanded too
- *   limit       how many expansions may be nested; each takes stack (128 are usual)
+ *   limit       how many expansions may be nested (128 are usual)
  *   max_tokens  how many tokens a call with all that comes of it may write (4,000,000 are usual)
  * out gets the text and then the names that the words speak of, each of them with a 0 behind it. findings has room for findings_len words
  * and gets: the number of bytes of the text; the number of findings; the words of each finding, in order; and those of each caller, up to

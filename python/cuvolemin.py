@@ -325,8 +325,8 @@ def expand_with(text, *, root="crate", only=None, cfg=(), everywhere=False, limi
 
     root is the word that $crate becomes. only is the name, without r#, of the only macros that are read and expanded. cfg lists what is true in
     #[cfg(..)], each NAME or NAME="VALUE" as rustc's --cfg takes it, without escapes; all else is open. With everywhere, calls in the brackets of
-    calls that stay are expanded too. At most limit expansions may be nested: the stack that a call needs is linear in it. A call with all that
-    comes of it may write at most max_tokens tokens."""
+    calls that stay are expanded too. At most limit expansions may be nested, and a call with all that comes of it may write at
+    most max_tokens tokens."""
     data, root, only, cfg = _bytes_of(text), _bytes_of(root), _bytes_of(only or ""), _ended(cfg)
     for size in (limit, max_tokens):
         if not 0 <= size <= MISSING:

@@ -13,7 +13,7 @@ pub struct ExpandOptions<'a> {
     pub cfg: &'a [&'a str],
     /// Whether calls in the brackets of calls that stay are expanded too.
     pub everywhere: bool,
-    /// How many expansions may be nested. The stack that a call needs is linear in it: 512 KiB were enough for 128.
+    /// How many expansions may be nested. The stack that a call needs does not grow with it: 64 KiB were enough for 1,000.
     pub limit: usize,
     /// How many tokens a call with all that comes of it may write.
     pub max_tokens: usize,

@@ -28,7 +28,7 @@ const DROP_EXPORTED: &str = "drop-exported";
 
 const SYNTAX: &str = "syntax";
 
-/// The largest limit that the options allow for nested expansions: what the usual stack holds.
+/// The largest limit that the options allow for nested expansions.
 pub const MOST_LIMIT: u64 = 1000;
 
 // The largest limit that the options allow for the tokens that are written for a call: as many as a tree may have.

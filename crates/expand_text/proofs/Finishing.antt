@@ -6,15 +6,16 @@ use Rattle.tt.specs.Span.{start_of}
 use Rattle.tt.specs.Types.Delimiter.{Delimiter}
 use Rattle.tt.specs.Types.Leaf.{Leaf}
 use Rattle.tt.specs.Types.Span.{Span}
-use Rattle.tt.specs.Views.{trees_of}
 use Rattle.tt_base.proofs.Appending.{append-end, append-join}
 use Rattle.expand_text.specs.Meaning.{ExpandsTo}
 use Rattle.expand_text.specs.Expanding.{IsPutOrKept}
 use Rattle.expand_text.specs.Contexts.{Config, Context}
 use Rattle.expand_text.specs.Outcomes.{Outcome, nothing, passes, enters, stays, becomes, trees_left}
 use Rattle.expand_items.specs.declared.position.Position.{Position}
-use Rattle.expand_text.specs.declared.walk.Invocation.{Invocation}
-use Rattle.expand_text.specs.Walks.{Level, begun, Ends, Leads, GoesPast, site_of, first_leaf, first_subtree, first_stay, first_becomes, closes_of}
+use Rattle.expand_text.specs.declared.invocation.Invocation.{Invocation}
+use Rattle.expand_text.specs.Events.{GoesPast}
+use Rattle.expand_text.specs.Invocations.{site_of}
+use Rattle.expand_text.specs.Walks.{Level, begun, Ends, Leads, first_leaf, first_subtree, first_stay, first_becomes, closes_of}
 
 -- what is built once the rest of these levels is, the innermost first, which close there
 abbrev pub finished : List Span → List Outcome → Stack → Stack
@@ -79,16 +80,16 @@ module _ (config : Config) (limit : ℕ) (position : Position) (trees : Forest) 
           (outcome, expands_to, ap (λ cs. finished cs (first ∷ more) built) closes ∙ sym (same first more) ∙ is)
 
   -- The walk goes on if the expansion of a call takes its place, or the call stays.
-  pub goes_past : (it : Invocation) (held : Forest) (inside : Context) (built : Stack) → GoesPast config false limit (level ∷ outer) now it held (next ∷ nexts) inside
-      → IsPutOrKept it held inside others stack built → closes_of (next ∷ nexts) ≡ closes_of (level ∷ outer) → IsGoing config limit position trees before old (next ∷ nexts) others built
-  goes_past it held inside built past (inl (put, so, context, is)) closes = subst (IsGoing config limit position trees before old (next ∷ nexts) others) (sym is)
-      (goes_on (first_becomes (site_of it).attributes it.first_span it.last_span put) (append put (append (site_of it).attributes stack))
-      (subst (Leads config false limit (level ∷ outer) now (first_becomes (site_of it).attributes it.first_span it.last_span put) (next ∷ nexts)) (sym context) (past.puts put (put, so, refl) tt)) closes
-      (λ first more. finished_becomes level.close (closes_of outer) first more stack (site_of it).attributes it.first_span it.last_span put))
-  goes_past it held inside built past (inr (fault, misplaced, context, is)) closes = subst (IsGoing config limit position trees before old (next ∷ nexts) others) (sym is)
-      (goes_on (first_stay (trees_of it.whole)) (append (trees_of it.whole) stack)
-      (subst (Leads config false limit (level ∷ outer) now (first_stay (trees_of it.whole)) (next ∷ nexts)) (sym context) (past.stays (start_of it.first_span.range) fault (inl (misplaced, refl)))) closes
-      (λ first more. finished_stay level.close (closes_of outer) first more stack (trees_of it.whole)))
+  pub goes_past : (it : Invocation) (whole held : Forest) (inside : Context) (built : Stack) → GoesPast config false limit (level ∷ outer) now it whole held (next ∷ nexts) inside
+      → IsPutOrKept it whole held inside others stack built → closes_of (next ∷ nexts) ≡ closes_of (level ∷ outer) → IsGoing config limit position trees before old (next ∷ nexts) others built
+  goes_past it whole held inside built past (inl (put, so, context, is)) closes = subst (IsGoing config limit position trees before old (next ∷ nexts) others) (sym is)
+      (goes_on (first_becomes (site_of whole it).attributes it.first_span it.last_span put) (append put (append (site_of whole it).attributes stack))
+      (subst (Leads config false limit (level ∷ outer) now (first_becomes (site_of whole it).attributes it.first_span it.last_span put) (next ∷ nexts)) (sym context) (past.puts put (put, so, refl) tt)) closes
+      (λ first more. finished_becomes level.close (closes_of outer) first more stack (site_of whole it).attributes it.first_span it.last_span put))
+  goes_past it whole held inside built past (inr (fault, misplaced, context, is)) closes = subst (IsGoing config limit position trees before old (next ∷ nexts) others) (sym is)
+      (goes_on (first_stay whole) (append whole stack)
+      (subst (Leads config false limit (level ∷ outer) now (first_stay whole) (next ∷ nexts)) (sym context) (past.stays (start_of it.first_span.range) fault (inl (misplaced, refl)))) closes
+      (λ first more. finished_stay level.close (closes_of outer) first more stack whole))
 
   -- The walk goes on in a subtree.
   pub goes_into : (it : Delimiter) → Leads config false limit (level ∷ outer) now (first_subtree it) (next ∷ nexts) others → closes_of (next ∷ nexts) ≡ it.close ∷ closes_of (level ∷ outer)

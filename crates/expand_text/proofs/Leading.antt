@@ -6,11 +6,10 @@ use Rattle.tt.specs.Moves.{after_tree}
 use Rattle.tt.specs.Span.{start_of}
 use Rattle.tt.specs.Types.Delimiter.{Delimiter}
 use Rattle.tt.specs.Types.Leaf.{Leaf}
-use Rattle.tt.specs.Views.{trees_of}
 use Rattle.expand_text.specs.declared.fault.MacroFault.{MacroFault}
 use Rattle.expand_text.specs.Scopes.{Macro}
-use Rattle.expand_text.specs.declared.walk.Event.{Event}
-use Rattle.expand_text.specs.declared.walk.Event.TheVariants as event
+use Rattle.expand_text.specs.declared.next.Event.{Event}
+use Rattle.expand_text.specs.declared.next.Event.TheVariants as event
 use Rattle.expand_text.specs.Calling.{IsFaulty}
 use Rattle.expand_text.specs.Meaning.{IsPlain, ExpandsTo, ends, on_leaf, on_node, on_definition, on_inactive, on_other_call, into_other_call, into_attributes, on_faulty_call, on_call, on_kept_call, attributes_in, begin_in, begun_by, behind_in, end_in, entered_in, rest_in, site_in, whole_in, context_after, body_in}
 use Rattle.expand_items.specs.Inactive.{IsItemAt}
@@ -21,7 +20,10 @@ use Rattle.expand_text.specs.Macros.{IsRead, MayBePut, Writes, called_by, arms_o
 use Rattle.expand_text.specs.Outcomes.{Outcome, nothing, passes, enters, stays, becomes, trees_left}
 use Rattle.expand_text.specs.CallSites.{PutIn, IsKept}
 use Rattle.expand_items.specs.Positions.{behind as past_end, behind_subtree, keeps_macros}
-use Rattle.expand_text.specs.Walks.{Level, site_of, past_leaf, past_subtree, past, past_call, past_part, kept_behind, inside, Leads, first_leaf, first_subtree, first_stay, first_becomes, IsNext}
+use Rattle.expand_text.specs.Events.{IsNext}
+use Rattle.expand_text.specs.Invocations.{site_of}
+use Rattle.expand_text.specs.Kept.{kept_behind}
+use Rattle.expand_text.specs.Walks.{Level, front_in, past_leaf, past_subtree, past, past_call, past_part, inside, Leads, first_leaf, first_subtree, first_stay, first_becomes}
 use Rattle.mbe_rules.specs.Arms.{Arm}
 use Rattle.mbe_pattern.specs.Units.{front_trees, is_brace}
 
@@ -167,19 +169,21 @@ module _ (config : Config) (in_text : Bool) (left : ℕ) (level : Level) (outer 
 
 -- The next event of other levels to which these lead is the next event of these.
 module _ (config : Config) (in_text : Bool) (limit : ℕ) (levels others : List Level) (context then : Context) (leads : Leads config in_text limit levels context (λ outcomes. outcomes) others then) where
-  pub next_by : (it : Event) (nexts : List Level) (behind : Context) → IsNext config in_text limit others then it nexts behind → IsNext config in_text limit levels context it nexts behind
-  next_by event.End nexts behind is = leads behind (nothing ∷ []) is
-  next_by (event.Leaf it) nexts behind is = λ after outcomes e. leads after (first_leaf it outcomes) (is after outcomes e)
-  next_by (event.Opens header) nexts behind is = λ after outcomes e. leads after (first_subtree header.delimiter outcomes) (is after outcomes e)
-  next_by (event.Closes close) nexts behind is = λ after outcomes e. leads after (nothing ∷ outcomes) (is after outcomes e)
-  next_by (event.Stays trees) nexts behind is = λ after outcomes e. leads after (first_stay (_) outcomes) (is after outcomes e)
-  next_by (event.Invocation it) nexts behind (left, fits, is) = (
-    left,
-    fits,
-    λ within held expands_to.
-        let past = is within held expands_to in
-        record {
-          puts = λ put so may after outcomes e. leads after (first_becomes (site_of it).attributes it.first_span it.last_span put outcomes) (past.puts put so may after outcomes e);
-          stays = λ at fault kept after outcomes e. leads after (first_stay (trees_of it.whole) outcomes) (past.stays at fault kept after outcomes e);
-        },
-  )
+  pub next_by : (it : Event) (here : List Level) (behind : Context) → IsNext config in_text limit others then it here behind → IsNext config in_text limit levels context it here behind
+  next_by event.End here behind is = leads behind (nothing ∷ []) is
+  next_by (event.Leaf it) here behind is = λ after outcomes e. leads after (first_leaf it outcomes) (is after outcomes e)
+  next_by (event.Opens header) here behind is = λ after outcomes e. leads after (first_subtree header.delimiter outcomes) (is after outcomes e)
+  next_by (event.Closes close) here behind is = λ after outcomes e. leads after (nothing ∷ outcomes) (is after outcomes e)
+  next_by (event.Stays part) here behind is = λ after outcomes e. leads after (first_stay (front_in part here) outcomes) (is after outcomes e)
+  next_by (event.Invocation it tree) here behind is =
+      record {
+        left = is.left;
+        fits = is.fits;
+        goes = λ inside held expands_to.
+            let past = is.goes inside held expands_to in
+            record {
+              puts = λ put so may after outcomes e.
+                  leads after (first_becomes (site_of (front_in it.part here) it).attributes it.first_span it.last_span put outcomes) (past.puts put so may after outcomes e);
+              stays = λ at fault kept after outcomes e. leads after (first_stay (front_in it.part here) outcomes) (past.stays at fault kept after outcomes e);
+            };
+      }

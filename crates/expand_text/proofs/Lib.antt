@@ -21,12 +21,14 @@ pub mod OneKept
 pub mod OneMacro
 pub mod OneOutcome
 pub mod OnePlacing
-pub mod Passing
+pub mod Choosing
+pub mod Parted
 pub mod PlaceRows
 pub mod Placing
 pub mod Readiness
 pub mod Replacing
 pub mod Rooting
 pub mod Rows
+pub mod Stacked
 pub mod Undefined
 pub mod Weaving

@@ -11,7 +11,10 @@ use Rattle.expand_items.specs.Spreads.{AreUnder, IsPutUnder, append_if}
 use Rattle.expand_text.specs.declared.fault.MacroFault.TheVariants as wrong
 use Rattle.expand_text.specs.declared.source.Written.{Written}
 use Rattle.expand_text.specs.declared.source.Written.TheVariants as made
-use Rattle.expand_text.specs.Expanding.{IsAdded}
+use Rattle.tt.specs.Types.DelimiterKind.{DelimiterKind}
+use Rattle.tt.specs.Types.DelimiterKind.TheVariants.{Invisible}
+use Rattle.expand_items.proofs.Rebuilding.{depth_append}
+use Rattle.expand_text.specs.Expanding.{IsAdded, IsBegunBy, CanEndBy, depth_outside_by, top_outside}
 use Rattle.expand_text.specs.Expansion.{IsTextOf, IsCallText}
 use Rattle.expand_text.specs.Macros.{IsPastLimit, tree_of}
 use Rattle.expand_text.specs.Outcomes.{brackets_of, placed, placed_in}
@@ -91,3 +94,42 @@ none_open (above outer kind open_span trees) none is = absurd (cc none)
 pub call_text : (it : CallSite) (trees shown : Forest) (begin : ℕ) (text : Written) → PutIn true it trees shown → IsTextOf it.delimiter shown begin text → IsCallText it trees begin text
 call_text it trees shown begin (made.Text text) so (may, same) = (shown, so, may, same)
 call_text it trees shown begin (made.Faulty at fault) so unwritten = inr (refl, inr (shown, so, unwritten))
+
+-- What is built apart waits for nothing else: the builder as it was, and an empty one.
+pub apart_of : (brackets : Option (Option DelimiterKind)) (call : Delimiter) (old begun : BuilderState) (outer : Option BuilderState) (it : BuilderState) → outer ≡ Some it
+    → IsBegunBy brackets call old outer begun → (it ≡ old) × (begun ≡ empty_builder (record call { kind = Invisible }))
+apart_of None call old begun outer it is (waits, new) = (cc (sym is ∙ waits), new)
+apart_of (Some None) call old begun outer it is (waits, new) = absurd (cc (sym is ∙ waits))
+apart_of (Some (Some kind)) call old begun outer it is (waits, new) = absurd (cc (sym is ∙ waits))
+
+-- As many subtrees are open behind it as in the builder that waits.
+pub outside_apart : (brackets : Option (Option DelimiterKind)) (it : BuilderState) (n : ℕ) → depth_outside_by brackets (Some it) n ≡ depth it.stack
+outside_apart None it n = refl
+outside_apart (Some None) it n = refl
+outside_apart (Some (Some kind)) it n = refl
+
+-- What is put or not adds no open subtree.
+pub put_depth : (put : Option Forest) (old new : Stack) → new ≡ append_if put old → depth new ≡ depth old
+put_depth None old new is = ap depth is
+put_depth (Some trees) old new is = ap depth is ∙ depth_append trees old
+
+-- What was begun can be ended, when as many subtrees are open as then.
+module _ (call : Delimiter) (old new : BuilderState) where
+  pub can_end : (brackets : Option (Option DelimiterKind)) (outer : Option BuilderState) → IsBegunBy brackets call old outer new → CanEndBy brackets outer (depth new.stack)
+  can_end None outer (waits, is) = subst (λ o. CanEndBy None o (depth new.stack)) (sym waits) (ap (λ b. depth b.stack) is)
+  can_end (Some None) outer (waits, is) = subst (λ o. CanEndBy (Some None) o (depth new.stack)) (sym waits) tt
+  can_end (Some (Some kind)) outer (waits, is) =
+      subst (λ o. CanEndBy (Some (Some kind)) o (depth new.stack)) (sym waits) (subst (λ b. CanEndBy (Some (Some kind)) None (depth b.stack)) (sym is) tt)
+
+  -- Behind it as many are open as before it,
+  pub ends_outside : (brackets : Option (Option DelimiterKind)) (outer : Option BuilderState) → IsBegunBy brackets call old outer new → depth_outside_by brackets outer (depth new.stack) ≡ depth old.stack
+  ends_outside None outer (waits, is) = ap (λ o. depth_outside_by None o (depth new.stack)) waits
+  ends_outside (Some None) outer (waits, is) = ap (λ o. depth_outside_by (Some None) o (depth new.stack)) waits ∙ ap (λ b. depth b.stack) is
+  ends_outside (Some (Some kind)) outer (waits, is) =
+      ap (λ o. depth_outside_by (Some (Some kind)) o (depth new.stack)) waits ∙ ap (λ b. depth_outside_by (Some (Some kind)) None (depth b.stack)) is
+
+  -- under the same top.
+  pub tops_outside : (brackets : Option (Option DelimiterKind)) (outer : Option BuilderState) → IsBegunBy brackets call old outer new → top_outside outer new.top ≡ old.top
+  tops_outside None outer (waits, is) = ap (λ o. top_outside o new.top) waits
+  tops_outside (Some None) outer (waits, is) = ap (λ o. top_outside o new.top) waits ∙ ap (λ b. b.top) is
+  tops_outside (Some (Some kind)) outer (waits, is) = ap (λ o. top_outside o new.top) waits ∙ ap (λ b. b.top) is

@@ -1,6 +1,6 @@
 -- What a call expands to.
-use Rattle.std.specs.Prelude.{◌≡◌, ◌<◌, ℕ, suc, List, None, Some}
-use Rattle.tt.specs.Forest.{Root}
+use Rattle.std.specs.Prelude.{◌≡◌, ◌<◌, ◌≤◌, ℕ, suc, List, None, Some}
+use Rattle.tt.specs.Forest.{Root, size}
 use Rattle.expand_text.specs.declared.calling.Called.{Called}
 use Rattle.expand_text.specs.declared.calling.Called.TheVariants as called
 use Rattle.expand_text.specs.declared.calling.Made.{Made}
@@ -17,15 +17,15 @@ abbrev pub IsMade : (limit allowed : ℕ) → List Arm → Call → Made → Typ
 IsMade limit allowed arms it (made.Tree tree) = (left : ℕ) × (limit ≡ suc left) × Writes allowed arms it tree
 IsMade limit allowed arms it (made.Faulty at fault) = IsCallFault limit allowed arms it at fault
 
--- a tree is made only if one expansion more is allowed
-abbrev pub IsMadeWithin : (limit : ℕ) → Made → Type 0
-IsMadeWithin limit (made.Tree tree) = 0 < limit
-IsMadeWithin limit (made.Faulty at fault) = Unit {0}
+-- a tree is made only if one expansion more is allowed, and so many tokens
+abbrev pub IsMadeWithin : (limit allowed : ℕ) → Made → Type 0
+IsMadeWithin limit allowed (made.Tree tree) = (0 < limit) × (size tree.children ≤ allowed)
+IsMadeWithin limit allowed (made.Faulty at fault) = Unit {0}
 
-abbrev pub IsCalledWithin : (limit : ℕ) → Called → Type 0
-IsCalledWithin limit called.Other = Unit {0}
-IsCalledWithin limit called.Faulty = Unit {0}
-IsCalledWithin limit (called.Tree tree defined_at) = 0 < limit
+abbrev pub IsCalledWithin : (limit allowed : ℕ) → Called → Type 0
+IsCalledWithin limit allowed called.Other = Unit {0}
+IsCalledWithin limit allowed called.Faulty = Unit {0}
+IsCalledWithin limit allowed (called.Tree tree defined_at) = (0 < limit) × (size tree.children ≤ allowed)
 
 -- a call has a fault, which is found
 pub record IsFaulty (config : Config) (limit : ℕ) (it : Call) (before after : Context) : Type 0 where

@@ -100,6 +100,14 @@ pub record IsOutside (context : Context) (it : Outside) : Type 0 where
   pub callers : it.callers ≡ length context.callers
   pub caller : it.caller ≡ context.caller
 
+-- a call wrote what is expanded now
+abbrev pub HasCaller : context_in_code.Context → Type 0
+HasCaller it = (number : ℕ) × (it.caller ≡ Some number)
+
+-- the same call writes, and as many tokens more may be written
+abbrev pub IsSameBudget : (old new : context_in_code.Context) → Type 0
+IsSameBudget old new = (new.left ≡ old.left) × (new.caller ≡ old.caller)
+
 -- whatever is known before, something is known after, and this holds of both
 abbrev pub Learns : (old new : context_in_code.Context) → (This : (before after : Context) → Type 0) → Type 0
 Learns old new This = (before : Context) → IsContext before old → (after : Context) × IsContext after new × This before after

@@ -13,9 +13,7 @@ use Rattle.expand_text.specs.declared.options.ExpandOptions.{ExpandOptions}
 use Rattle.expand_text.specs.declared.source.Written.{Written}
 use Rattle.expand_text.specs.declared.source.Written.TheVariants as made
 use Rattle.expand_text.specs.declared.text.Expanded.{Expanded}
-use Rattle.expand_text.specs.declared.walk.Event.{Event}
-use Rattle.expand_text.specs.declared.walk.Event.TheVariants as event
-use Rattle.expand_text.specs.declared.walk.Invocation.{Invocation}
+use Rattle.expand_text.specs.declared.invocation.Invocation.{Invocation}
 use Rattle.expand_text.specs.Meaning.{ExpandsTo}
 use Rattle.expand_text.specs.Findings.{is_warning}
 use Rattle.expand_text.specs.Contexts.{Config, Context, new_context, with_finding, outside_call}
@@ -30,7 +28,7 @@ use Rattle.syntax_edit.specs.Texts.{Replacement, Writing, begun, finished, with_
 use Rattle.expand_text.specs.Reading.{sorts_left}
 use Rattle.expand_text.specs.Scopes.{Macro}
 use Rattle.expand_text.specs.CallSites.{CallSite, PutIn, IsKept}
-use Rattle.expand_text.specs.Walks.{body_of, entered_by, found_by, site_of}
+use Rattle.expand_text.specs.Invocations.{body_of, entered_by, found_by, site_of}
 use Rattle.syntax_parse.specs.Parsed.{IsParse}
 use Rattle.syntax_parse.specs.Refusal.{IsFaultOf, IsRefusal}
 use Rattle.syntax_parse.specs.Spelled.{Sort, spelled}
@@ -61,49 +59,27 @@ IsCallText it trees begin (made.Text text) = (put : Forest) × PutIn true it tre
 IsCallText it trees begin (made.Faulty at fault) = IsKept true it trees begin at fault
 
 -- what a call expands to is written as Rust, or cannot be
-pub record IsInvocationText (config : Config) (limit : ℕ) (it : Invocation) (result : Written) (before after : Context) : Type 0 where
+pub record IsInvocationText (config : Config) (limit : ℕ) (it : Invocation) (whole : Forest) (tree : Root) (result : Written) (before after : Context) : Type 0 where
   pub inside : Context
   pub outcome : Outcome
-  pub expands_to : ExpandsTo config false limit it.position 0 (entered_by config it before) (body_of it) inside outcome
+  pub expands_to : ExpandsTo config false limit it.position 0 (entered_by config it tree before) (body_of it tree) inside outcome
   pub behind : after ≡ outside_call before inside
-  pub text : IsCallText (site_of it) (trees_left outcome) (start_of it.first_span.range) result
+  pub text : IsCallText (site_of whole it) (trees_left outcome) (start_of it.first_span.range) result
 
 -- an expansion replaces its call, if that part of the source is left; or the call stays, and that is found
-abbrev pub IsPut : Invocation → (trees : Forest) → (behind after : Context) → (old new : Writing) → Type 0
-IsPut it trees behind after old new =
-    ((put : Forest) × PutIn true (site_of it) trees put × MayBePut true it.delimiter put × (after ≡ behind)
+abbrev pub IsPut : Invocation → (whole trees : Forest) → (behind after : Context) → (old new : Writing) → Type 0
+IsPut it whole trees behind after old new =
+    ((put : Forest) × PutIn true (site_of whole it) trees put × MayBePut true it.delimiter put × (after ≡ behind)
     × IsReplaced (replacement it.first_span it.last_span put) old new)
-    ⊎ ((at : ℕ) × (fault : MacroFault) × IsKept true (site_of it) trees (start_of it.first_span.range) at fault
+    ⊎ ((at : ℕ) × (fault : MacroFault) × IsKept true (site_of whole it) trees (start_of it.first_span.range) at fault
     × (after ≡ with_finding (found_by it at fault) behind) × (new ≡ old))
 
--- a call is replaced by its expansion
-pub record IsInvocationWritten (config : Config) (limit : ℕ) (it : Invocation) (old new : Writing) (before after : Context) : Type 0 where
+-- a call of these trees is replaced by its expansion
+pub record IsInvocationWritten (config : Config) (limit : ℕ) (it : Invocation) (whole : Forest) (tree : Root) (old new : Writing) (before after : Context) : Type 0 where
   pub inside : Context
   pub outcome : Outcome
-  pub expands_to : ExpandsTo config false limit it.position 0 (entered_by config it before) (body_of it) inside outcome
-  pub put : IsPut it (trees_left outcome) (outside_call before inside) after old new
-
--- nothing is written, and nothing more is known
-abbrev pub IsSame : (before after : Context) (old new : Writing) → Type 0
-IsSame before after old new = (after ≡ before) × (new ≡ old)
-
--- what is written for the next event of a walk
-abbrev pub IsEventWritten : Config → (limit : ℕ) → Event → (old new : Writing) → (before after : Context) → Type 0
-IsEventWritten config limit event.End old new before after = IsSame before after old new
-IsEventWritten config limit (event.Leaf it) old new before after = IsSame before after old new
-IsEventWritten config limit (event.Opens header) old new before after = IsSame before after old new
-IsEventWritten config limit (event.Closes close) old new before after = IsSame before after old new
-IsEventWritten config limit (event.Stays trees) old new before after = IsSame before after old new
-IsEventWritten config limit (event.Invocation it) old new before after = IsInvocationWritten config (limit - 1) it old new before after
-
--- the walk goes on, except at the end
-abbrev pub GoesOn : Event → (goes_on : Bool) → Type 0
-GoesOn event.End goes_on = goes_on ≡ false
-GoesOn (event.Leaf it) goes_on = goes_on ≡ true
-GoesOn (event.Opens header) goes_on = goes_on ≡ true
-GoesOn (event.Closes close) goes_on = goes_on ≡ true
-GoesOn (event.Stays trees) goes_on = goes_on ≡ true
-GoesOn (event.Invocation it) goes_on = goes_on ≡ true
+  pub expands_to : ExpandsTo config false limit it.position 0 (entered_by config it tree before) (body_of it tree) inside outcome
+  pub put : IsPut it whole (trees_left outcome) (outside_call before inside) after old new
 
 -- a source of these trees is written with each call replaced by its expansion
 pub record IsSourceText (config : Config) (limit : ℕ) (source : List ℕ) (trees : Forest) (result : List ℕ) (before after : Context) : Type 0 where

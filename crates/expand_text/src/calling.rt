@@ -3,7 +3,7 @@ ghost use Rattle.std.specs.Prelude.{◌≡◌, List, None, IfOk, OnOk, is_some, 
 ghost use Rattle.tt.specs.Iters.{rest_of};
 ghost use Rattle.expand_text.specs.Calling.{IsMade, IsMadeWithin, IsCalled, IsCalledWithin};
 ghost use Rattle.expand_items.specs.Items.{call_of};
-ghost use Rattle.expand_text.specs.Contexts.{Context as ContextOf, IsContext, Learns, config_of};
+ghost use Rattle.expand_text.specs.Contexts.{Context as ContextOf, IsContext, IsSameBudget, Learns, config_of, tokens_by};
 ghost use Rattle.expand_text.specs.Meaning.{body};
 ghost use Rattle.tt.specs.Views.{trees_of};
 ghost use Rattle.expand_text.specs.Macros.{arms_of, called_by, left_behind, unexported_by};
@@ -49,7 +49,7 @@ fn make(
     rules: &MacroRules,
     call: &Call<'_>,
 ) -> Result<Made, OutOfMemory>
-    ensures limit { IfOk result (IsMadeWithin limit) }
+    ensures within { IfOk result (IsMadeWithin limit allowed) }
     ensures made { IfOk result (λ made. (arms : List Arm) → AreMade arms rules.now.arms.items → IsMade limit allowed arms (call_of call.now) made) }
 {
     let at = start_of(call.name.span);
@@ -123,7 +123,8 @@ fn find_unexported(
     context: &mut Context,
     call: &Call<'_>,
 ) -> Result<(), OutOfMemory>
-    ensures { OnOk result ((known : ContextOf) → IsContext known context.old → IsContext (left_behind (call_of call.now) None (unexported_by (config_of config.now) known (call_of call.now)) known) context.new) }
+    ensures left { OnOk result ((known : ContextOf) → IsContext known context.old → IsContext (left_behind (call_of call.now) None (unexported_by (config_of config.now) known (call_of call.now)) known) context.new) }
+    ensures kept { OnOk result (IsSameBudget context.old context.new) }
 {
     let Some(it) = unexported_by(config, context, call) else {
         return Ok(());
@@ -147,7 +148,8 @@ pub(crate) fn expand_call(
     limit: usize,
     call: &Call<'_>,
 ) -> Result<Called, OutOfMemory>
-    ensures limit { IfOk result (IsCalledWithin limit) }
+    ensures within { IfOk result (IsCalledWithin limit (tokens_by context.old.caller config.now.max_tokens context.old.left)) }
+    ensures kept { IfOk result (λ _. IsSameBudget context.old context.new) }
     ensures called { IfOk result (λ called. Learns context.old context.new (IsCalled (config_of config.now) limit (call_of call.now) called)) }
 {
     let name = &call.name.sym;

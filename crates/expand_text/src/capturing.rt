@@ -2,17 +2,19 @@
 ghost use Rattle.std.specs.Prelude.{◌≡◌, OnOk};
 ghost use Rattle.expand_items.specs.Items.{call_of};
 ghost use Rattle.expand_text.specs.Capturing.{expand_to, IsCaptureFound};
-ghost use Rattle.expand_text.specs.Contexts.{Learns};
-ghost use Rattle.expand_text.specs.Walks.{body_of};
+ghost use Rattle.expand_text.specs.Contexts.{IsSameBudget, Learns};
+ghost use Rattle.expand_text.specs.Invocations.{body_of};
 
+use crate::calling::body;
 use crate::config::Config;
 use crate::context::Context;
 use crate::fault::MacroFault;
+use crate::invocation::Invocation;
 use crate::memory::OutOfMemory;
-use crate::walk::Invocation;
 use expand_hygiene::{ExpandTo, first_capture};
 use expand_items::{Call, Siblings};
 use syntax_edit::start_of;
+use tt::TopSubtree;
 
 // Returns what an expansion of such siblings is read as.
 fn expand_to(siblings: Siblings) -> ExpandTo
@@ -30,13 +32,15 @@ pub(crate) fn find_capture(
     config: &Config<'_>,
     context: &mut Context,
     call: &Call<'_>,
-    invocation: &Invocation<'_>,
+    invocation: &Invocation,
+    tree: &TopSubtree,
 ) -> Result<(), OutOfMemory>
-    ensures { OnOk result (Learns context.old context.new (IsCaptureFound invocation.now.defined_at (call_of call.now) invocation.now.position (body_of invocation.now))) }
+    ensures found { OnOk result (Learns context.old context.new (IsCaptureFound invocation.now.defined_at (call_of call.now) invocation.now.position (body_of invocation.now tree.now))) }
+    ensures kept { OnOk result (IsSameBudget context.old context.new) }
 {
     let to = expand_to(invocation.position.siblings());
     let input = call.input.remaining().iter();
-    let body = invocation.body().iter();
+    let body = body(invocation.is_statement, tree).iter();
     if let Some(found) = first_capture(config.alloc, to, input, body)? {
         let fault = MacroFault::Captured(start_of(found.binding));
         let at = start_of(found.captured);

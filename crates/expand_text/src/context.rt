@@ -1,8 +1,8 @@
 //! The state of an expansion: the macros in scope and those that the crate exports, and the findings.
-ghost use Rattle.std.specs.Prelude.{◌≡◌, List, IfOk, OnOk};
+ghost use Rattle.std.specs.Prelude.{◌≡◌, ◌-◌, List, IfOk, OnOk};
 ghost use Rattle.tt.specs.Iters.{rest_of};
 ghost use Rattle.expand_text.specs.Scopes.{Macro, AreReady};
-ghost use Rattle.expand_text.specs.Contexts.{Context as ContextOf, IsContext, IsOutside, new_context, with_finding, left_in_scope, tokens_left, inside_call, outside_call, config_of};
+ghost use Rattle.expand_text.specs.Contexts.{Context as ContextOf, IsContext, IsOutside, IsSameBudget, HasCaller, new_context, with_finding, left_in_scope, tokens_by, tokens_left, inside_call, outside_call, config_of};
 
 use crate::caller::Caller;
 use crate::config::Config;
@@ -61,7 +61,8 @@ impl Context {
         fault: MacroFault,
         defined_at: Option<u32>,
     ) -> Result<(), AllocError>
-        ensures { OnOk result ((context : ContextOf) → IsContext context self.old → IsContext (with_finding (record { name = name.now; at = at; fault = fault; defined_at = defined_at; caller = None }) context) self.new) }
+        ensures found { OnOk result ((context : ContextOf) → IsContext context self.old → IsContext (with_finding (record { name = name.now; at = at; fault = fault; defined_at = defined_at; caller = None }) context) self.new) }
+        ensures kept { OnOk result (IsSameBudget self.old self.new) }
     {
         let finding = Finding {
             name: name.clone()?,
@@ -79,7 +80,8 @@ impl Context {
 
     /// Keeps the first `kept` macros in scope, or all.
     pub(crate) fn leave(&mut self, kept: Option<usize>)
-        ensures { (context : ContextOf) → IsContext context self.old → IsContext (left_in_scope kept context) self.new }
+        ensures left { (context : ContextOf) → IsContext context self.old → IsContext (left_in_scope kept context) self.new }
+        ensures kept { IsSameBudget self.old self.new }
     {
         if let Some(len) = kept {
             self.scope.leave(len);
@@ -88,7 +90,8 @@ impl Context {
 
     /// Returns how many tokens an arm may write for the next call.
     pub(crate) fn tokens_left(&self, config: &Config<'_>) -> usize
-        ensures { (context : ContextOf) → IsContext context self.now → result ≡ tokens_left (config_of config.now) context }
+        ensures known { (context : ContextOf) → IsContext context self.now → result ≡ tokens_left (config_of config.now) context }
+        ensures value { result ≡ tokens_by self.now.caller config.now.max_tokens self.now.left }
     {
         match self.caller {
             None => config.max_tokens,
@@ -107,6 +110,9 @@ impl Context {
     ) -> Result<Outside, AllocError>
         ensures entered { OnOk result ((context : ContextOf) → IsContext context self.old → IsContext (inside_call (config_of config.now) name.now at tokens context) self.new) }
         ensures outside { IfOk result (λ outside. (context : ContextOf) → IsContext context self.old → IsOutside context outside) }
+        ensures left { OnOk result (self.new.left ≡ tokens_by self.old.caller config.now.max_tokens self.old.left - tokens) }
+        ensures caller { OnOk result (HasCaller self.new) }
+        ensures before { IfOk result (λ outside. outside.caller ≡ self.old.caller) }
     {
         let outside = Outside {
             findings: self.findings.len(),
@@ -129,7 +135,9 @@ impl Context {
 
     /// Leaves the expansion of a call. The call is no caller any more if nothing was found in its expansion.
     pub(crate) fn leave_call(&mut self, outside: Outside)
-        ensures { (before inside : ContextOf) → IsOutside before outside → IsContext inside self.old → IsContext (outside_call before inside) self.new }
+        ensures known { (before inside : ContextOf) → IsOutside before outside → IsContext inside self.old → IsContext (outside_call before inside) self.new }
+        ensures left { self.new.left ≡ self.old.left }
+        ensures caller { self.new.caller ≡ outside.caller }
     {
         if self.findings.len() == outside.findings {
             self.callers.truncate(outside.callers);

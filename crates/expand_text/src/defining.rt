@@ -3,7 +3,7 @@ ghost use Rattle.std.specs.Prelude.{◌≡◌, ◌&&◌, List, None, Some, is_so
 ghost use Rattle.tt.specs.Iters.{rest_of};
 ghost use Rattle.expand_text.specs.Defining.{IsRules};
 ghost use Rattle.expand_items.specs.Items.{definition_of};
-ghost use Rattle.expand_text.specs.Contexts.{Learns, config_of};
+ghost use Rattle.expand_text.specs.Contexts.{IsSameBudget, Learns, config_of};
 ghost use Rattle.expand_text.specs.Macros.{IsBuiltIn, IsDefined, IsRead, left_by};
 ghost use Rattle.expand_text.specs.Roots.{rooted};
 ghost use Rattle.expand_text.specs.Scopes.{Macro as MacroOf, AreReady, last_named};
@@ -93,7 +93,8 @@ fn define(
     is_open: bool,
     definition: &Definition<'_>,
 ) -> Result<(), OutOfMemory>
-    ensures { OnOk result (Learns context.old context.new (IsDefined is_open (definition_of definition.now) (rooted config.now.root (rest_of definition.now.arms)))) }
+    ensures defined { OnOk result (Learns context.old context.new (IsDefined is_open (definition_of definition.now) (rooted config.now.root (rest_of definition.now.arms)))) }
+    ensures kept { OnOk result (IsSameBudget context.old context.new) }
 {
     let name = definition.name.sym.clone()?;
     let mut left = MacroFault::Left;
@@ -119,7 +120,8 @@ fn define(
 
 // Adds a macro that is built into the compiler to the scope: it has no rules.
 fn define_built_in(context: &mut Context, definition: &Definition<'_>) -> Result<(), OutOfMemory>
-    ensures { OnOk result (Learns context.old context.new (IsBuiltIn (definition_of definition.now))) }
+    ensures defined { OnOk result (Learns context.old context.new (IsBuiltIn (definition_of definition.now))) }
+    ensures kept { OnOk result (IsSameBudget context.old context.new) }
 {
     let name = definition.name.sym.clone()?;
     context.scope.define(Macro {
@@ -138,7 +140,8 @@ pub(crate) fn read_definition(
     position: Position,
     definition: &Definition<'_>,
 ) -> Result<(), OutOfMemory>
-    ensures { OnOk result (Learns context.old context.new (IsRead (config_of config.now) position (definition_of definition.now))) }
+    ensures read { OnOk result (Learns context.old context.new (IsRead (config_of config.now) position (definition_of definition.now))) }
+    ensures kept { OnOk result (IsSameBudget context.old context.new) }
 {
     if !config.asks_for(&definition.name.sym) {
         return Ok(());

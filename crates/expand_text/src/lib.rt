@@ -2,9 +2,10 @@
 //!
 //! `expand_text` reads the text into a tree, and `Walk` goes through it with a list of the open subtrees. A definition enters the `Scope`,
 //! in which the last definition of a name wins, and which a subtree cuts back at its end unless it is under `#[macro_use]`.
-//! `expand_call` finds the macro of a call and has `mbe_rules` expand the input. `expand_trees` walks the expansion in the same way
-//! and calls itself for its calls, as deep as the limit at most. At the top, an `Output` of `syntax_edit` copies the text and
-//! replaces each call by its expansion, `loosened` before it is written. `rooted` replaces `$crate` once per definition.
+//! `expand_call` finds the macro of a call and has `mbe_rules` expand the input. `expand_tree` walks the expansion in the same way, and
+//! keeps a list of those that wait for the expansion of a call in them, at most as many as the limit. At the top, an `Output` of
+//! `syntax_edit` copies the text and replaces each call by its expansion, `loosened` before it is written. `rooted` replaces `$crate` once
+//! per definition.
 //!
 //! A definition or call with a fault stays in the text and yields a finding, with the calls that wrote it (`Caller`). A call one expansion
 //! too deep, or one for which too many tokens would be written, ends what comes of its call of the text: a macro that calls itself twice
@@ -23,9 +24,13 @@ mod defining;
 mod expanding;
 mod exports;
 mod fault;
+mod invocation;
 pub mod laws;
 mod memory;
+mod next;
 mod options;
+mod part;
+mod placement;
 mod places;
 mod plain;
 mod root;

@@ -12,7 +12,7 @@ pub const USUAL_MAX_TOKENS: usize = 4_000_000;
 /// The options of an expansion.
 #[derive(Clone, Copy)]
 pub struct ExpandOptions<'a> {
-    /// The limit of nested expansions. The stack that an expansion needs is linear in it.
+    /// The limit of nested expansions.
     pub limit: usize,
     /// The limit of the tokens that arms write for one call of the text, with all calls in what they write.
     pub max_tokens: usize,

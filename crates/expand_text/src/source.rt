@@ -1,25 +1,32 @@
 //! A source text, and the text with its calls replaced.
-ghost use Rattle.std.specs.Prelude.{◌≡◌, IfOk, OnOk, string_bytes};
+ghost use Rattle.std.specs.Prelude.{◌≡◌, ◌<◌, true, IfOk, OnOk, string_bytes};
 ghost use Rattle.tt.specs.Stored.{IsWithinLimits};
 ghost use Rattle.expand_text.specs.Macros.{tree_of};
 ghost use Rattle.expand_items.specs.Loosening.{loosened, place_of};
-ghost use Rattle.expand_text.specs.Expansion.{IsTextOf, IsInvocationText, IsInvocationWritten, IsEventWritten, GoesOn, IsSourceText};
+ghost use Rattle.expand_text.specs.Expansion.{IsTextOf, IsInvocationText, IsInvocationWritten, IsSourceText};
 ghost use Rattle.expand_text.specs.Contexts.{Learns, config_of};
 ghost use Rattle.syntax_edit.specs.Texts.{writing_of};
-ghost use Rattle.expand_text.specs.Walks.{IsWithin};
+ghost use Rattle.tt.specs.Views.{trees_of};
+ghost use Rattle.expand_text.specs.Walks.{front_in, levels_of, past_in, work_in};
+ghost use Rattle.expand_text.specs.Writing.{IsNextWritten};
 
 use crate::config::Config;
 use crate::context::Context;
 use crate::expanding::expand_invocation;
 use crate::fault::MacroFault;
+use crate::invocation::Invocation;
 use crate::memory::OutOfMemory;
+use crate::next::{Event, next};
 use crate::places::start_at;
-use crate::walk::{Event, Invocation, Walk, next};
+use crate::walk::Walk;
 use expand_items::{Position, Siblings, loosened};
 use std::alloc::Global;
 use syntax_edit::{Output, end_of, start_of};
 use syntax_unparse::{WriteFault, rust_text};
-use tt::{Delimiter, DelimiterKind, Refused, TopSubtree, TopSubtreeBuilder, TtFault};
+use tt::{
+    Delimiter, DelimiterKind, Refused, TokenTreesView, TopSubtree, TopSubtreeBuilder, TreeWalk,
+    TtFault,
+};
 
 /// The text of an expansion, or why there is none and the byte at which that shows.
 #[derive(Drop)]
@@ -55,7 +62,7 @@ fn write_tree(
 fn write_loosened(
     alloc: Global,
     begin: u32,
-    invocation: &Invocation<'_>,
+    invocation: &Invocation,
     tree: &TopSubtree,
 ) -> Result<Written, OutOfMemory>
     ensures { IfOk result (IsTextOf invocation.now.delimiter (loosened (place_of invocation.now.enclosure invocation.now.position) tree.now.children) begin) }
@@ -78,14 +85,16 @@ fn write_loosened(
     }
 }
 
-// Returns the text of what a call expands to, or why it has none.
+// Returns the text of what a call of these trees expands to, or why it has none.
 fn invocation_text(
     config: &Config<'_>,
     context: &mut Context,
     limit: usize,
-    invocation: &Invocation<'_>,
+    invocation: &Invocation,
+    whole: TokenTreesView<'_>,
+    tree: TopSubtree,
 ) -> Result<Written, OutOfMemory>
-    ensures { IfOk result (λ written. Learns context.old context.new (IsInvocationText (config_of config.now) limit invocation.now written)) }
+    ensures { IfOk result (λ written. Learns context.old context.new (IsInvocationText (config_of config.now) limit invocation.now (trees_of whole.entry) tree written)) }
 {
     let top = Delimiter {
         kind: DelimiterKind::Invisible,
@@ -93,7 +102,15 @@ fn invocation_text(
     };
     let mut builder = TopSubtreeBuilder::new(config.alloc, top)?;
     let begin = start_of(invocation.first_span);
-    match expand_invocation(config, context, limit, invocation, &mut builder)? {
+    match expand_invocation(
+        config,
+        context,
+        limit,
+        invocation,
+        whole,
+        tree,
+        &mut builder,
+    )? {
         Some(fault) => return Ok(Written::Faulty(begin, fault)),
         None => {}
     }
@@ -109,17 +126,20 @@ fn invocation_text(
     }
 }
 
-// Expands a call with at most `limit` nested expansions, and writes the result in its place. Adds a finding if there is no text.
+// Expands a call of these trees with at most `limit` nested expansions, and writes the result in its place. Adds a finding if there is no
+// text.
 fn write_invocation(
     config: &Config<'_>,
     context: &mut Context,
     limit: usize,
-    invocation: &Invocation<'_>,
+    invocation: &Invocation,
+    whole: TokenTreesView<'_>,
+    tree: TopSubtree,
     output: &mut Output<'_>,
 ) -> Result<(), OutOfMemory>
-    ensures { OnOk result (Learns context.old context.new (IsInvocationWritten (config_of config.now) limit invocation.now (writing_of output.old) (writing_of output.new))) }
+    ensures { OnOk result (Learns context.old context.new (IsInvocationWritten (config_of config.now) limit invocation.now (trees_of whole.entry) tree (writing_of output.old) (writing_of output.new))) }
 {
-    match invocation_text(config, context, limit, invocation)? {
+    match invocation_text(config, context, limit, invocation, whole, tree)? {
         Written::Text(text) => {
             let start = start_of(invocation.first_span) as usize;
             let end = end_of(invocation.last_span) as usize;
@@ -134,26 +154,48 @@ fn write_invocation(
     }
 }
 
-// Writes the expansion if the event is a call; all other trees stay as they are. Returns whether the walk goes on.
-fn write_event(
+// Writes the expansion of the call that comes first, and passes the call.
+fn write_call(
     config: &Config<'_>,
     context: &mut Context,
     limit: usize,
-    event: Event<'_>,
+    walk: &mut Walk,
+    call: Invocation,
+    tree: TopSubtree,
+    output: &mut Output<'_>,
+) -> Result<(), OutOfMemory>
+    ensures walk { OnOk result (levels_of walk.new ≡ past_in call.part (levels_of walk.old)) }
+    ensures written { OnOk result (Learns context.old context.new (IsInvocationWritten (config_of config.now) limit call (front_in call.part (levels_of walk.old)) tree (writing_of output.old) (writing_of output.new))) }
+{
+    let whole = walk.front(&call.part);
+    write_invocation(config, context, limit, &call, whole, tree, output)?;
+    walk.pass(&call.part);
+    Ok(())
+}
+
+// Goes to the next event of the walk, and writes the expansion if it is a call; all other trees stay as they are. Returns whether the walk
+// goes on.
+fn write_next(
+    config: &Config<'_>,
+    context: &mut Context,
+    limit: usize,
+    walk: &mut Walk,
     output: &mut Output<'_>,
 ) -> Result<bool, OutOfMemory>
-    requires { IsWithin limit event }
-    ensures goes_on { IfOk result (GoesOn event.entry) }
-    ensures written { OnOk result (Learns context.old context.new (IsEventWritten (config_of config.now) limit event.entry (writing_of output.old) (writing_of output.new))) }
+    ensures steps { IfOk result (λ goes_on. goes_on ≡ true → work_in (levels_of walk.new) < work_in (levels_of walk.old)) }
+    ensures written { IfOk result (λ goes_on. Learns context.old context.new (IsNextWritten goes_on (config_of config.now) limit (levels_of walk.old) (levels_of walk.new) (writing_of output.old) (writing_of output.new))) }
 {
-    match event {
-        Event::End => Ok(false),
-        Event::Invocation(invocation) => {
-            write_invocation(config, context, limit - 1, &invocation, output)?;
-            Ok(true)
+    match next(walk, config, context, limit)? {
+        Event::End => return Ok(false),
+        Event::Leaf(_leaf) => {}
+        Event::Opens(_header) => {}
+        Event::Closes(_close) => {}
+        Event::Stays(part) => walk.pass(&part),
+        Event::Invocation(call, tree) => {
+            write_call(config, context, limit - 1, walk, call, tree, output)?;
         }
-        Event::Leaf(_) | Event::Opens(_) | Event::Closes(_) | Event::Stays(_) => Ok(true),
     }
+    Ok(true)
 }
 
 /// Returns the text with each call replaced by its expansion.
@@ -162,19 +204,15 @@ pub(crate) fn expand_source(
     context: &mut Context,
     limit: usize,
     source: &str,
-    tree: &TopSubtree,
+    tree: TopSubtree,
 ) -> Result<String, OutOfMemory>
-    ensures { IfOk result (λ text. Learns context.old context.new (IsSourceText (config_of config.now) limit source.now tree.now.children (string_bytes text))) }
+    ensures { IfOk result (λ text. Learns context.old context.new (IsSourceText (config_of config.now) limit source.now tree.children (string_bytes text))) }
 {
     let mut output = Output::new(config.alloc, source);
     let close = tree.top_subtree().delimiter.close;
     let first = Position::begun(Siblings::Items);
-    let mut walk = Walk::new(config.alloc, tree.iter(), first, close);
-    'trees: loop {
-        let event = next(&mut walk, config, context, limit)?;
-        let goes_on = write_event(config, context, limit, event, &mut output)?;
-        if !goes_on {
-            return Ok(output.finish()?);
-        }
-    }
+    let trees = TreeWalk::new(config.alloc, tree);
+    let mut walk = Walk::new(config.alloc, trees, first, close);
+    'trees: while write_next(config, context, limit, &mut walk, &mut output)? {}
+    Ok(output.finish()?)
 }

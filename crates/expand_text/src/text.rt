@@ -47,7 +47,7 @@ fn config_by<'a>(alloc: Global, options: ExpandOptions<'a>) -> Result<Config<'a>
 /// Returns the text in which each call of a macro in scope is replaced by its expansion, written as Rust. A definition or a call with a
 /// fault stays as it is, and yields a finding.
 ///
-/// Time is linear in the text, and in what the macros read and write; the stack is linear in the options' limit.
+/// Time is linear in the text, and in what the macros read and write. The stack does not grow with nested expansions.
 pub fn expand_leniently(
     alloc: Global,
     text: &str,
@@ -60,7 +60,7 @@ pub fn expand_leniently(
     let config = config_by(alloc, options)?;
     let exported = exported_macros(&config, &tree)?;
     let mut context = Context::new(alloc, exported);
-    let text = expand_source(&config, &mut context, options.limit, text, &tree)?;
+    let text = expand_source(&config, &mut context, options.limit, text, tree)?;
     Ok(Expanded {
         text,
         findings: context.findings,

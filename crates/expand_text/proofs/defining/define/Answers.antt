@@ -16,8 +16,8 @@ use Rattle.expand_text.proofs.Readiness.{ready_more, ready_unless}
 use Rattle.expand_text.proofs.defining.define.Goals as goal
 use Rattle.expand_text.proofs.defining.define.Goals.{in-Context, in-Faulty+in_ok-find-in-Faulty}
 
-pub returns : goal.returns
-returns c context is =
+pub returns-clause-defined : goal.returns-clause-defined
+returns-clause-defined c context is =
     let it : Definition = definition_of c.args.definition.now in
     let trees : Forest = rooted c.args.config.now.root (rest_of c.args.definition.now.arms) in
     let name : c.in_ok-name.name ≡ it.name.sym = search rules in
@@ -58,7 +58,7 @@ returns c context is =
           let same : made_finding ≡ found_in it w.in-Faulty.at fault = ap (λ n. record { name = n; at = w.in-Faulty.at; fault = fault; defined_at = None; caller = None }) name in
           let then : Context = with_finding (found_in it w.in-Faulty.at fault) context in
           let found : IsContext then c.match-branch-3.context =
-          subst (IsContext then) (sym w.context-is) (subst (λ f. IsContext (with_finding f context) w.find.new.self) same (w.in_ok-find-in-Faulty.ensures context is)) in
+          subst (IsContext then) (sym w.context-is) (subst (λ f. IsContext (with_finding f context) w.find.new.self) same (w.in_ok-find-in-Faulty.ensures.found context is)) in
           let rules_are : AreRules None c.match-branch-3.rules = subst (AreRules None) (sym w.rules-is) tt in (
             with_macro (macro_of it wrong.Left None) then,
             record {

@@ -9,8 +9,8 @@ use Rattle.expand_text.specs.Scopes.{Macro, AreReady}
 use Rattle.expand_text.proofs.Readiness.{ready_more}
 use Rattle.expand_text.proofs.defining.define_built_in.Goals as goal
 
-pub returns : goal.returns
-returns c context is =
+pub returns-clause-defined : goal.returns-clause-defined
+returns-clause-defined c context is =
     let it : Definition = definition_of c.args.definition.now in
     let name : c.in_ok-name.name ≡ it.name.sym = search rules in
     let place : c.start_of.result ≡ start_of it.name.span.range = search rules in

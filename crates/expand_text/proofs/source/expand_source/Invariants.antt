@@ -10,7 +10,7 @@ abbrev pub invariant-trees : goal.invariant-trees
 invariant-trees l =
     (before : Context) → IsContext before l.fn.context
     → (now : Context) × IsContext now l.context
-    × (done : List Replacement) × IsReading (config_of l.config) l.limit l.tree.children before (levels_of l.walk) now done
+    × (done : List Replacement) × IsReading (config_of l.config) l.limit l.fn.tree.children before (levels_of l.walk) now done
     × AreReplaced done (begun l.source) (writing_of l.output)
 
 abbrev pub decreases-trees : goal.decreases-trees

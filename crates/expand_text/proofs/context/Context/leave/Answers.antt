@@ -3,8 +3,8 @@ use Rattle.expand_text.specs.Scopes.{AreReady, kept_of}
 use Rattle.expand_text.proofs.Readiness.{ready_front}
 use Rattle.expand_text.proofs.context.Context.leave.Goals as goal
 
-pub returns-in-Some : goal.returns-in-Some
-returns-in-Some c context is =
+pub returns-in-Some-clause-left : goal.returns-in-Some-clause-left
+returns-in-Some-clause-left c context is =
     let which : c.args.kept ≡ Some c.in-Some.len = search rules in
     record {
       macros =
