@@ -8,7 +8,7 @@ use Rattle.laws_round_trip.proofs.Sources.{head_of, tail_of, are_back, parsed, s
 use Rattle.laws_round_trip.proofs.Placed.{pieces_in}
 use Rattle.laws_round_trip.proofs.Spliced.{Cuts, whole, cut, Reads, cuts_read, reads_back, reads_fine, pieces_mean}
 use Rattle.laws_round_trip.specs.Calls.{is_last, BeginsCall, IsTaken, IsWoven, ends, keeps, gives_way, is_call_sign, is_name, may_begin}
-use Rattle.laws_round_trip.specs.Splices.{Splice, begins_with_name, replacements_of}
+use Rattle.laws_round_trip.specs.Splices.{IsSpelling, Splice, begins_with_name, replacements_of}
 use Rattle.syntax_edit.specs.Texts.{begun, with_all}
 use Rattle.syntax_lex.specs.declared.token.DocStyle.TheVariants.{Outer, Inner}
 use Rattle.syntax_lex.specs.declared.token.TokenKind.TheVariants as kinds
@@ -29,7 +29,6 @@ use Rattle.syntax_parse.specs.declared.role.Role.{Role}
 use Rattle.syntax_unparse.proofs.Chunks.{AreChunks, Chunk, brackets, joined, match, match_as, tokens_of}
 use Rattle.syntax_unparse.specs.Marks.{marks}
 use Rattle.syntax_unparse.specs.Settled.{settled, sorts}
-use Rattle.syntax_unparse.specs.Writable.{IsWritable}
 use Rattle.tt_base.specs.Forest.{Forest, end, leaf, node, Root}
 use Rattle.tt_base.specs.declared.delimiter.DelimiterKind.{DelimiterKind}
 use Rattle.tt_base.specs.declared.leaf.Leaf.TheVariants as leaf_of
@@ -173,13 +172,13 @@ call_end part (x ∷ xs) at front last behind are sound is e = go (λ left other
 abbrev First : (before : List Sort) (pieces : List Piece) (it : Splice) (others : List Splice) (all : List Sort) → Type 0
 First before pieces it others all =
     (kept : List Piece) × (call : List Piece) × (rest : List Piece) × (later : List Sort) × (pieces ≡ kept ++ (call ++ rest)) × (may_begin (behind_pieces kept before) ≡ true)
-    × IsTaken call it.start it.end × IsWritable it.trees × IsWoven [] rest others later × (all ≡ sorts kept ++ (settled (marks 0 it.trees) ++ later))
+    × IsTaken call it.start it.end × IsSpelling it.trees it.text × IsWoven [] rest others later × (all ≡ sorts kept ++ (settled (marks 0 it.trees) ++ later))
 
 first_call : {before : List Sort} {pieces : List Piece} {it : Splice} {others : List Splice} {all : List Sort} → IsWoven before pieces (it ∷ others) all → First before pieces it others all
 first_call (keeps {piece = piece} is) =
-    let (kept, call, rest, later, parts, may, taken, writable, behind, same) = first_call is in
-    (piece ∷ kept, call, rest, later, ap (λ ps. piece ∷ ps) parts, may, taken, writable, behind, ap (λ ss. piece.sort ∷ ss) same)
-first_call (gives_way {call = call} {pieces = rest} {woven = later} may taken writable is) = ([], call, rest, later, refl, may, taken, writable, is, refl)
+    let (kept, call, rest, later, parts, may, taken, spelling, behind, same) = first_call is in
+    (piece ∷ kept, call, rest, later, ap (λ ps. piece ∷ ps) parts, may, taken, spelling, behind, ap (λ ss. piece.sort ∷ ss) same)
+first_call (gives_way {call = call} {pieces = rest} {woven = later} may taken spelling is) = ([], call, rest, later, refl, may, taken, spelling, is, refl)
 
 no_call : {before : List Sort} {pieces : List Piece} {all : List Sort} → IsWoven before pieces [] all → all ≡ sorts pieces
 no_call ends = refl
@@ -196,7 +195,7 @@ calls_cut : (part : SpanPart) (splices : List Splice) (at : ℕ) (chunks : List 
     → pieces_in part at chunks ≡ pieces → IsWoven [] pieces splices all → Cuts splices at chunks all
 calls_cut part [] at chunks pieces all are sound same is = subst (Cuts [] at chunks) (sym (pieces_mean part at chunks are) ∙ ap sorts same ∙ sym (no_call is)) whole
 calls_cut part (it ∷ others) at chunks pieces all are sound same is =
-    let (kept, call, rest, later, parts, may, taken, writable, behind, whole_is) = first_call is in
+    let (kept, call, rest, later, parts, may, taken, spelling, behind, whole_is) = first_call is in
     let (first, second, more, begins, start, named, signed) = begins_call it.start call taken.begins in
     let (fronts, last, whole_call, stops, closed) = taken.ends in
     let f = front part chunks at [] false false kept first second (more ++ rest) are sound (λ e. absurd (false≢true e)) (λ e. absurd (false≢true e)) named signed may
@@ -213,7 +212,7 @@ calls_cut part (it ∷ others) at chunks pieces all are sound same is =
     (ap (λ a. pieces_in part a e.behind) stop ∙ e.left) behind in
     subst (λ cs. Cuts (it ∷ others) at cs all) (sym (f.parts ∙ ap (λ cs. f.before ++ cs) e.parts))
     (subst (Cuts (it ∷ others) at (f.before ++ (e.inside ++ e.behind))) (ap (λ ss. ss ++ (settled (marks 0 it.trees) ++ later)) f.means ∙ sym whole_is)
-    (cut f.before e.inside e.behind begin (stop ∙ ap (λ a. a + length (joined e.inside)) (sym begin)) (ap (λ cs. begins_with_name (tokens_of cs)) (sym e.parts) ∙ f.named) (e.matched [] balanced) (ends_as (tokens_of f.before) ∙ f.apart) writable others_cut))
+    (cut f.before e.inside e.behind begin (stop ∙ ap (λ a. a + length (joined e.inside)) (sym begin)) (ap (λ cs. begins_with_name (tokens_of cs)) (sym e.parts) ∙ f.named) (e.matched [] balanced) (ends_as (tokens_of f.before) ∙ f.apart) spelling others_cut))
 
 -- So a text in which trees replace such calls is read as what is woven, and has no fault of syntax.
 calls_read : (part : SpanPart) (text : List ℕ) (root : Root) (splices : List Splice) (all : List Sort) → IsUtf8 text → IsParse part text root → IsWoven [] (spelled root.children) splices all

@@ -16,6 +16,7 @@ pub mod Touches
 pub mod Seams
 pub mod Sources
 pub mod Placed
+pub mod Spelling
 pub mod Spliced
 pub mod CallCuts
 pub mod CallWeaves

@@ -41,13 +41,13 @@ use Rattle.tt_base.specs.declared.punct.Spacing.TheVariants.{Alone}
 use Rattle.tt_base.specs.declared.span.SpanPart.{SpanPart}
 
 -- the tokens of a text as chunks
-record Source (t : List ℕ) (tokens : List Token) : Type 0 where
-  chunks : List Chunk
-  are : AreChunks chunks
-  text_is : joined chunks ≡ t
-  tokens_are : tokens_of chunks ≡ tokens
+pub record Source (t : List ℕ) (tokens : List Token) : Type 0 where
+  pub chunks : List Chunk
+  pub are : AreChunks chunks
+  pub text_is : joined chunks ≡ t
+  pub tokens_are : tokens_of chunks ≡ tokens
 
-source : (t : List ℕ) (tokens : List Token) → IsUtf8 t → AreTokensOf tokens (chars t) → Source t tokens
+pub source : (t : List ℕ) (tokens : List Token) → IsUtf8 t → AreTokensOf tokens (chars t) → Source t tokens
 source t [] utf8 are = record { chunks = []; are = tt; text_is = sym (nil_from_length t (empty_from_chars t utf8 are)); tokens_are = refl }
 source t (token ∷ tokens) utf8 (some, is, are) =
     let it = first_word t token utf8 some is in
@@ -135,6 +135,13 @@ pub are_back : (front back : List Chunk) → AreChunks (front ++ back) → AreCh
 are_back [] back are = are
 are_back (x ∷ front) back are = are_back front back are.1
 
+-- the brackets of a text without a fault match
+pub match_source : (t : List ℕ) (tokens : List Token) (it : Source t tokens) → fault_from [] 0 t tokens ≡ None → match [] it.chunks ≡ true
+match_source t tokens it none =
+    let chunks = it.chunks in
+    match_front [] 0 chunks [] (subst AreChunks (sym (append-nil chunks)) it.are)
+    (ap (λ cs. fault_from [] 0 (joined cs) (tokens_of chunks)) (append-nil chunks) ∙ ap₂ (fault_from [] 0) it.text_is it.tokens_are ∙ none)
+
 -- a text that was read, as chunks
 pub record Parsed (part : SpanPart) (text : List ℕ) (tokens : List Token) (trees : Forest) : Type 0 where
   pub chunks : List Chunk
@@ -149,8 +156,7 @@ pub parsed : (part : SpanPart) (text : List ℕ) (root : Root) → IsUtf8 text �
 parsed part text root utf8 parse =
     let it = source text parse.tokens utf8 parse.read in
     let chunks = it.chunks in
-    let fine : fault_from [] 0 (joined chunks) (tokens_of chunks) ≡ None = ap₂ (fault_from [] 0) it.text_is it.tokens_are ∙ parse.fine in
-    let matched = match_front [] 0 chunks [] (subst AreChunks (sym (append-nil chunks)) it.are) (ap (λ cs. fault_from [] 0 (joined cs) (tokens_of chunks)) (append-nil chunks) ∙ fine) in
+    let matched = match_source text parse.tokens it parse.fine in
     record {
       chunks = chunks;
       are = it.are;
@@ -160,6 +166,10 @@ parsed part text root utf8 parse =
       tokens_are = it.tokens_are;
       pieces = parse.spells ∙ sym (ap₂ (pieces_from part 0) it.text_is it.tokens_are) ∙ pieces_in-is part 0 chunks;
     }
+
+pub utf8_joined : (xs : List Chunk) → AreChunks xs → IsUtf8 (joined xs)
+utf8_joined [] are = IsUtf8-nil
+utf8_joined (x ∷ xs) are = IsUtf8-append x.text (joined xs) are.0.utf8 (utf8_joined xs are.1)
 
 pub joined-append : (xs ys : List Chunk) → joined (xs ++ ys) ≡ joined xs ++ joined ys
 joined-append [] ys = refl

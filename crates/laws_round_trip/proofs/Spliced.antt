@@ -1,123 +1,34 @@
--- The chunks of trees that can be written, those of a text in which trees are spliced, and the reading of that text.
-use Rattle.std.proofs.Common.{◌≡◌, ◌<◌, inl, inr, Bool, true, false, List, [], ◌∷◌, length, None, Some, refl, sym, ap, ◌∙◌, subst, arith, append-nil, if◌then◌else◌, ℕ, ◌+◌, ◌-◌, ◌++◌, take, drop, Option, ap₂, append_assoc}
+-- The chunks of a text in which trees are spliced, and the reading of that text.
+use Rattle.std.proofs.Common.{◌≡◌, ◌<◌, true, false, List, [], ◌∷◌, length, None, Some, refl, sym, ap, ◌∙◌, subst, arith, append-nil, ℕ, ◌+◌, ◌-◌, ◌++◌, take, drop, Option, ap₂, append_assoc}
 use Rattle.std.proofs.Math.Seq.{drop-append_seam, take-append_seam}
 use Rattle.std.proofs.lemmas.Bool.{false≢true}
 use Rattle.std.specs.List.{slice_get}
 use Rattle.std.specs.Str.{chars, IsUtf8}
-use Rattle.laws_round_trip.proofs.KindFacts.{some_part}
 use Rattle.laws_round_trip.proofs.Placed.{all_from, before_front, every_append, every_more, from_back, front_pieces, pieces_in, pieces_in-is}
-use Rattle.laws_round_trip.proofs.Roles.{IsEither, leaf_two}
 use Rattle.laws_round_trip.proofs.Seams.{Made, AreSound, last_append, match_behind, seam}
 use Rattle.laws_round_trip.proofs.Sources.{cut_chunks, front_not_line, joined-append, neutral, rest_text, bytes_are, split, Parsed, are_back, sound_back, sound_chunks, sound_front, match_front, parsed}
+use Rattle.laws_round_trip.proofs.Spelling.{spelled_chunks}
 use Rattle.laws_round_trip.proofs.Touches.{last_of}
-use Rattle.laws_round_trip.specs.Kept.{ends_in_line, is_line}
-use Rattle.laws_round_trip.specs.Splices.{Splice, begins_with_name, ends_in_point, replacements_of, ArePlaces, before_byte, from_byte, woven}
+use Rattle.laws_round_trip.specs.Kept.{ends_in_line}
+use Rattle.laws_round_trip.specs.Splices.{IsSpelling, Splice, begins_with_name, ends_in_point, replacements_of, ArePlaces, before_byte, from_byte, woven}
 use Rattle.syntax_edit.specs.Texts.{begun, joined as with_seam, wants_space, with_all}
 use Rattle.syntax_lex.proofs.TokenFacts.{one_list}
 use Rattle.syntax_lex.specs.Reading.{AreTokensOf, bytes_of}
-use Rattle.syntax_lex.specs.declared.token.DocStyle.TheVariants.{Outer, Inner}
-use Rattle.syntax_lex.specs.declared.token.DocStyle.{DocStyle}
 use Rattle.syntax_lex.specs.declared.token.Token.{Token}
 use Rattle.syntax_lex.specs.declared.token.TokenKind.TheVariants as kinds
-use Rattle.syntax_lex.specs.declared.token.TokenKind.{TokenKind}
 use Rattle.syntax_parse.specs.Faults.{fault_from}
-use Rattle.syntax_parse.specs.Parsed.{next_kind, IsParse, pieces_from}
-use Rattle.syntax_parse.specs.Pieces.{pieces_as, pieces_of}
+use Rattle.syntax_parse.specs.Parsed.{IsParse, pieces_from}
 use Rattle.syntax_parse.specs.Refusal.{IsFaultOf}
-use Rattle.syntax_parse.specs.Role.{role_in}
 use Rattle.syntax_parse.specs.Spelled.{Sort, spelled}
 use Rattle.syntax_parse.specs.declared.bracket.Bracket.{Bracket}
 use Rattle.syntax_parse.specs.declared.fault.SyntaxFault.{SyntaxFault}
-use Rattle.syntax_parse.specs.declared.role.Role.TheVariants.{Bad, Nothing, Opens, Closes, Leaf}
-use Rattle.syntax_parse.specs.declared.role.Role.{Role}
-use Rattle.syntax_unparse.proofs.Back.{chunks_are}
-use Rattle.syntax_unparse.proofs.Chunks.{AreChunks, Chunk, IsChunk, joined, match, means_of, tokens_of, no_fault, pieces_are, tokens_are}
+use Rattle.syntax_unparse.proofs.Chunks.{AreChunks, Chunk, joined, match, means_of, tokens_of, no_fault, pieces_are, tokens_are}
 use Rattle.syntax_unparse.proofs.Fronts.{not_nil}
-use Rattle.syntax_unparse.proofs.Written.{chunks_of, fits, gap_if, joined_are, leaf_chunk, lifetime_chunk, match_are, matches, means_are, trees_match, quotes}
-use Rattle.syntax_unparse.specs.Marks.{Mark, word, opening, closing, marks}
+use Rattle.syntax_unparse.specs.Marks.{marks}
 use Rattle.syntax_unparse.specs.Settled.{settled, sorts}
-use Rattle.syntax_unparse.specs.Text.{behind_leaf, opens_apart, text_of, wants_space as wants_gap}
-use Rattle.syntax_unparse.specs.Writable.{IsWritable, is_punct}
-use Rattle.syntax_unparse.specs.declared.behind.Behind.TheVariants.{Opening, Apart, Quote}
-use Rattle.syntax_unparse.specs.declared.behind.Behind.{Behind}
 use Rattle.tt_base.specs.Forest.{Forest, Root}
 use Rattle.tt_base.specs.TreeText.{space_if}
 use Rattle.tt_base.specs.declared.span.SpanPart.{SpanPart}
-
--- white space, a bracket, or one leaf or two
-abbrev IsBrief : Role → TokenKind → List Sort → Type 0
-IsBrief (Bad why) kind means = ⊥
-IsBrief Nothing kind means = kind ≡ kinds.Whitespace
-IsBrief (Opens pair) kind means = Unit {0}
-IsBrief (Closes pair) kind means = Unit {0}
-IsBrief Leaf kind means = length means < 3
-
--- it is no comment to the end of the line
-brief_line : (x : Chunk) (xs : List Chunk) → IsChunk x xs → IsBrief x.role x.kind x.means → is_line x.kind ≡ false
-brief_line x xs it brief =
-    by x.kind (subst (λ role. IsBrief role x.kind (sorts (pieces_as (role_in x.kind x.text) some_part x.kind (next_kind (tokens_of xs)) 0 x.text))) (sym it.role) (subst (IsBrief x.role x.kind) (sym (it.means some_part 0)) brief))
-  where
-    long : (style : DocStyle) → IsBrief Leaf (kinds.LineComment (Some style)) (sorts (pieces_as Leaf some_part (kinds.LineComment (Some style)) (next_kind (tokens_of xs)) 0 x.text)) → ⊥
-    long Outer h = omega (arith, h)
-    long Inner h = omega (arith, h)
-
-    documents : (style : DocStyle) (role : Role) → IsEither role → IsBrief role (kinds.LineComment (Some style)) (sorts (pieces_as role some_part (kinds.LineComment (Some style)) (next_kind (tokens_of xs)) 0 x.text)) → ⊥
-    documents style role (inl is) h = long style (subst (λ r. IsBrief r (kinds.LineComment (Some style)) (sorts (pieces_as r some_part (kinds.LineComment (Some style)) (next_kind (tokens_of xs)) 0 x.text))) is h)
-    documents style role (inr (why, is)) h = subst (λ r. IsBrief r (kinds.LineComment (Some style)) (sorts (pieces_as r some_part (kinds.LineComment (Some style)) (next_kind (tokens_of xs)) 0 x.text))) is h
-
-    by : (kind : TokenKind) → IsBrief (role_in kind x.text) kind (sorts (pieces_of some_part kind (next_kind (tokens_of xs)) 0 x.text)) → is_line kind ≡ false
-    by (kinds.LineComment None) h = absurd (cc h)
-    by (kinds.LineComment (Some style)) h = absurd (documents style (role_in (kinds.LineComment (Some style)) x.text) (leaf_two _) h)
-    by kind h = refl
-
-abbrev AreBrief : List Chunk → Type 0
-AreBrief [] = Unit {0}
-AreBrief (x ∷ xs) = IsBrief x.role x.kind x.means × AreBrief xs
-
--- the chunks of marks are brief
-gap_brief : (due : Bool) (chunks : List Chunk) → AreBrief chunks → AreBrief (gap_if due chunks)
-gap_brief true chunks h = (refl, h)
-gap_brief false chunks h = h
-
-marks_brief : (behind : Behind) (ms : List Mark) → AreBrief (chunks_of behind ms)
-marks_brief behind [] = tt
-marks_brief behind (opening pair ∷ rest) = gap_brief (opens_apart behind) _ (tt, marks_brief Opening rest)
-marks_brief behind (closing pair ∷ rest) = (tt, marks_brief Apart rest)
-marks_brief behind (word at it ∷ rest) = by (quotes behind) (is_punct 39 it) (marks_brief Quote rest) (marks_brief (behind_leaf it) rest)
-  where
-    by : (quoted quote : Bool) → AreBrief (chunks_of Quote rest) → AreBrief (chunks_of (behind_leaf it) rest)
-        → AreBrief (if quoted then lifetime_chunk it ∷ chunks_of (behind_leaf it) rest else gap_if (wants_gap behind it) (if quote then chunks_of Quote rest else leaf_chunk it rest ∷ chunks_of (behind_leaf it) rest))
-    by true quote after plain = (omega arith, plain)
-    by false true after plain = gap_brief (wants_gap behind it) _ after
-    by false false after plain = gap_brief (wants_gap behind it) _ (omega arith, plain)
-
-no_line : (chunks : List Chunk) → AreChunks chunks → AreBrief chunks → ends_in_line (tokens_of chunks) ≡ false
-no_line [] are h = refl
-no_line (x ∷ []) are h = brief_line x [] are.0 h.0
-no_line (x ∷ y ∷ xs) are h = no_line (y ∷ xs) are.1 h.1
-
--- the chunks of trees
-pub record Written (trees : Forest) : Type 0 where
-  pub chunks : List Chunk
-  pub are : AreChunks chunks
-  pub text_is : joined chunks ≡ text_of trees
-  pub means : means_of chunks ≡ settled (marks 0 trees)
-  pub matched : match [] chunks ≡ true
-  pub line : ends_in_line (tokens_of chunks) ≡ false
-
-pub written : (trees : Forest) → IsWritable trees → Written trees
-written trees writable =
-    let ms = marks 0 trees in
-    let f = fits 0 Opening ms writable in
-    let are = chunks_are Opening ms f in
-    record {
-      chunks = chunks_of Opening ms;
-      are = are;
-      text_is = joined_are Opening ms f;
-      means = means_are Opening ms f;
-      matched = match_are [] Opening ms ∙ ap (matches []) (sym (append-nil ms)) ∙ trees_match [] 0 trees [];
-      line = no_line (chunks_of Opening ms) are (marks_brief Opening ms);
-    }
 
 -- a text that is joined with an empty text is the text
 seam_nil : (a : List ℕ) → with_seam a [] ≡ a
@@ -141,7 +52,7 @@ seam_assoc a (d ∷ bs) c =
 -- a text that begins at a byte, with trees spliced in
 abbrev pub spliced : List Splice → (at : ℕ) → List ℕ → List ℕ
 spliced [] at t = t
-spliced (it ∷ others) at t = with_seam (take (it.start - at) t) (with_seam (text_of it.trees) (spliced others it.end (drop (it.end - at) t)))
+spliced (it ∷ others) at t = with_seam (take (it.start - at) t) (with_seam it.text (spliced others it.end (drop (it.end - at) t)))
 
 -- the spliced text is what is written
 pub written_all : (splices : List Splice) (so_far rest : List ℕ) (at : ℕ) → with_all (replacements_of splices) (record { so_far = so_far; rest = rest; at = at }) ≡ with_seam so_far (spliced splices at rest)
@@ -149,9 +60,9 @@ written_all [] so_far rest at = refl
 written_all (it ∷ others) so_far rest at =
     let kept = take (it.start - at) rest in
     let more = spliced others it.end (drop (it.end - at) rest) in
-    written_all others (with_seam (with_seam so_far kept) (text_of it.trees)) (drop (it.end - at) rest) it.end
-    ∙ seam_assoc (with_seam so_far kept) (text_of it.trees) more
-    ∙ seam_assoc so_far kept (with_seam (text_of it.trees) more)
+    written_all others (with_seam (with_seam so_far kept) it.text) (drop (it.end - at) rest) it.end
+    ∙ seam_assoc (with_seam so_far kept) it.text more
+    ∙ seam_assoc so_far kept (with_seam it.text more)
 
 -- two lists of chunks that match the same open brackets also do so with the same chunks before them
 match_same : (front xs ys : List Chunk) → ((before : List Bracket) → match before xs ≡ match before ys) → (before : List Bracket) → match before (front ++ xs) ≡ match before (front ++ ys)
@@ -167,7 +78,7 @@ pub data Cuts : List Splice → (at : ℕ) → List Chunk → List Sort → Type
       → begins_with_name (tokens_of (inside ++ rest)) ≡ true
       → match [] inside ≡ true
       → ends_in_point (tokens_of kept) ≡ false
-      → IsWritable it.trees
+      → IsSpelling it.trees it.text
       → Cuts others it.end rest all
       → Cuts (it ∷ others) at (kept ++ (inside ++ rest)) (means_of kept ++ (settled (marks 0 it.trees) ++ all))
 
@@ -178,9 +89,9 @@ Spliced splices at chunks all = Made (spliced splices at (joined chunks)) all ch
 -- one splice, if the others are done
 splice_one : (it : Splice) (others : List Splice) (at : ℕ) (kept inside rest : List Chunk) (after : List Sort) → AreChunks (kept ++ (inside ++ rest)) → AreSound kept
     → it.start ≡ at + length (joined kept) → it.end ≡ it.start + length (joined inside) → begins_with_name (tokens_of (inside ++ rest)) ≡ true → match [] inside ≡ true → ends_in_point (tokens_of kept) ≡ false
-    → IsWritable it.trees → Spliced others it.end rest after → Spliced (it ∷ others) at (kept ++ (inside ++ rest)) (means_of kept ++ (settled (marks 0 it.trees) ++ after))
-splice_one it others at kept inside rest after are sound start stop named matched apart writable inner =
-    let trees = written it.trees writable in
+    → IsSpelling it.trees it.text → Spliced others it.end rest after → Spliced (it ∷ others) at (kept ++ (inside ++ rest)) (means_of kept ++ (settled (marks 0 it.trees) ++ after))
+splice_one it others at kept inside rest after are sound start stop named matched apart spelling inner =
+    let trees = spelled_chunks it.trees it.text spelling in
     let (later, later_begins) = seam trees.chunks inner.new trees.are (sound_chunks [] trees.chunks trees.are trees.matched) trees.line inner.are in
     let (all, all_begins) = seam kept later.new (cut_chunks kept (inside ++ rest) are sound named apart) sound (front_not_line kept (inside ++ rest) are named) later.are in
     let whole : joined (kept ++ (inside ++ rest)) ≡ joined kept ++ joined (inside ++ rest) = joined-append kept (inside ++ rest) in
@@ -199,9 +110,9 @@ splice_one it others at kept inside rest after are sound start stop named matche
 -- all splices
 splice_all : {splices : List Splice} {at : ℕ} {chunks : List Chunk} {all : List Sort} → Cuts splices at chunks all → AreChunks chunks → AreSound chunks → Spliced splices at chunks all
 splice_all (whole {chunks = chunks}) are sound = record { new = chunks; are = are; text_is = refl; matches = λ before. refl; means = refl }
-splice_all (cut {it = it} {others = others} {at = at} kept inside rest {all = all} start stop named matched apart writable later) are sound =
+splice_all (cut {it = it} {others = others} {at = at} kept inside rest {all = all} start stop named matched apart spelling later) are sound =
     let inner = splice_all later (are_back inside rest (are_back kept (inside ++ rest) are)) (sound_back inside rest (sound_back kept (inside ++ rest) sound)) in
-    splice_one it others at kept inside rest all are (sound_front kept (inside ++ rest) sound) start stop named matched apart writable inner
+    splice_one it others at kept inside rest all are (sound_front kept (inside ++ rest) sound) start stop named matched apart spelling inner
 
 -- the reading of a text, without a fault
 pub record Reads (t : List ℕ) (all : List Sort) : Type 0 where
@@ -276,7 +187,7 @@ places_cut part (it ∷ others) at chunks are (place, later) =
     let inner = places_cut part others it.end rest (are_back inside rest (are_back kept (inside ++ rest) all)) (subst (λ ts. ArePlaces others it.end (joined rest) ts) (sym behinds) (subst (λ t. ArePlaces others it.end t place.behind) left later)) in
     subst (λ cs. Cuts (it ∷ others) at cs (woven (it ∷ others) (pieces_in part at cs))) (sym parts)
     (subst (Cuts (it ∷ others) at (kept ++ (inside ++ rest))) (sym (woven_parts it others at kept inside rest part all start stop))
-    (cut kept inside rest start stop (begins_front inside rest (ap begins_with_name insides ∙ place.named)) matched (ap ends_in_point befores ∙ place.apart) place.writable inner))
+    (cut kept inside rest start stop (begins_front inside rest (ap begins_with_name insides ∙ place.named)) matched (ap ends_in_point befores ∙ place.apart) place.spelling inner))
 
 -- so a text that was read is read again with trees in these places
 places_read : (part : SpanPart) (text : List ℕ) (root : Root) (splices : List Splice) (utf8 : IsUtf8 text) → (parse : IsParse part text root) → ArePlaces splices 0 text parse.tokens

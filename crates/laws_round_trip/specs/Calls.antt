@@ -1,11 +1,10 @@
 -- Where calls are among the pieces of a text, and how the text is read if trees replace them.
 use Rattle.std.specs.Prelude.{◌≡◌, ℕ, Bool, true, false, not, ◌==◌, ◌&&◌, ◌||◌, List, [], ◌∷◌, ◌++◌}
 use Rattle.tt_base.specs.Forest.{Forest}
-use Rattle.laws_round_trip.specs.Splices.{Splice}
+use Rattle.laws_round_trip.specs.Splices.{IsSpelling, Splice}
 use Rattle.syntax_parse.specs.Spelled.{Piece, Sort, name, sign, value, opening, closing, spelled}
 use Rattle.syntax_unparse.specs.Marks.{marks}
 use Rattle.syntax_unparse.specs.Settled.{settled}
-use Rattle.syntax_unparse.specs.Writable.{IsWritable}
 
 -- whether a literal is the latest of these leaves and brackets, the latest first
 abbrev pub follows_value : (before : List Sort) → Bool
@@ -76,6 +75,6 @@ pub data IsWoven : (before : List Sort) → List Piece → List Splice → List 
   gives_way : {before : List Sort} {call pieces : List Piece} {it : Splice} {splices : List Splice} {woven : List Sort}
       → may_begin before ≡ true
       → IsTaken call it.start it.end
-      → IsWritable it.trees
+      → IsSpelling it.trees it.text
       → IsWoven [] pieces splices woven
       → IsWoven before (call ++ pieces) (it ∷ splices) (settled (marks 0 it.trees) ++ woven)

@@ -1,28 +1,35 @@
 -- Trees that replace parts of a text, and how the text is read then.
 use Rattle.std.specs.Prelude.{◌≡◌, ℕ, ◌+◌, ◌-◌, Bool, true, false, ◌&&◌, List, [], ◌∷◌, ◌++◌, drop, None, nat_lt, if◌then◌else◌}
+use Rattle.std.specs.Str.{IsUtf8}
 use Rattle.tt_base.specs.Forest.{Forest}
 use Rattle.syntax_edit.specs.Texts.{Replacement}
 use Rattle.syntax_lex.specs.Reading.{bytes_of}
 use Rattle.syntax_lex.specs.declared.token.Token.{Token}
 use Rattle.syntax_lex.specs.declared.token.TokenKind.{TokenKind}
 use Rattle.syntax_lex.specs.declared.token.TokenKind.TheVariants as kinds
-use Rattle.laws_round_trip.specs.Kept.{is_number}
+use Rattle.laws_round_trip.specs.Kept.{ends_in_line, is_number}
 use Rattle.syntax_parse.specs.Faults.{fault_from}
 use Rattle.syntax_parse.specs.Spelled.{Piece, Sort}
 use Rattle.syntax_unparse.specs.Marks.{marks}
-use Rattle.syntax_unparse.specs.Settled.{settled, sorts}
-use Rattle.syntax_unparse.specs.Text.{text_of}
-use Rattle.syntax_unparse.specs.Writable.{IsWritable, is_name}
+use Rattle.syntax_unparse.specs.Settled.{ReadsBack, settled, sorts}
+use Rattle.syntax_unparse.specs.Writable.{is_name}
 
--- trees that replace the bytes from a place to another
+-- A text spells trees: it reads back as them, and its last token is no comment to the end of a line, so that another text may follow it.
+pub record IsSpelling (trees : Forest) (text : List ℕ) : Type 0 where
+  pub utf8 : IsUtf8 text
+  pub back : ReadsBack trees text
+  pub line : ends_in_line back.tokens ≡ false
+
+-- trees that replace the bytes from a place to another, and a text that spells them
 pub record Splice : Type 0 where
   pub start : ℕ
   pub end : ℕ
   pub trees : Forest
+  pub text : List ℕ
 
--- the text of the trees, in that place
+-- the text, in that place
 abbrev pub replacement_of : Splice → Replacement
-replacement_of it = record { start = it.start; end = it.end; text = text_of it.trees }
+replacement_of it = record { start = it.start; end = it.end; text = it.text }
 
 -- the texts of all splices
 abbrev pub replacements_of : List Splice → List Replacement
@@ -47,7 +54,7 @@ ends_in_point (first ∷ second ∷ []) = is_number first.kind && is_dot second.
 ends_in_point (first ∷ second ∷ third ∷ tokens) = ends_in_point (second ∷ third ∷ tokens)
 
 -- Where trees are spliced into a text of these tokens, which begins at byte `at`. The trees replace tokens that begin with a name and have
--- matching brackets. No point right after a number precedes these tokens. The trees can be written.
+-- matching brackets. No point right after a number precedes these tokens. The text spells the trees.
 pub record IsPlace (it : Splice) (at : ℕ) (text : List ℕ) (tokens : List Token) : Type 0 where
   pub before : List Token
   pub inside : List Token
@@ -58,7 +65,7 @@ pub record IsPlace (it : Splice) (at : ℕ) (text : List ℕ) (tokens : List Tok
   pub named : begins_with_name inside ≡ true
   pub matched : fault_from [] 0 (drop (bytes_of before) text) inside ≡ None
   pub apart : ends_in_point before ≡ false
-  pub writable : IsWritable it.trees
+  pub spelling : IsSpelling it.trees it.text
 
 -- all splices, in order: each begins at the end of the one before it or after it
 abbrev pub ArePlaces : List Splice → (at : ℕ) → (text : List ℕ) → List Token → Type 0

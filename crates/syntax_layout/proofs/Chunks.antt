@@ -1,70 +1,20 @@
--- The chunks of a text, and chunks with a space before them.
-use Rattle.std.proofs.Common.{◌≡◌, ◌≢◌, inl, ℕ, Bool, true, false, List, [], ◌∷◌, ◌++◌, take, drop, None, Some, refl, sym, ap, ap₂, ◌∙◌, subst, append-nil, arith}
-use Rattle.std.proofs.lemmas.List.{nil_from_length, take-append-drop}
-use Rattle.std.proofs.lemmas.Str.{IsUtf8-append, IsUtf8-nil, chars-append, chars-nil}
-use Rattle.std.specs.Str.{chars, IsUtf8}
-use Rattle.laws_round_trip.proofs.KindFacts.{blank_read, pieces_same, some_part}
+-- Chunks with a space before them.
+use Rattle.std.proofs.Common.{◌≡◌, ◌≢◌, ℕ, Bool, true, false, List, [], ◌∷◌, ◌++◌, Some, refl, sym, ap, ◌∙◌, arith}
+use Rattle.std.proofs.lemmas.Str.{IsUtf8-append, chars-append, chars-nil}
+use Rattle.std.specs.Str.{chars}
+use Rattle.laws_round_trip.proofs.KindFacts.{blank_read}
 use Rattle.laws_round_trip.proofs.Seams.{match_cons, space_blank, space_chunk}
-use Rattle.laws_round_trip.proofs.Sources.{match_front}
-use Rattle.laws_round_trip.proofs.Words.{first_word}
 use Rattle.laws_round_trip.specs.Kept.{ends_in_line}
 use Rattle.laws_tokens.proofs.Twins.{behind_none}
-use Rattle.syntax_lex.proofs.FrontFacts.{empty_from_chars}
 use Rattle.syntax_lex.specs.Class.{is_whitespace}
 use Rattle.syntax_lex.specs.Front.{behind, first}
-use Rattle.syntax_lex.specs.Reading.{AreTokensOf, reading}
-use Rattle.syntax_lex.specs.declared.token.Token.{Token}
+use Rattle.syntax_lex.specs.Reading.{reading}
 use Rattle.syntax_lex.specs.declared.token.TokenKind.TheVariants as kinds
-use Rattle.syntax_parse.specs.Faults.{fault_from}
 use Rattle.syntax_parse.specs.Parsed.{next_kind}
-use Rattle.syntax_parse.specs.Pieces.{pieces_of, spacing_before}
-use Rattle.syntax_parse.specs.Role.{role_in}
 use Rattle.syntax_parse.specs.declared.bracket.Bracket.{Bracket}
 use Rattle.syntax_parse.specs.declared.role.Role.TheVariants.{Nothing}
 use Rattle.syntax_unparse.proofs.Chunks.{AreChunks, Chunk, IsChunk, joined, match, match_as, means_of, tokens_of}
 use Rattle.syntax_unparse.proofs.Fronts.{ascii_first, text}
-use Rattle.syntax_unparse.specs.Settled.{sorts}
-
--- the tokens of a text as chunks
-pub record Source (t : List ℕ) (tokens : List Token) : Type 0 where
-  pub chunks : List Chunk
-  pub are : AreChunks chunks
-  pub text_is : joined chunks ≡ t
-  pub tokens_are : tokens_of chunks ≡ tokens
-
-pub source : (t : List ℕ) (tokens : List Token) → IsUtf8 t → AreTokensOf tokens (chars t) → Source t tokens
-source t [] utf8 are = record { chunks = []; are = tt; text_is = sym (nil_from_length t (empty_from_chars t utf8 are)); tokens_are = refl }
-source t (token ∷ tokens) utf8 (some, is, are) =
-    let it = first_word t token utf8 some is in
-    let rest = source (drop token.len t) tokens it.rest (subst (AreTokensOf tokens) it.left are) in
-    let word = take token.len t in
-    let next = next_kind tokens in
-    record {
-      chunks = record { text = word; kind = token.kind; role = role_in token.kind word; means = sorts (pieces_of some_part token.kind next 0 word) } ∷ rest.chunks;
-      are = (
-        record {
-          utf8 = it.utf8;
-          some = it.some;
-          reads = subst (λ u. reading (chars word ++ u) ≡ (token.kind, u)) (sym (ap chars rest.text_is)) it.read;
-          role = refl;
-          means = λ part at. pieces_same part some_part token.kind (next_kind (tokens_of rest.chunks)) next at 0 word (inl (ap (λ ts. spacing_before (next_kind ts)) rest.tokens_are));
-        },
-        rest.are,
-      );
-      text_is = ap (λ u. word ++ u) rest.text_is ∙ take-append-drop token.len t;
-      tokens_are = ap₂ (λ n ts. record { kind = token.kind; len = n } ∷ ts) it.size rest.tokens_are;
-    }
-
--- the brackets of a text without a fault match
-pub match_source : (t : List ℕ) (tokens : List Token) (it : Source t tokens) → fault_from [] 0 t tokens ≡ None → match [] it.chunks ≡ true
-match_source t tokens it none =
-    let chunks = it.chunks in
-    match_front [] 0 chunks [] (subst AreChunks (sym (append-nil chunks)) it.are)
-    (ap (λ cs. fault_from [] 0 (joined cs) (tokens_of chunks)) (append-nil chunks) ∙ ap₂ (fault_from [] 0) it.text_is it.tokens_are ∙ none)
-
-pub utf8_joined : (xs : List Chunk) → AreChunks xs → IsUtf8 (joined xs)
-utf8_joined [] are = IsUtf8-nil
-utf8_joined (x ∷ xs) are = IsUtf8-append x.text (joined xs) are.0.utf8 (utf8_joined xs are.1)
 
 -- a chunk that means nothing does not change the open brackets
 pub blank_match : (before : List Bracket) (x : Chunk) (xs : List Chunk) → x.role ≡ Nothing → match before (x ∷ xs) ≡ match before xs

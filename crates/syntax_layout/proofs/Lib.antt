@@ -7,6 +7,5 @@ pub mod Ahead
 pub mod Plain
 pub mod Returns
 pub mod SpaceGaps
-pub mod SourceGaps
 pub mod Rows
 pub mod SpacingRows

@@ -1,13 +1,13 @@
 -- How a text that is laid out is read.
 use Rattle.std.proofs.Common.{◌≡◌, ℕ, List, [], false, Option, None, Some, sym, ap, ap₂, ◌∙◌, subst}
 use Rattle.std.specs.Str.{chars, IsUtf8}
-use Rattle.laws_round_trip.proofs.Spliced.{written}
+use Rattle.laws_round_trip.proofs.Sources.{match_source, source, utf8_joined}
+use Rattle.laws_round_trip.proofs.Spelling.{plain_spelling}
 use Rattle.laws_round_trip.specs.Kept.{ends_in_line}
-use Rattle.syntax_layout.proofs.Chunks.{match_source, source, utf8_joined}
 use Rattle.syntax_layout.proofs.LaidChunks.{laid_all}
 use Rattle.syntax_layout.specs.Gap.{AreGaps}
 use Rattle.syntax_layout.specs.Layout.{IsLaidOut, are_plain, laid_out}
-use Rattle.syntax_layout.specs.Spelling.{IsSpelling}
+use Rattle.laws_round_trip.specs.Splices.{IsSpelling}
 use Rattle.syntax_lex.proofs.TokenFacts.{one_list}
 use Rattle.syntax_lex.specs.Reading.{AreTokensOf}
 use Rattle.syntax_lex.specs.declared.token.Token.{Token}
@@ -17,25 +17,12 @@ use Rattle.syntax_parse.specs.Parsed.{IsParse, pieces_from}
 use Rattle.syntax_parse.specs.Refusal.{IsFaultOf}
 use Rattle.syntax_parse.specs.Spelled.{spelled}
 use Rattle.syntax_parse.specs.declared.fault.SyntaxFault.{SyntaxFault}
-use Rattle.syntax_unparse.proofs.Back.{reads_back}
 use Rattle.syntax_unparse.proofs.Chunks.{no_fault, pieces_are, tokens_are, tokens_of}
 use Rattle.syntax_unparse.specs.Settled.{sorts}
 use Rattle.syntax_unparse.specs.Text.{text_of}
 use Rattle.syntax_unparse.specs.Writable.{IsWritable}
 use Rattle.tt_base.specs.Forest.{Forest, Root}
 use Rattle.tt_base.specs.declared.span.SpanPart.{SpanPart}
-
--- the text of trees that can be written spells them
-pub plain_spelling : (trees : Forest) → IsWritable trees → IsSpelling trees (text_of trees)
-plain_spelling trees writable =
-    let it = written trees writable in
-    let back = reads_back trees writable in
-    let same : back.tokens ≡ tokens_of it.chunks = one_list back.tokens (tokens_of it.chunks) (chars (text_of trees)) back.read (subst (λ t. AreTokensOf (tokens_of it.chunks) (chars t)) it.text_is (tokens_are it.chunks it.are)) in
-    record {
-      utf8 = subst IsUtf8 it.text_is (utf8_joined it.chunks it.are);
-      back = back;
-      line = ap ends_in_line same ∙ it.line;
-    }
 
 -- what is written of a text without a fault has no fault and the same pieces
 record IsSame (text laid_text : List ℕ) (tokens : List Token) : Type 0 where

@@ -1,8 +1,6 @@
 -- A text with other gaps between its tokens, and the gaps that rustfmt would choose.
 pub mod Gap
 pub mod Layout
-pub mod Spelling
 pub mod Parts
 pub mod Passed
 pub mod Spaces
-pub mod Sources

@@ -7,22 +7,30 @@
 //! `rust_text_spaced` does the same with the spaces that rustfmt puts within a line. `spaces` gives each token a `Part`, by the token before it
 //! and whether generic arguments, the parameters of a closure or a `use` are open; a table over two parts (`touches`) says whether they touch.
 //!
-//! `rust_text_with_source` takes the gap between two neighbours from a source, where a gap stands between their places there, and else the
-//! space of `rust_text_spaced`.
+//! `rust_text_laid` lays out what replaces a call of a macro. It takes the gaps from the source: `places` says where each token is in it,
+//! `Templates` where its templates and repetitions are, and `Chooser` which gap is before each token. No contract fixes that choice: it
+//! changes nothing but the looks, since each gap that is none is left out.
 #![tactic(auto)]
 
+mod beside;
+mod choosing;
 mod gap;
+mod indenting;
 mod kinds;
+mod laid;
 pub mod laws;
 mod layout;
+mod neighbours;
 mod part;
 mod passed;
-mod sources;
+mod places;
 mod spacing;
+mod templates;
 mod trees;
 
+pub use choosing::Sources;
 pub use gap::{MOST_BYTES, is_gap};
+pub use laid::rust_text_laid;
 pub use layout::laid_out;
-pub use sources::{Place, rust_text_with_source, source_gaps};
 pub use spacing::{rust_text_spaced, spaces};
 pub use trees::{fit, rust_text_with_gaps};

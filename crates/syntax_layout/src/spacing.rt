@@ -2,8 +2,9 @@
 ghost use Rattle.std.specs.Prelude.{◌≡◌, ◌<◌, ◌+◌, ◌^◌, IfOk, IfErr, length, map, string_bytes};
 ghost use Rattle.syntax_layout.specs.Gap.{AreGaps};
 ghost use Rattle.syntax_layout.specs.Spaces.{AreSpaces, IsSpacedText, space_between};
-ghost use Rattle.syntax_layout.specs.Spelling.{IsSpelling};
-ghost use Rattle.syntax_unparse.specs.Writable.{IsWriteFault};
+ghost use Rattle.laws_round_trip.specs.Splices.{IsSpelling};
+ghost use Rattle.syntax_unparse.specs.Text.{text_of};
+ghost use Rattle.syntax_unparse.specs.Writable.{IsWritable, IsWriteFault};
 ghost use Rattle.tt_view.specs.Views.{trees_of};
 
 use crate::gap::MOST_BYTES;
@@ -16,8 +17,8 @@ use syntax_lex::first_token;
 use syntax_unparse::{WriteFault, rust_text};
 use tt_view::TokenTreesView;
 
-// Returns the gap between two tokens.
-fn space_between(before: Part, next: Part) -> &'static str
+/// Returns the gap between two tokens.
+pub(crate) fn space_between(before: Part, next: Part) -> &'static str
     ensures { result.now ≡ space_between before next }
 {
     if touches(before, next) { "" } else { " " }
@@ -56,6 +57,8 @@ pub fn spaces(alloc: Global, text: &str) -> Result<Vec<&'static str>, AllocError
 pub fn rust_text_spaced(alloc: Global, trees: TokenTreesView<'_>) -> Result<String, WriteFault>
     ensures layout { IfOk result (λ text. IsSpacedText (trees_of trees.entry) (string_bytes text)) }
     ensures spells { IfOk result (λ text. IsSpelling (trees_of trees.entry) (string_bytes text)) }
+    ensures writable { IfOk result (λ _. IsWritable (trees_of trees.entry)) }
+    ensures fits { IfOk result (λ _. 1 + length (text_of (trees_of trees.entry)) < 2 ^ 32) }
     ensures short { IfOk result (λ text. 1 + length (string_bytes text) < 2 ^ 32) }
     ensures err { IfErr result (IsWriteFault (trees_of trees.entry)) }
 {

@@ -1,0 +1,135 @@
+//! What is beside a place in a source.
+use crate::kinds::is_blank;
+use syntax_lex::{MOST_TEXT_BYTES, Tokenize, tokenize};
+
+// A line's indentation, or a name, is looked for in so many bytes.
+const MOST_LINE: usize = 512;
+
+/// A gap of a source has at most so many bytes.
+pub const MOST_GAP: usize = 4096;
+
+/// Returns the text from a place to another, or an empty one if the source has no such part.
+pub fn part(source: &str, start: usize, end: usize) -> &str {
+    source.get(start..end).unwrap_or("")
+}
+
+/// Returns the byte at a place.
+pub fn byte_at(source: &str, at: usize) -> Option<u8> {
+    source.as_bytes().get(at).copied()
+}
+
+/// Returns the byte before a place.
+pub fn byte_before(source: &str, at: usize) -> Option<u8> {
+    byte_at(source, at.checked_sub(1)?)
+}
+
+/// Returns the tokens of a text; none if it has too many bytes for the lexer.
+pub fn tokens(text: &str) -> Tokenize<'_> {
+    if text.len() >= MOST_TEXT_BYTES {
+        return tokenize("");
+    }
+    tokenize(text)
+}
+
+// Returns the text behind a place, as far as a gap may go.
+fn behind(source: &str, at: usize) -> &str {
+    let most = at.saturating_add(MOST_GAP).min(source.len());
+    // a character has at most four bytes
+    for less in 0..4 {
+        if let Some(text) = source.get(at..most.saturating_sub(less)) {
+            return text;
+        }
+    }
+    ""
+}
+
+// Returns the text before a place, as far as a gap may go.
+fn before(source: &str, at: usize) -> &str {
+    let least = at.saturating_sub(MOST_GAP);
+    for more in 0..4 {
+        if let Some(text) = source.get(least.saturating_add(more)..at) {
+            return text;
+        }
+    }
+    ""
+}
+
+/// Returns the end of the white space and comments behind a place, as far as these are a gap.
+pub fn blank_end(source: &str, at: usize) -> usize {
+    let mut end = at;
+    for token in tokens(behind(source, at)) {
+        if !is_blank(token.kind) {
+            return end;
+        }
+        end = end.saturating_add(token.len as usize);
+    }
+    end
+}
+
+/// Returns the start of the white space before a place, as far as it is a gap.
+pub fn space_start(source: &str, at: usize) -> usize {
+    let before = before(source, at);
+    let white = before.len().saturating_sub(before.trim_end().len());
+    at.saturating_sub(white)
+}
+
+/// Returns whether a text has a line break.
+pub fn breaks(text: &str) -> bool {
+    text.as_bytes().contains(&b'\n')
+}
+
+/// Returns how many bytes of white space the line begins with that a place is in; 0 if the line begins too far before it.
+pub fn indentation(source: &str, at: usize) -> usize {
+    let start = at.saturating_sub(MOST_LINE);
+    let Some(before) = source.as_bytes().get(start..at) else {
+        return 0;
+    };
+    let mut white: usize = 0;
+    for byte in before.iter().rev() {
+        match *byte {
+            b'\n' => return white,
+            b' ' | b'\t' => white = white.saturating_add(1),
+            _ => white = 0,
+        }
+    }
+    if start == 0 { white } else { 0 }
+}
+
+/// Returns whether only white space is before a place in its line.
+pub fn begins_line(source: &str, at: usize) -> bool {
+    let start = at.saturating_sub(indentation(source, at));
+    part(source, start, at).trim_start().is_empty()
+        && (start == 0 || byte_before(source, start) == Some(b'\n'))
+}
+
+// Returns whether a byte is one of a name.
+fn is_of_name(byte: u8) -> bool {
+    byte.is_ascii_alphanumeric() || byte == b'_' || byte >= 128
+}
+
+/// Returns the end of the name at a place: the place itself if there is none.
+pub fn name_end(source: &str, at: usize) -> usize {
+    let mut end = at;
+    for byte in behind(source, at).as_bytes() {
+        if !is_of_name(*byte) {
+            return end;
+        }
+        end = end.saturating_add(1);
+    }
+    end
+}
+
+/// Returns the start of the name before a place: the place itself if there is none.
+pub fn name_start(source: &str, at: usize) -> usize {
+    let Some(before) = source.as_bytes().get(at.saturating_sub(MOST_LINE)..at) else {
+        return at;
+    };
+    let mut start = at;
+    for byte in before.iter().rev() {
+        if !is_of_name(*byte) {
+            return start;
+        }
+        start = start.saturating_sub(1);
+    }
+    start
+}

@@ -1,0 +1,336 @@
+//! The templates in a source, and the repetitions in them.
+use crate::beside::{begins_line, blank_end, breaks, indentation, part, tokens};
+use crate::kinds::is_blank;
+use memchr::memmem;
+use std::alloc::{AllocError, Global};
+use syntax_lex::{Token, TokenKind};
+
+// A place is looked for in so many repetitions around it.
+const MOST_NESTED: usize = 64;
+
+/// A template of a macro, which is in no other one.
+#[derive(Clone, Copy)]
+pub struct Template {
+    /// The byte after its opening bracket.
+    pub start: usize,
+    /// Its closing bracket.
+    pub end: usize,
+    /// Its first token.
+    pub first: usize,
+    /// How many bytes of white space the line of its first token begins with.
+    pub indent: usize,
+}
+
+/// A repetition: `$(..)` with its separator and its operator.
+#[derive(Clone, Copy)]
+pub struct Repetition {
+    /// Its `$`.
+    pub start: usize,
+    /// The byte after its opening bracket.
+    pub inner: usize,
+    /// Its first token.
+    pub first: usize,
+    /// Its closing bracket.
+    pub close: usize,
+    /// The byte after its operator.
+    pub end: usize,
+    /// Whether it begins with a line break.
+    pub breaks: bool,
+    /// How many bytes its lines are further indented than that of the outermost repetition around it, as far as these begin their lines.
+    pub deeper: usize,
+    /// The repetition around it.
+    pub outer: Option<usize>,
+}
+
+/// The templates of a source in order, and all repetitions in the order of their `$`.
+#[derive(Drop)]
+pub struct Templates {
+    pub templates: Vec<Template>,
+    pub repetitions: Vec<Repetition>,
+    /// The numbers of the repetitions in the order of their closing brackets.
+    pub closed: Vec<usize>,
+}
+
+// The latest tokens, as far as they say what a bracket opens.
+#[derive(Clone, Copy, PartialEq, Eq)]
+enum Latest {
+    // `$`
+    Dollar,
+    // `=`
+    Equals,
+    // `=>`
+    Arrow,
+    // `macro_rules`, with a `!` and a name behind it
+    Rules,
+    RulesBang,
+    RulesName,
+    Other,
+}
+
+// What a bracket opened.
+#[derive(Clone, Copy, PartialEq, Eq)]
+enum Opened {
+    Rules,
+    Template(usize),
+    Repetition(usize),
+    Other,
+}
+
+#[derive(Drop)]
+struct Reader<'s> {
+    source: &'s str,
+    found: Templates,
+    latest: Latest,
+    opened: Vec<Opened>,
+    // The innermost open repetition.
+    innermost: Option<usize>,
+    // The repetition that was closed last, if its operator is to come.
+    closed: Option<usize>,
+    // Whether a template is open.
+    is_inside: bool,
+}
+
+// Returns what the latest tokens are behind one more.
+fn latest_behind(latest: Latest, kind: TokenKind, word: &str) -> Latest {
+    match (latest, kind) {
+        (_, TokenKind::Dollar) => Latest::Dollar,
+        (_, TokenKind::Eq) => Latest::Equals,
+        (Latest::Equals, TokenKind::Gt) => Latest::Arrow,
+        (Latest::Rules, TokenKind::Bang) => Latest::RulesBang,
+        (Latest::RulesBang, TokenKind::Ident) => Latest::RulesName,
+        (_, TokenKind::Ident) => {
+            if word == "macro_rules" {
+                Latest::Rules
+            } else {
+                Latest::Other
+            }
+        }
+        _ => Latest::Other,
+    }
+}
+
+impl<'s> Reader<'s> {
+    // Returns how many bytes the lines of a repetition are further indented that begins with this `$` and token.
+    fn deeper(&self, start: usize, first: usize, outer: Option<usize>) -> usize {
+        let around = match outer {
+            Some(number) => match self.found.repetitions.get(number) {
+                Some(repetition) => repetition.deeper,
+                None => 0,
+            },
+            None => 0,
+        };
+        if !begins_line(self.source, start) {
+            return around;
+        }
+        let line = indentation(self.source, start);
+        around.saturating_add(indentation(self.source, first).saturating_sub(line))
+    }
+
+    // Opens a repetition whose `(` is at a place.
+    fn open_repetition(&mut self, at: usize) -> Result<Opened, AllocError> {
+        let start = at.saturating_sub(1);
+        let inner = at.saturating_add(1);
+        let first = blank_end(self.source, inner);
+        let outer = self.innermost;
+        let breaks = breaks(part(self.source, inner, first));
+        let deeper = if breaks {
+            self.deeper(start, first, outer)
+        } else {
+            self.deeper(start, start, outer)
+        };
+        let number = self.found.repetitions.len();
+        self.found.repetitions.push(Repetition {
+            start,
+            inner,
+            first,
+            close: self.source.len(),
+            end: self.source.len(),
+            breaks,
+            deeper,
+            outer,
+        })?;
+        self.innermost = Some(number);
+        Ok(Opened::Repetition(number))
+    }
+
+    // Opens a template whose bracket is at a place.
+    fn open_template(&mut self, at: usize) -> Result<Opened, AllocError> {
+        let start = at.saturating_add(1);
+        let first = blank_end(self.source, start);
+        let number = self.found.templates.len();
+        self.found.templates.push(Template {
+            start,
+            end: self.source.len(),
+            first,
+            indent: indentation(self.source, first),
+        })?;
+        self.is_inside = true;
+        Ok(Opened::Template(number))
+    }
+
+    // Opens a bracket.
+    fn open(&mut self, at: usize, kind: TokenKind) -> Result<(), AllocError> {
+        self.closed = None;
+        let in_rules = matches!(self.opened.last(), Some(Opened::Rules));
+        let opened = match self.latest {
+            Latest::Dollar if kind == TokenKind::OpenParen => self.open_repetition(at)?,
+            Latest::Arrow if in_rules && !self.is_inside => self.open_template(at)?,
+            Latest::RulesName => Opened::Rules,
+            _ => Opened::Other,
+        };
+        self.opened.push(opened)?;
+        Ok(())
+    }
+
+    // Closes a bracket.
+    fn close(&mut self, at: usize) -> Result<(), AllocError> {
+        self.closed = None;
+        match self.opened.pop() {
+            Some(Opened::Repetition(number)) => {
+                if let Some(repetition) = self.found.repetitions.get_mut(number) {
+                    repetition.close = at;
+                    repetition.end = at.saturating_add(1);
+                    self.innermost = repetition.outer;
+                }
+                self.closed = Some(number);
+                self.found.closed.push(number)?;
+                Ok(())
+            }
+            Some(Opened::Template(number)) => {
+                if let Some(template) = self.found.templates.get_mut(number) {
+                    template.end = at;
+                }
+                self.is_inside = false;
+                Ok(())
+            }
+            _ => Ok(()),
+        }
+    }
+
+    // Passes a token that is no bracket: an operator ends the repetition before it.
+    fn pass(&mut self, at: usize, kind: TokenKind) {
+        let Some(number) = self.closed else {
+            return;
+        };
+        if matches!(
+            kind,
+            TokenKind::Star | TokenKind::Plus | TokenKind::Question
+        ) {
+            if let Some(repetition) = self.found.repetitions.get_mut(number) {
+                repetition.end = at.saturating_add(1);
+            }
+            self.closed = None;
+        }
+    }
+
+    // Reads a token at a place.
+    fn token(&mut self, at: usize, token: Token) -> Result<(), AllocError> {
+        match token.kind {
+            TokenKind::OpenParen | TokenKind::OpenBrace | TokenKind::OpenBracket => {
+                self.open(at, token.kind)?;
+            }
+            TokenKind::CloseParen | TokenKind::CloseBrace | TokenKind::CloseBracket => {
+                self.close(at)?;
+            }
+            kind => self.pass(at, kind),
+        }
+        let word = part(self.source, at, at.saturating_add(token.len as usize));
+        self.latest = latest_behind(self.latest, token.kind, word);
+        Ok(())
+    }
+
+    // Reads the definition of macros at a place. Returns where it ends.
+    fn definition(&mut self, start: usize) -> Result<usize, AllocError> {
+        let mut at = start;
+        self.latest = Latest::Other;
+        for token in tokens(part(self.source, start, self.source.len())) {
+            if !is_blank(token.kind) {
+                self.token(at, token)?;
+            }
+            at = at.saturating_add(token.len as usize);
+            if self.opened.is_empty() && matches!(self.latest, Latest::Other) {
+                return Ok(at);
+            }
+        }
+        self.opened.clear();
+        self.innermost = None;
+        self.is_inside = false;
+        Ok(at)
+    }
+}
+
+impl Templates {
+    /// Returns the templates of a source, and the repetitions of its definitions of macros.
+    pub fn read(alloc: Global, source: &str) -> Result<Templates, AllocError> {
+        let mut reader = Reader {
+            source,
+            found: Templates {
+                templates: Vec::new(alloc),
+                repetitions: Vec::new(alloc),
+                closed: Vec::new(alloc),
+            },
+            latest: Latest::Other,
+            opened: Vec::new(alloc),
+            innermost: None,
+            closed: None,
+            is_inside: false,
+        };
+        let mut end = 0;
+        for start in memmem::find_iter(source.as_bytes(), b"macro_rules") {
+            if start >= end {
+                end = reader.definition(start)?;
+            }
+        }
+        Ok(reader.found)
+    }
+
+    /// Returns the number of the template that a place is in.
+    pub fn template_at(&self, at: usize) -> Option<usize> {
+        let number = self
+            .templates
+            .as_slice()
+            .partition_point(|template| template.end <= at);
+        match self.templates.get(number) {
+            Some(template) if template.start <= at => Some(number),
+            _ => None,
+        }
+    }
+
+    /// Returns the repetition whose closing bracket is the last before a place.
+    pub fn closed_before(&self, at: usize) -> Option<Repetition> {
+        let all = self.repetitions.as_slice();
+        let count = self.closed.as_slice().partition_point(|number| {
+            match all.get(*number) {
+                Some(repetition) => repetition.close < at,
+                None => false,
+            }
+        });
+        let number = *self.closed.get(count.checked_sub(1)?)?;
+        all.get(number).copied()
+    }
+
+    /// Returns the repetition that begins last before a place.
+    pub fn begun_before(&self, at: usize) -> Option<Repetition> {
+        let all = self.repetitions.as_slice();
+        let count = all.partition_point(|repetition| repetition.start < at);
+        all.get(count.checked_sub(1)?).copied()
+    }
+
+    /// Returns how many bytes the line of a place is further indented than the outermost repetition around it.
+    pub fn deeper_at(&self, at: usize) -> usize {
+        let mut next = self.begun_before(at);
+        for _ in 0..MOST_NESTED {
+            let Some(repetition) = next else {
+                return 0;
+            };
+            if at <= repetition.close {
+                return repetition.deeper;
+            }
+            next = match repetition.outer {
+                Some(number) => self.repetitions.get(number).copied(),
+                None => None,
+            };
+        }
+        0
+    }
+}
