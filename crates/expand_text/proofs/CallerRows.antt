@@ -9,7 +9,7 @@ use Rattle.expand_text.specs.declared.fault.MacroFault.TheVariants as wrong
 
 -- ten tokens may be written for a call of the text
 abbrev config : Config
-config = record { known = unknown; root = codes "crate"; everywhere = false; max_tokens = 10; only = None }
+config = record { known = unknown; root = codes "crate"; everywhere = false; max_tokens = 10; only = None; one_line = false }
 
 -- a call of `t` at byte 7, for which an arm wrote six tokens, and in that a call of `u` at byte 2 with three tokens
 abbrev text : Context

@@ -1,8 +1,7 @@
 -- What becomes of the trees that come first.
-use Rattle.std.proofs.Common.{◌≡◌, ◌<◌, ◌≤◌, ◌+◌, ◌*◌, ℕ, suc, Bool, List, ◌∷◌, true, false, None, Some, cond, refl, ap, ap₂, sym, subst, ◌∙◌, arith}
+use Rattle.std.proofs.Common.{◌≡◌, ◌<◌, ℕ, suc, Bool, List, ◌∷◌, true, false, None, Some, cond, refl, ap, ap₂, sym, subst, ◌∙◌, arith}
 use Rattle.tt.specs.Forest.{Forest, Root, size}
 use Rattle.tt.specs.Gluing.{after_trees}
-use Rattle.tt.specs.Moves.{after_tree}
 use Rattle.tt.specs.Span.{start_of}
 use Rattle.tt.specs.Types.Span.{Span}
 use Rattle.expand_text.specs.declared.fault.Finding.{Finding}
@@ -12,7 +11,7 @@ use Rattle.expand_text.specs.declared.next.Choice.TheVariants as choice
 use Rattle.expand_text.specs.declared.part.Part.{Part}
 use Rattle.expand_text.specs.declared.walk.Level as rust
 use Rattle.expand_text.specs.Calling.{IsFaulty, IsExpanded}
-use Rattle.expand_text.specs.Choices.{Advances, IsChosen}
+use Rattle.expand_text.specs.Choices.{IsChosen}
 use Rattle.expand_text.specs.Events.{GoesPast, IsExpandedAt}
 use Rattle.expand_text.specs.Invocations.{IsInvocation, body_of, call_part, entered_by, found_by, site_of}
 use Rattle.expand_text.specs.Meaning.{begin_in, begun_by, body_in, end_in, entered_in, site_in, takes_in, whole_in, plain_behind_part, ExpandsTo}
@@ -23,11 +22,9 @@ use Rattle.expand_text.specs.Macros.{IsRead, MayBePut, called_by, arms_of, found
 use Rattle.expand_text.specs.Outcomes.{Outcome, trees_left}
 use Rattle.expand_text.specs.CallSites.{CallSite, PutIn, IsKept}
 use Rattle.expand_text.specs.Capturing.{IsCaptureFound}
-use Rattle.expand_text.specs.Walks.{Level, level_at, front_in, past_in, past, past_call, past_part, first_stay, first_becomes, Leads, work_in, IsFirst, IsAtItem}
+use Rattle.expand_text.specs.Walks.{Level, level_at, front_in, past_in, past_call, first_stay, first_becomes, Leads, work_in, IsAtItem}
 use Rattle.expand_text.proofs.CallParts.{rest_behind}
 use Rattle.expand_text.proofs.Leading.{leads_definition, leads_inactive, leads_other, leads_faulty, leads_call, leads_kept}
-use Rattle.expand_items.proofs.Conditions.{call_at_less, definition_at_less}
-use Rattle.expand_items.proofs.ItemsAt.{calls_at, defines_at, inactive_less}
 use Rattle.expand_items.proofs.Lengths.{fewer_behind}
 use Rattle.expand_items.proofs.ManyTrees.{after_more}
 

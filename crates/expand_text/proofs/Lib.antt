@@ -29,6 +29,8 @@ pub mod Readiness
 pub mod Replacing
 pub mod Rooting
 pub mod Rows
+pub mod SpliceRows
+pub mod Splicing
 pub mod Stacked
 pub mod Undefined
 pub mod Weaving

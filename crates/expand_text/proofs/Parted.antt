@@ -1,5 +1,5 @@
 -- The trees behind a part, and the front of a tree that a walk goes through.
-use Rattle.std.proofs.Common.{◌≡◌, ℕ, suc, Bool, true, false, cond, refl, ap, sym}
+use Rattle.std.proofs.Common.{◌≡◌, suc, Bool, true, false, cond, refl, ap, sym}
 use Rattle.tt.specs.Forest.{Forest, Root, end, leaf, node, join, size}
 use Rattle.tt.specs.Gluing.{after_trees}
 use Rattle.expand_items.proofs.ManyTrees.{after_more}

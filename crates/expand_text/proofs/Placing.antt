@@ -91,9 +91,9 @@ none_open (lowest trees) none is = is
 none_open (above outer kind open_span trees) none is = absurd (cc none)
 
 -- The text of the trees in place is that of a call.
-pub call_text : (it : CallSite) (trees shown : Forest) (begin : ℕ) (text : Written) → PutIn true it trees shown → IsTextOf it.delimiter shown begin text → IsCallText it trees begin text
-call_text it trees shown begin (made.Text text) so (may, same) = (shown, so, may, same)
-call_text it trees shown begin (made.Faulty at fault) so unwritten = inr (refl, inr (shown, so, unwritten))
+pub call_text : (one_line : Bool) (it : CallSite) (trees shown : Forest) (begin : ℕ) (text : Written) → PutIn true it trees shown → IsTextOf one_line it.delimiter shown begin text → IsCallText one_line it trees begin text
+call_text one_line it trees shown begin (made.Text text) so (may, spells) = (shown, so, may, spells)
+call_text one_line it trees shown begin (made.Faulty at fault) so unwritten = inr (refl, inr (shown, so, unwritten))
 
 -- What is built apart waits for nothing else: the builder as it was, and an empty one.
 pub apart_of : (brackets : Option (Option DelimiterKind)) (call : Delimiter) (old begun : BuilderState) (outer : Option BuilderState) (it : BuilderState) → outer ≡ Some it

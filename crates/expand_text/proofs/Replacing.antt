@@ -7,55 +7,61 @@ use Rattle.tt.specs.Types.Leaf.{Leaf}
 use Rattle.tt.specs.Types.Span.{Span}
 use Rattle.expand_text.specs.declared.invocation.Invocation.{Invocation}
 use Rattle.expand_text.specs.Meaning.{ExpandsTo}
-use Rattle.expand_text.specs.Expansion.{replacement, replacements, IsInvocationWritten, IsPut}
+use Rattle.expand_text.specs.Expansion.{IsInvocationWritten, IsPut}
+use Rattle.expand_text.specs.Reading.{AreSplices, Spells, ended, passed, entered, stayed, became, splice}
 use Rattle.expand_text.specs.Contexts.{Config, Context, outside_call, with_finding}
-use Rattle.expand_text.specs.Outcomes.{Outcome, nothing, trees_left}
+use Rattle.expand_text.specs.Outcomes.{Outcome, nothing, enters, trees_left}
 use Rattle.expand_items.specs.Positions.{begun as begun_among}
 use Rattle.expand_items.specs.declared.position.Siblings.TheVariants.{Items}
+use Rattle.laws_round_trip.specs.Splices.{Splice, replacement_of, replacements_of}
 use Rattle.syntax_edit.specs.Texts.{Replacement, Writing, finished, with_all, FitAll, IsReplaced, AreReplaced}
 use Rattle.expand_text.specs.Events.{GoesPast, IsExpandedAt}
 use Rattle.expand_text.specs.Invocations.{body_of, entered_by, found_by, site_of}
-use Rattle.expand_text.specs.Writing.{all_replacements, IsWrittenOn}
+use Rattle.expand_text.specs.Writing.{AllSplices, IsWrittenOn, no_level, one_level}
 use Rattle.expand_text.specs.Walks.{Level, begun, Ends, Leads, first_leaf, first_subtree, first_stay, first_becomes, front_in, past_in}
 
--- whatever the rest expands to, that and the replacements so far are those of the trees
-pub record IsReading (config : Config) (limit : ℕ) (trees : Forest) (before : Context) (levels : List Level) (now : Context) (done : List Replacement) : Type 0 where
-  pub finishes : (after : Context) (outcomes : List Outcome) → Ends config true limit levels now after outcomes
-      → (outcome : Outcome) × ExpandsTo config true limit (begun_among Items) 0 before trees after outcome × (done ++ all_replacements outcomes ≡ replacements outcome)
+-- whatever the rest expands to, its splices behind those so far are those of the trees
+pub record IsReading (config : Config) (limit : ℕ) (trees : Forest) (before : Context) (levels : List Level) (now : Context) (done : List Splice) : Type 0 where
+  pub finishes : (after : Context) (outcomes : List Outcome) (splices : List Splice) → Ends config true limit levels now after outcomes → AllSplices config.one_line outcomes splices
+      → (outcome : Outcome) × ExpandsTo config true limit (begun_among Items) 0 before trees after outcome × AreSplices config.one_line outcome (done ++ splices)
 
 -- Nothing is replaced yet.
 pub begins : (config : Config) (limit : ℕ) (trees : Forest) (before : Context) (close : Span) → IsReading config limit trees before (begun (begun_among Items) trees close ∷ []) before []
 begins config limit trees before close = record { finishes = by }
   where
-    by : (after : Context) (outcomes : List Outcome) → Ends config true limit (begun (begun_among Items) trees close ∷ []) before after outcomes
-        → (outcome : Outcome) × ExpandsTo config true limit (begun_among Items) 0 before trees after outcome × ([] ++ all_replacements outcomes ≡ replacements outcome)
-    by after [] e = absurd e
-    by after (it ∷ []) (inside, expands_to, e) = (it, subst (λ k. ExpandsTo config true limit (begun_among Items) 0 before trees k it) e expands_to, append-nil (replacements it))
-    by after (it ∷ other ∷ more) (inside, expands_to, e) = absurd e
+    by : (after : Context) (outcomes : List Outcome) (splices : List Splice) → Ends config true limit (begun (begun_among Items) trees close ∷ []) before after outcomes → AllSplices config.one_line outcomes splices
+        → (outcome : Outcome) × ExpandsTo config true limit (begun_among Items) 0 before trees after outcome × AreSplices config.one_line outcome splices
+    by after [] splices e all = absurd e
+    by after (it ∷ []) splices (inside, expands_to, e) (one_level {first = first} are no_level) = (
+      it,
+      subst (λ k. ExpandsTo config true limit (begun_among Items) 0 before trees k it) e expands_to,
+      subst (AreSplices config.one_line it) (sym (append-nil first)) are,
+    )
+    by after (it ∷ other ∷ more) splices (inside, expands_to, e) all = absurd e
 
-module _ (config : Config) (limit : ℕ) (trees : Forest) (before now others : Context) (level : Level) (outer nexts : List Level) (done : List Replacement)
+module _ (config : Config) (limit : ℕ) (trees : Forest) (before now others : Context) (level : Level) (outer nexts : List Level) (done : List Splice)
     (reading : IsReading config limit trees before (level ∷ outer) now done) where
-  -- The walk goes on, with more replacements.
+  -- The walk goes on, with more splices.
   pub reads_on : (old new : Writing) (on : IsWrittenOn config limit (level ∷ outer) nexts old new now others) → IsReading config limit trees before nexts others (done ++ on.more)
   reads_on old new on = record { finishes = by }
     where
-      by : (after : Context) (outcomes : List Outcome) → Ends config true limit nexts others after outcomes
-          → (outcome : Outcome) × ExpandsTo config true limit (begun_among Items) 0 before trees after outcome × ((done ++ on.more) ++ all_replacements outcomes ≡ replacements outcome)
-      by after outcomes e =
-          let ended = on.leads after outcomes e in
-          let (outcome, expands_to, is) = reading.finishes after (on.grown outcomes) ended in
-          (outcome, expands_to, append_assoc done on.more (all_replacements outcomes) ∙ ap (λ l. done ++ l) (sym (on.same after outcomes ended)) ∙ is)
+      by : (after : Context) (outcomes : List Outcome) (splices : List Splice) → Ends config true limit nexts others after outcomes → AllSplices config.one_line outcomes splices
+          → (outcome : Outcome) × ExpandsTo config true limit (begun_among Items) 0 before trees after outcome × AreSplices config.one_line outcome ((done ++ on.more) ++ splices)
+      by after outcomes splices e all =
+          let ends = on.leads after outcomes e in
+          let (outcome, expands_to, are) = reading.finishes after (on.grown outcomes) (on.more ++ splices) ends (on.same after outcomes splices ends all) in
+          (outcome, expands_to, subst (AreSplices config.one_line outcome) (sym (append_assoc done on.more splices)) are)
 
   -- All is replaced.
   pub reads_all : (after : Context) → Ends config true limit (level ∷ outer) now after (nothing ∷ [])
-      → (outcome : Outcome) × ExpandsTo config true limit (begun_among Items) 0 before trees after outcome × (done ≡ replacements outcome)
+      → (outcome : Outcome) × ExpandsTo config true limit (begun_among Items) 0 before trees after outcome × AreSplices config.one_line outcome done
   reads_all after e =
-      let (outcome, expands_to, is) = reading.finishes after (nothing ∷ []) e in
-      (outcome, expands_to, sym (append-nil done) ∙ is)
+      let (outcome, expands_to, are) = reading.finishes after (nothing ∷ []) [] e (one_level ended no_level) in
+      (outcome, expands_to, subst (AreSplices config.one_line outcome) (append-nil done) are)
 
 -- More are replaced.
-pub replaced_more : (its more : List Replacement) (old now new : Writing) → AreReplaced its old now → AreReplaced more now new → AreReplaced (its ++ more) old new
-replaced_more [] more old now new are on = subst (λ w. AreReplaced more w new) are on
+pub replaced_more : (its more : List Splice) (old now new : Writing) → AreReplaced (replacements_of its) old now → AreReplaced (replacements_of more) now new → AreReplaced (replacements_of (its ++ more)) old new
+replaced_more [] more old now new are on = subst (λ w. AreReplaced (replacements_of more) w new) are on
 replaced_more (first ∷ its) more old now new (next, is_first, are) on = (next, is_first, replaced_more its more next now new are on)
 
 -- If all fit, all are replaced.
@@ -71,38 +77,42 @@ module _ (config : Config) (limit : ℕ) (level : Level) (outer nexts : List Lev
   pub writes_leaf : (it : Leaf) → Leads config true limit (level ∷ outer) now (first_leaf it) nexts others → IsWrittenOn config limit (level ∷ outer) nexts text text now others
   writes_leaf it leads = record { grown = first_leaf it; more = []; leads = leads; same = same; replaced = refl }
     where
-      same : (after : Context) (outcomes : List Outcome) → Ends config true limit (level ∷ outer) now after (first_leaf it outcomes) → all_replacements (first_leaf it outcomes) ≡ all_replacements outcomes
-      same after [] e = refl
-      same after (first ∷ more) e = refl
+      same : (after : Context) (outcomes : List Outcome) (splices : List Splice) → Ends config true limit (level ∷ outer) now after (first_leaf it outcomes) → AllSplices config.one_line outcomes splices
+          → AllSplices config.one_line (first_leaf it outcomes) splices
+      same after [] splices e all = all
+      same after (first ∷ more) splices e (one_level are all) = one_level (passed are) all
 
   pub writes_stay : (stay : Forest) → Leads config true limit (level ∷ outer) now (first_stay stay) nexts others → IsWrittenOn config limit (level ∷ outer) nexts text text now others
   writes_stay stay leads = record { grown = first_stay stay; more = []; leads = leads; same = same; replaced = refl }
     where
-      same : (after : Context) (outcomes : List Outcome) → Ends config true limit (level ∷ outer) now after (first_stay stay outcomes) → all_replacements (first_stay stay outcomes) ≡ all_replacements outcomes
-      same after [] e = refl
-      same after (first ∷ more) e = refl
+      same : (after : Context) (outcomes : List Outcome) (splices : List Splice) → Ends config true limit (level ∷ outer) now after (first_stay stay outcomes) → AllSplices config.one_line outcomes splices
+          → AllSplices config.one_line (first_stay stay outcomes) splices
+      same after [] splices e all = all
+      same after (first ∷ more) splices e (one_level are all) = one_level (stayed are) all
 
   pub writes_subtree : (it : Delimiter) → Leads config true limit (level ∷ outer) now (first_subtree it) nexts others → IsWrittenOn config limit (level ∷ outer) nexts text text now others
   writes_subtree it leads = record { grown = first_subtree it; more = []; leads = leads; same = same; replaced = refl }
     where
-      same : (after : Context) (outcomes : List Outcome) → Ends config true limit (level ∷ outer) now after (first_subtree it outcomes) → all_replacements (first_subtree it outcomes) ≡ all_replacements outcomes
-      same after [] e = refl
-      same after (held ∷ []) e = absurd e
-      same after (held ∷ first ∷ more) e = append_assoc (replacements held) (replacements first) (all_replacements more)
+      same : (after : Context) (outcomes : List Outcome) (splices : List Splice) → Ends config true limit (level ∷ outer) now after (first_subtree it outcomes) → AllSplices config.one_line outcomes splices
+          → AllSplices config.one_line (first_subtree it outcomes) splices
+      same after [] splices e all = all
+      same after (held ∷ []) splices e all = absurd e
+      same after (held ∷ first ∷ more) splices e (one_level {first = a} are (one_level {first = b} {second = c} others all)) =
+          subst (AllSplices config.one_line (enters it held first ∷ more)) (append_assoc a b c) (one_level (entered are others) all)
 
   pub writes_end : Leads config true limit (level ∷ outer) now (λ outcomes. nothing ∷ outcomes) nexts others → IsWrittenOn config limit (level ∷ outer) nexts text text now others
-  writes_end leads = record { grown = λ outcomes. nothing ∷ outcomes; more = []; leads = leads; same = λ after outcomes e. refl; replaced = refl }
+  writes_end leads = record { grown = λ outcomes. nothing ∷ outcomes; more = []; leads = leads; same = λ after outcomes splices e all. one_level ended all; replaced = refl }
 
-  -- A call adds a replacement.
-  pub writes_call : (new : Writing) (attributes : Forest) (first last : Span) (put : Forest) → Leads config true limit (level ∷ outer) now (first_becomes attributes first last put) nexts others
-      → IsReplaced (replacement first last put) text new → IsWrittenOn config limit (level ∷ outer) nexts text new now others
-  writes_call new attributes first last put leads is =
-      record { grown = first_becomes attributes first last put; more = replacement first last put ∷ []; leads = leads; same = same; replaced = (new, is, refl) }
+  -- A call adds a splice.
+  pub writes_call : (new : Writing) (attributes : Forest) (first last : Span) (put : Forest) (shown : List ℕ) → Leads config true limit (level ∷ outer) now (first_becomes attributes first last put) nexts others
+      → Spells config.one_line put shown → IsReplaced (replacement_of (splice first last put shown)) text new → IsWrittenOn config limit (level ∷ outer) nexts text new now others
+  writes_call new attributes first last put shown leads spells is =
+      record { grown = first_becomes attributes first last put; more = splice first last put shown ∷ []; leads = leads; same = same; replaced = (new, is, refl) }
     where
-      same : (after : Context) (outcomes : List Outcome) → Ends config true limit (level ∷ outer) now after (first_becomes attributes first last put outcomes)
-          → all_replacements (first_becomes attributes first last put outcomes) ≡ replacement first last put ∷ all_replacements outcomes
-      same after [] e = absurd e
-      same after (it ∷ more) e = refl
+      same : (after : Context) (outcomes : List Outcome) (splices : List Splice) → Ends config true limit (level ∷ outer) now after (first_becomes attributes first last put outcomes) → AllSplices config.one_line outcomes splices
+          → AllSplices config.one_line (first_becomes attributes first last put outcomes) (splice first last put shown ∷ splices)
+      same after [] splices e all = absurd e
+      same after (it ∷ more) splices e (one_level are all) = one_level (stayed (became spells are)) all
 
 -- A call that is expanded is written, or stays.
 module _ (config : Config) (limit : ℕ) (level : Level) (outer : List Level) (old new : Writing) (now others then : Context) where
@@ -123,11 +133,11 @@ module _ (config : Config) (limit : ℕ) (level : Level) (outer : List Level) (o
       nexts : List Level
       nexts = past_in it.part here
 
-      by : GoesPast config true limit (level ∷ outer) now it whole (trees_left is.outcome) nexts behind → IsPut it whole (trees_left is.outcome) behind then old new
+      by : GoesPast config true limit (level ∷ outer) now it whole (trees_left is.outcome) nexts behind → IsPut config.one_line it whole (trees_left is.outcome) behind then old new
           → IsWrittenOn config limit (level ∷ outer) nexts old new now then
-      by past (inl (put, so, may, context, replaced)) =
-          writes_call config limit level outer nexts old now then new (site_of whole it).attributes it.first_span it.last_span put
-          (subst (Leads config true limit (level ∷ outer) now (first_becomes (site_of whole it).attributes it.first_span it.last_span put) nexts) (sym context) (past.puts put so may)) replaced
+      by past (inl (put, so, may, context, text, spells, replaced)) =
+          writes_call config limit level outer nexts old now then new (site_of whole it).attributes it.first_span it.last_span put text
+          (subst (Leads config true limit (level ∷ outer) now (first_becomes (site_of whole it).attributes it.first_span it.last_span put) nexts) (sym context) (past.puts put so may)) spells replaced
       by past (inr (at, fault, kept, context, written)) =
           subst (λ text. IsWrittenOn config limit (level ∷ outer) nexts old text now then) (sym written)
           (subst (IsWrittenOn config limit (level ∷ outer) nexts old old now) (sym context) (writes_stay config limit level outer nexts old now (with_finding (found_by it at fault) behind) whole (past.stays at fault kept)))

@@ -1,6 +1,6 @@
 -- Expansions that wait for one another.
-use Rattle.std.proofs.Common.{◌≡◌, ◌+◌, ◌*◌, ◌++◌, ℕ, suc, false, Option, Some, List, [], ◌∷◌, length, refl, ap, sym, subst, subst₂, ◌∙◌}
-use Rattle.tt.specs.Building.{BuilderState, Stack, above, append, close_innermost, closed, depth, extended, opened, pushed}
+use Rattle.std.proofs.Common.{◌≡◌, ◌+◌, ◌++◌, ℕ, suc, false, Option, Some, List, [], ◌∷◌, length, refl, ap, sym, subst, subst₂, ◌∙◌}
+use Rattle.tt.specs.Building.{BuilderState, Stack, above, append, close_innermost, closed, extended, opened, pushed}
 use Rattle.tt.specs.Forest.{Forest, Root, end, leaf}
 use Rattle.tt.specs.Gluing.{after_trees}
 use Rattle.tt.specs.Types.Delimiter.{Delimiter}

@@ -18,7 +18,7 @@ use Rattle.expand_items.proofs.ItemsAt.{defines_at}
 use Rattle.expand_items.specs.Positions.{begun, first_in, is_statement, keeps_macros}
 use Rattle.expand_items.specs.declared.position.Position.{Position}
 use Rattle.expand_text.specs.Meaning.{ExpandsTo, ends, on_leaf, on_node, on_definition, on_inactive, on_other_call, into_other_call, into_attributes, on_faulty_call, on_call, on_kept_call, context_after}
-use Rattle.expand_text.specs.Expansion.{replacements}
+use Rattle.expand_text.specs.Reading.{AreSplices, ended, passed as one_passed, entered, stayed}
 use Rattle.expand_text.specs.Contexts.{Context, Config, asks_for, new_context}
 use Rattle.expand_text.specs.Lacking.{Lacks}
 use Rattle.expand_text.specs.Exports.{AreExported, AreRead}
@@ -26,6 +26,7 @@ use Rattle.expand_text.specs.Macros.{called_by, context_behind, left_behind, nam
 use Rattle.expand_text.specs.Outcomes.{Outcome}
 use Rattle.expand_text.proofs.Mentioned.{lacks_word}
 use Rattle.expand_text.specs.Scopes.{Macro, last_named}
+use Rattle.laws_round_trip.specs.Splices.{Splice}
 
 -- The trees after some lack it too.
 lacks_behind : (word : List ℕ) (n : ℕ) (trees : Forest) → Lacks word trees → Lacks word (after_trees n trees)
@@ -104,32 +105,32 @@ context_same false context = ap (λ m. record context { macros = m }) (take-leng
 bare_same : (a b : Context) → a ≡ b → IsBare b → IsBare a
 bare_same a b same bare = subst IsBare (sym same) bare
 
-comes_quiet : {config : Config} {in_text : Bool} {limit plain : ℕ} {position : Position} {context after : Context} {trees : Forest} {outcome : Outcome}
-    → ExpandsTo config in_text limit position plain context trees after outcome → IsBare context → Lacks (codes "macro_rules") trees → (replacements outcome ≡ []) × (after ≡ context)
-comes_quiet ends none lacks = (refl, refl)
-comes_quiet (on_leaf plain others) none lacks = comes_quiet others none lacks.1
-comes_quiet (on_node {position = position} {context = context} {delimiter = delimiter} {children = children} plain held others) none lacks =
-    let inside = comes_quiet held none lacks.0 in
+comes_quiet : {config : Config} {in_text one_line : Bool} {limit plain : ℕ} {position : Position} {context after : Context} {trees : Forest} {outcome : Outcome} {splices : List Splice}
+    → ExpandsTo config in_text limit position plain context trees after outcome → AreSplices one_line outcome splices → IsBare context → Lacks (codes "macro_rules") trees → (splices ≡ []) × (after ≡ context)
+comes_quiet ends ended none lacks = (refl, refl)
+comes_quiet (on_leaf plain others) (one_passed are) none lacks = comes_quiet others are none lacks.1
+comes_quiet (on_node {position = position} {context = context} {delimiter = delimiter} {children = children} plain held others) (entered are later) none lacks =
+    let inside = comes_quiet held are none lacks.0 in
     let same = ap (context_after (keeps_macros delimiter.kind children position) context) inside.1 ∙ context_same (keeps_macros delimiter.kind children position) context in
-    let behind = comes_quiet others (bare_same _ context same none) lacks.1 in
+    let behind = comes_quiet others later (bare_same _ context same none) lacks.1 in
     (ap₂ (λ a b. a ++ b) inside.0 behind.0, behind.1 ∙ same)
-comes_quiet {config = config} (on_definition {position = position} {it = it} {trees = trees} inside going is read others) none lacks =
+comes_quiet {config = config} (on_definition {position = position} {it = it} {trees = trees} inside going is read others) are none lacks =
     absurd (no_definition config.root position trees it lacks (defines_at is))
-comes_quiet (on_inactive {len = len} {trees = trees} going is others) none lacks = comes_quiet others none (lacks_behind (codes "macro_rules") len trees lacks)
-comes_quiet {config = config} (on_other_call {context = context} {it = it} {trees = trees} going is bare unexpanded not_into others) none lacks =
+comes_quiet (on_inactive {len = len} {trees = trees} going is others) (stayed are) none lacks = comes_quiet others are none (lacks_behind (codes "macro_rules") len trees lacks)
+comes_quiet {config = config} (on_other_call {context = context} {it = it} {trees = trees} going is bare unexpanded not_into others) (stayed are) none lacks =
     let same = behind_same config context it none in
-    let behind = comes_quiet others (bare_same _ context same none) (lacks_behind (codes "macro_rules") it.len trees lacks) in
+    let behind = comes_quiet others are (bare_same _ context same none) (lacks_behind (codes "macro_rules") it.len trees lacks) in
     (behind.0, behind.1 ∙ same)
-comes_quiet {config = config} (into_other_call {context = context} {it = it} going is bare unexpanded into others) none lacks =
+comes_quiet {config = config} (into_other_call {context = context} {it = it} going is bare unexpanded into others) are none lacks =
     let same = behind_same config context it none in
-    let behind = comes_quiet others (bare_same _ context same none) lacks in
+    let behind = comes_quiet others are (bare_same _ context same none) lacks in
     (behind.0, behind.1 ∙ same)
-comes_quiet (into_attributes going is some unexpanded others) none lacks = comes_quiet others none lacks
-comes_quiet {config = config} (on_faulty_call {context = context} {it = it} at fault going is called some faulty others) none lacks =
+comes_quiet (into_attributes going is some unexpanded others) are none lacks = comes_quiet others are none lacks
+comes_quiet {config = config} (on_faulty_call {context = context} {it = it} at fault going is called some faulty others) are none lacks =
     absurd (cc (sym (called_none config context it none) ∙ called))
-comes_quiet {config = config} (on_call {context = context} {it = it} tree put going is called some expands noted held so may others) none lacks =
+comes_quiet {config = config} (on_call {context = context} {it = it} tree put going is called some expands noted held so may others) are none lacks =
     absurd (cc (sym (called_none config context it none) ∙ called))
-comes_quiet {config = config} (on_kept_call {context = context} {it = it} tree at fault going is called some expands noted held kept others) none lacks =
+comes_quiet {config = config} (on_kept_call {context = context} {it = it} tree at fault going is called some expands noted held kept others) are none lacks =
     absurd (cc (sym (called_none config context it none) ∙ called))
 
 -- No definition is found in such trees, so none is exported.
@@ -165,9 +166,9 @@ none_exported config trees macros lacks (found, after, are, read, same) =
     same ∙ ap (λ context. context.macros) nothing
 
 -- Nothing comes of a text of such trees.
-pub nothing_comes : {config : Config} {in_text : Bool} {limit : ℕ} {position : Position} {exported : List Macro} {after : Context} {trees : Forest} {outcome : Outcome}
-    → AreExported config trees exported → ExpandsTo config in_text limit position 0 (new_context exported) trees after outcome → Lacks (codes "macro_rules") trees
-    → (replacements outcome ≡ []) × (after.findings ≡ [])
-nothing_comes {config = config} {exported = exported} {trees = trees} exports expands_to lacks =
-    let quiet = comes_quiet expands_to (record { macros = refl; exported = none_exported config trees exported lacks exports }) lacks in
+pub nothing_comes : {config : Config} {in_text one_line : Bool} {limit : ℕ} {position : Position} {exported : List Macro} {after : Context} {trees : Forest} {outcome : Outcome} {splices : List Splice}
+    → AreExported config trees exported → ExpandsTo config in_text limit position 0 (new_context exported) trees after outcome → AreSplices one_line outcome splices → Lacks (codes "macro_rules") trees
+    → (splices ≡ []) × (after.findings ≡ [])
+nothing_comes {config = config} {exported = exported} {trees = trees} exports expands_to are lacks =
+    let quiet = comes_quiet expands_to are (record { macros = refl; exported = none_exported config trees exported lacks exports }) lacks in
     (quiet.0, ap (λ context. context.findings) quiet.1)

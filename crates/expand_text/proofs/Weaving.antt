@@ -1,5 +1,5 @@
 -- What replaces calls is woven into the pieces of the text.
-use Rattle.std.proofs.Common.{◌≡◌, ◌<◌, ◌-◌, ◌++◌, ℕ, zero, suc, Bool, true, false, List, [], ◌∷◌, inl, inr, ◌⊎◌, max, Some, None, cond, codes, refl, ap, ap₂, sym, subst, ◌∙◌, arith, append_assoc, append-nil}
+use Rattle.std.proofs.Common.{◌≡◌, ◌<◌, ◌-◌, ◌++◌, ℕ, zero, suc, Bool, true, false, List, [], ◌∷◌, inl, inr, ◌⊎◌, max, Some, None, cond, codes, refl, ap, sym, subst, ◌∙◌, arith, append_assoc, append-nil}
 use Rattle.std.proofs.Math.Nat.{le-max_left, le-max_right}
 use Rattle.std.proofs.lemmas.Bool.{eqb-true, false≢true}
 use Rattle.std.specs.Prelude.{◌==◌, ◌||◌, ◌&&◌, not}
@@ -19,11 +19,11 @@ use Rattle.expand_items.specs.Attributes.{item_at}
 use Rattle.expand_items.proofs.Shapes.{EndsClosed, by_subtree, by_semicolon, BeginsWithName, call_begins, call_ends, call_closed, definition_closed, punct_first, ends_by_punct, ends_by_subtree}
 use Rattle.expand_items.proofs.ItemsAt.{calls_at, defines_at, inactive_less}
 use Rattle.expand_text.specs.Meaning.{ExpandsTo, ends, on_leaf, on_node, on_definition, on_inactive, on_other_call, into_other_call, into_attributes, on_faulty_call, on_call, on_kept_call, attributes_in, begin_in, end_in, len_in, is_closing, named_behind, plain_behind, plain_behind_part, rest_in, takes_in, whole_in}
-use Rattle.expand_text.specs.Expansion.{replacement, replacements}
 use Rattle.expand_text.specs.Contexts.{Config, Context, asks_for}
 use Rattle.expand_text.specs.Macros.{called_by, named_by}
-use Rattle.expand_text.specs.Outcomes.{Outcome, nothing, passes, enters, stays, becomes}
-use Rattle.expand_text.specs.Reading.{splices, sorts_left}
+use Rattle.expand_text.specs.Outcomes.{Outcome}
+use Rattle.expand_text.specs.Reading.{AreSplices, ended, passed, entered, stayed, became, sorts_left, splice}
+use Rattle.expand_text.proofs.Splicing.{spelling_of}
 use Rattle.expand_text.specs.Scopes.{Macro}
 use Rattle.expand_items.specs.Items.{Call, calls, is_elsewhere, item_in}
 use Rattle.expand_items.specs.declared.item.MacroPath.{MacroPath}
@@ -34,24 +34,11 @@ use Rattle.mbe_pattern.proofs.Passing.{front_joined}
 use Rattle.mbe_pattern.specs.Units.{front_trees, is_brace, is_at_punct}
 use Rattle.laws_round_trip.proofs.CallCuts.{behind_pieces}
 use Rattle.laws_round_trip.specs.Calls.{BeginsCall, EndsCall, IsTaken, IsWoven, ends as woven_end, keeps, gives_way, follows_value, may_begin}
-use Rattle.laws_round_trip.specs.Splices.{Splice, replacement_of, replacements_of}
+use Rattle.laws_round_trip.specs.Splices.{Splice}
 use Rattle.syntax_parse.proofs.StackFacts.{spelled-join}
 use Rattle.syntax_parse.specs.Spelled.{Piece, Sort, sign, opening, closing, at_span, piece_of, sort_of, spelled}
 use Rattle.syntax_unparse.specs.Marks.{marks}
 use Rattle.syntax_unparse.specs.Settled.{settled, sorts}
-
--- what replaces calls, as texts
-replacements_append : (a b : List Splice) → replacements_of (a ++ b) ≡ replacements_of a ++ replacements_of b
-replacements_append [] b = refl
-replacements_append (it ∷ a) b = ap (λ rs. replacement_of it ∷ rs) (replacements_append a b)
-
--- The splices are the replacements as texts.
-pub as_texts : (it : Outcome) → replacements_of (splices it) ≡ replacements it
-as_texts nothing = refl
-as_texts (passes it behind) = as_texts behind
-as_texts (enters delimiter inside behind) = replacements_append (splices inside) (splices behind) ∙ ap₂ (λ a b. a ++ b) (as_texts inside) (as_texts behind)
-as_texts (stays trees behind) = as_texts behind
-as_texts (becomes first last trees behind) = ap (λ rs. replacement first last trees ∷ rs) (as_texts behind)
 
 -- before a `.` after a literal two trees are taken as they are
 abbrev pub BeforePoint : (before : List Sort) → Forest → (plain : ℕ) → Type 0
@@ -286,44 +273,44 @@ module _ (config : Config) where
       (keeps_all (spelled front) before (spelled rest ++ more) others woven (then (behind_pieces (spelled front) before) (held_closed front closed before rest 0)))
 
   -- What trees expand to is woven into their pieces.
-  pub comes_woven : {limit : ℕ} {position : Position} {plain : ℕ} {context after : Context} {trees : Forest} {outcome : Outcome} → ExpandsTo config true limit position plain context trees after outcome
-      → (before : List Sort) → IsHeld before trees plain → (more : List Piece) (others : List Splice) (woven : List Sort) → ((behind : List Sort) → IsWoven behind more others woven)
-      → IsWoven before (spelled trees ++ more) (splices outcome ++ others) (sorts_left outcome ++ woven)
-  comes_woven ends before held more others woven then = then before
-  comes_woven (on_leaf {plain = plain} {it = it} {rest = rest} is expands_to) before held more others woven then =
-      keeps (comes_woven expands_to (sort_of it ∷ before) (held_leaf it before rest plain held) more others woven then)
-  comes_woven (on_node {plain = plain} {delimiter = delimiter} {children = children} {rest = rest} {held = inside} {others = behind} is expands_to past) before held more others woven then =
+  pub comes_woven : {one_line : Bool} {limit : ℕ} {position : Position} {plain : ℕ} {context after : Context} {trees : Forest} {outcome : Outcome} {splices : List Splice}
+      → ExpandsTo config true limit position plain context trees after outcome → AreSplices one_line outcome splices → (before : List Sort) → IsHeld before trees plain → (more : List Piece) (others : List Splice) (woven : List Sort) → ((behind : List Sort) → IsWoven behind more others woven)
+      → IsWoven before (spelled trees ++ more) (splices ++ others) (sorts_left outcome ++ woven)
+  comes_woven ends ended before held more others woven then = then before
+  comes_woven (on_leaf {plain = plain} {it = it} {rest = rest} is expands_to) (passed are) before held more others woven then =
+      keeps (comes_woven expands_to are (sort_of it ∷ before) (held_leaf it before rest plain held) more others woven then)
+  comes_woven (on_node {plain = plain} {delimiter = delimiter} {children = children} {rest = rest} {held = inside} {others = behind} is expands_to past) (entered {first = first} {second = second} are later) before held more others woven then =
       let opens = opening delimiter.kind in
       let close = closing delimiter.kind in
       let shut = at_span close delimiter.close in
       moved (ap (λ ps. at_span opens delimiter.open_span ∷ ps) (sym (append_assoc (spelled children) (shut ∷ spelled rest) more)))
-      (sym (append_assoc (splices inside) (splices behind) others))
+      (sym (append_assoc first second others))
       (ap (λ ws. opens ∷ ws) (sym (append_assoc (sorts_left inside) (close ∷ sorts_left behind) woven)))
-      (keeps (comes_woven expands_to (opens ∷ before) (held_opening delimiter.kind before children 0) (shut ∷ (spelled rest ++ more)) (splices behind ++ others) (close ∷ (sorts_left behind ++ woven))
-      (λ b. keeps (comes_woven past (close ∷ b) (held_closing delimiter.kind b rest (plain - 1)) more others woven then))))
-  comes_woven (on_definition {position = position} {it = it} {trees = trees} {others = behind} inside goes_on is read expands_to) before held more others woven then =
+      (keeps (comes_woven expands_to are (opens ∷ before) (held_opening delimiter.kind before children 0) (shut ∷ (spelled rest ++ more)) (second ++ others) (close ∷ (sorts_left behind ++ woven))
+      (λ b. keeps (comes_woven past later (close ∷ b) (held_closing delimiter.kind b rest (plain - 1)) more others woven then))))
+  comes_woven (on_definition {position = position} {it = it} {trees = trees} {others = behind} inside goes_on is read expands_to) (stayed {splices = splices} are) before held more others woven then =
       moved refl refl (sym (append_assoc (sorts (spelled (front_trees it.len trees))) (sorts_left behind) woven))
       (stays_woven trees (front_trees it.len trees) (after_trees it.len trees) (front_joined it.len trees)
-      (definition_closed config.root trees it (definition_at config.root position trees it (defines_at is))) before more (splices behind ++ others) (sorts_left behind ++ woven)
-      (λ b h. comes_woven expands_to b h more others woven then))
-  comes_woven (on_inactive {len = len} {trees = trees} {others = behind} goes_on is expands_to) before held more others woven then =
+      (definition_closed config.root trees it (definition_at config.root position trees it (defines_at is))) before more (splices ++ others) (sorts_left behind ++ woven)
+      (λ b h. comes_woven expands_to are b h more others woven then))
+  comes_woven (on_inactive {len = len} {trees = trees} {others = behind} goes_on is expands_to) (stayed {splices = splices} are) before held more others woven then =
       let front = front_trees len trees in
       moved (spelled_front trees front (after_trees len trees) more (front_joined len trees)) refl (sym (append_assoc (sorts (spelled front)) (sorts_left behind) woven))
-      (keeps_all (spelled front) before (spelled (after_trees len trees) ++ more) (splices behind ++ others) (sorts_left behind ++ woven)
-      (comes_woven expands_to (behind_pieces (spelled front) before) (held_part len trees before (inactive_less is)) more others woven then))
-  comes_woven (on_other_call {position = position} {it = it} {trees = trees} {others = behind} goes_on is bare none out expands_to) before held more others woven then =
+      (keeps_all (spelled front) before (spelled (after_trees len trees) ++ more) (splices ++ others) (sorts_left behind ++ woven)
+      (comes_woven expands_to are (behind_pieces (spelled front) before) (held_part len trees before (inactive_less is)) more others woven then))
+  comes_woven (on_other_call {position = position} {it = it} {trees = trees} {others = behind} goes_on is bare none out expands_to) (stayed {splices = splices} are) before held more others woven then =
       moved refl refl (sym (append_assoc (sorts (spelled (front_trees it.len trees))) (sorts_left behind) woven))
-      (stays_woven trees (front_trees it.len trees) (after_trees it.len trees) (front_joined it.len trees) (ends_alone config.root position trees it (calls_at is)) before more (splices behind ++ others) (sorts_left behind ++ woven)
-      (λ b h. comes_woven expands_to b h more others woven then))
-  comes_woven (into_other_call goes_on is bare none into expands_to) before held more others woven then =
-      comes_woven expands_to before (record { begins = λ long. held.begins refl; point = λ follows at. omega (arith, held.point follows at) }) more others woven then
-  comes_woven (into_attributes goes_on is some none expands_to) before held more others woven then =
-      comes_woven expands_to before (record { begins = λ long. held.begins refl; point = λ follows at. omega (arith, held.point follows at) }) more others woven then
-  comes_woven (on_faulty_call {position = position} {it = it} {trees = trees} {others = behind} at fault goes_on is called some wrong expands_to) before held more others woven then =
+      (stays_woven trees (front_trees it.len trees) (after_trees it.len trees) (front_joined it.len trees) (ends_alone config.root position trees it (calls_at is)) before more (splices ++ others) (sorts_left behind ++ woven)
+      (λ b h. comes_woven expands_to are b h more others woven then))
+  comes_woven (into_other_call goes_on is bare none into expands_to) are before held more others woven then =
+      comes_woven expands_to are before (record { begins = λ long. held.begins refl; point = λ follows at. omega (arith, held.point follows at) }) more others woven then
+  comes_woven (into_attributes goes_on is some none expands_to) are before held more others woven then =
+      comes_woven expands_to are before (record { begins = λ long. held.begins refl; point = λ follows at. omega (arith, held.point follows at) }) more others woven then
+  comes_woven (on_faulty_call {position = position} {it = it} {trees = trees} {others = behind} at fault goes_on is called some wrong expands_to) (stayed {splices = splices} are) before held more others woven then =
       moved refl refl (sym (append_assoc (sorts (spelled (front_trees it.len trees))) (sorts_left behind) woven))
-      (stays_woven trees (front_trees it.len trees) (after_trees it.len trees) (front_joined it.len trees) (ends_alone config.root position trees it (calls_at is)) before more (splices behind ++ others) (sorts_left behind ++ woven)
-      (λ b h. comes_woven expands_to b h more others woven then))
-  comes_woven (on_call {position = position} {context = context} {it = it} {macro = macro} {trees = trees} {others = behind} tree put goes_on is called some makes noted expands_to so may past) before held more others woven then =
+      (stays_woven trees (front_trees it.len trees) (after_trees it.len trees) (front_joined it.len trees) (ends_alone config.root position trees it (calls_at is)) before more (splices ++ others) (sorts_left behind ++ woven)
+      (λ b h. comes_woven expands_to are b h more others woven then))
+  comes_woven {one_line = one_line} (on_call {position = position} {context = context} {it = it} {macro = macro} {trees = trees} {others = behind} tree put goes_on is called some makes noted expands_to so may past) (stayed (became {splices = splices} {text = text} spells are)) before held more others woven then =
       let at = calls_at is in
       let attributes = attributes_in position it trees in
       let call = after_trees it.attributes (whole_in position it trees) in
@@ -331,17 +318,17 @@ module _ (config : Config) where
       moved (spelled_parts config.root trees position it at more) refl
       (ap (λ ws. sorts (spelled attributes) ++ ws) (sym (append_assoc (settled (marks 0 put)) (sorts_left behind) woven))
       ∙ sym (append_assoc (sorts (spelled attributes)) (settled (marks 0 put) ++ sorts_left behind) woven))
-      (keeps_all (spelled attributes) before (spelled call ++ (spelled rest ++ more)) (splices (becomes (begin_in it trees) (end_in position it trees) put behind) ++ others)
+      (keeps_all (spelled attributes) before (spelled call ++ (spelled rest ++ more)) (splice (begin_in it trees) (end_in position it trees) put text ∷ (splices ++ others))
       (settled (marks 0 put) ++ (sorts_left behind ++ woven))
-      (gives_way (held_attributes config.root trees position it at before held) (call_taken config.root trees position it at (called_here config context it macro called)) may.1
-      (comes_woven past [] (held_none rest 0) more others woven then)))
-  comes_woven (on_kept_call {position = position} {it = it} {trees = trees} {others = behind} tree at fault goes_on is called some makes noted expands_to kept past) before held more others woven then =
+      (gives_way (held_attributes config.root trees position it at before held) (call_taken config.root trees position it at (called_here config context it macro called)) (spelling_of one_line put text may.1 spells)
+      (comes_woven past are [] (held_none rest 0) more others woven then)))
+  comes_woven (on_kept_call {position = position} {it = it} {trees = trees} {others = behind} tree at fault goes_on is called some makes noted expands_to kept past) (stayed {splices = splices} are) before held more others woven then =
       moved refl refl (sym (append_assoc (sorts (spelled (whole_in position it trees))) (sorts_left behind) woven))
-      (stays_woven trees (whole_in position it trees) (rest_in position it trees) (split_in position it trees) (whole_closed config.root trees position it (calls_at is)) before more (splices behind ++ others) (sorts_left behind ++ woven)
-      (λ b h. comes_woven past b h more others woven then))
+      (stays_woven trees (whole_in position it trees) (rest_in position it trees) (split_in position it trees) (whole_closed config.root trees position it (calls_at is)) before more (splices ++ others) (sorts_left behind ++ woven)
+      (λ b h. comes_woven past are b h more others woven then))
 
   -- What a whole text expands to is woven into its pieces.
-  pub text_woven : {limit : ℕ} {position : Position} {context after : Context} (trees : Forest) (outcome : Outcome) → ExpandsTo config true limit position 0 context trees after outcome
-      → IsWoven [] (spelled trees) (splices outcome) (sorts_left outcome)
-  text_woven trees outcome expands_to =
-      moved (append-nil (spelled trees)) (append-nil (splices outcome)) (append-nil (sorts_left outcome)) (comes_woven expands_to [] (held_none trees 0) [] [] [] (λ behind. woven_end))
+  pub text_woven : {one_line : Bool} {limit : ℕ} {position : Position} {context after : Context} (trees : Forest) (outcome : Outcome) (splices : List Splice) → ExpandsTo config true limit position 0 context trees after outcome
+      → AreSplices one_line outcome splices → IsWoven [] (spelled trees) splices (sorts_left outcome)
+  text_woven trees outcome splices expands_to are =
+      moved (append-nil (spelled trees)) (append-nil splices) (append-nil (sorts_left outcome)) (comes_woven expands_to are [] (held_none trees 0) [] [] [] (λ behind. woven_end))

@@ -1,5 +1,5 @@
 -- What becomes of the trees that come first.
-use Rattle.std.specs.Prelude.{◌≡◌, ◌<◌, ◌≤◌, ℕ, Bool, suc, List, [], ◌∷◌}
+use Rattle.std.specs.Prelude.{◌<◌, ◌≤◌, ℕ, Bool, suc, List, [], ◌∷◌}
 use Rattle.tt.specs.Forest.{size}
 use Rattle.expand_text.specs.declared.next.Choice.{Choice}
 use Rattle.expand_text.specs.declared.next.Choice.TheVariants as choice

@@ -10,13 +10,14 @@ use Rattle.expand_text.specs.Findings.{ends_call}
 use Rattle.expand_text.specs.Scopes.{Macro, AreReady, kept_of}
 
 -- what is known of conditions, the root's word, whether calls that are not expanded are entered, how many tokens arms may write for one call
--- of the text, and the only name whose macros are read and expanded, if not all are
+-- of the text, the only name whose macros are read and expanded, if not all are, and whether each expansion is written on one line
 pub record Config : Type 0 where
   pub known : Known
   pub root : List ℕ
   pub everywhere : Bool
   pub max_tokens : ℕ
   pub only : Option (List ℕ)
+  pub one_line : Bool
 
 -- macros of that name are read and expanded
 abbrev pub asks_for : (only : Option (List ℕ)) → (name : List ℕ) → Bool
@@ -83,7 +84,7 @@ left_in_scope kept context = record context { macros = kept_of kept context.macr
 
 -- what the values of the code mean
 abbrev pub config_of : config_in_code.Config → Config
-config_of it = record { known = known_of it.cfg.now; root = it.root; everywhere = it.everywhere; max_tokens = it.max_tokens; only = it.only }
+config_of it = record { known = known_of it.cfg.now; root = it.root; everywhere = it.everywhere; max_tokens = it.max_tokens; only = it.only; one_line = it.one_line }
 
 pub record IsContext (context : Context) (it : context_in_code.Context) : Type 0 where
   pub macros : AreReady context.macros it.scope.macros.items

@@ -1,6 +1,6 @@
 -- Expansions that are added to a builder.
 use Rattle.std.specs.Prelude.{◌≡◌, ◌⊎◌, ℕ, zero, suc, false, Option, None, Some}
-use Rattle.tt.specs.Building.{BuilderState, Stack, append, empty_builder, opened, depth, IsAbove}
+use Rattle.tt.specs.Building.{BuilderState, Stack, append, empty_builder, opened, depth}
 use Rattle.tt.specs.Forest.{Forest, Root}
 use Rattle.tt.specs.Span.{start_of}
 use Rattle.tt.specs.Types.Delimiter.{Delimiter}

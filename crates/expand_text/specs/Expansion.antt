@@ -1,9 +1,8 @@
 -- What a text with expanded macros is.
-use Rattle.std.specs.Prelude.{◌≡◌, ◌<◌, ◌-◌, ◌++◌, ◌⊎◌, ℕ, Bool, true, false, List, [], ◌∷◌, Option, None, Some, length, slice_get, option_map, string_bytes}
+use Rattle.std.specs.Prelude.{◌≡◌, ◌<◌, ◌⊎◌, ℕ, Bool, true, false, List, [], ◌∷◌, Option, None, Some, length, slice_get, option_map, string_bytes}
 use Rattle.tt.specs.Forest.{Forest, Root}
-use Rattle.tt.specs.Span.{start_of, end_of}
+use Rattle.tt.specs.Span.{start_of}
 use Rattle.tt.specs.Types.Delimiter.{Delimiter}
-use Rattle.tt.specs.Types.Span.{Span}
 use Rattle.tt_base.specs.declared.span.SpanPart.{SpanPart}
 use Rattle.expand_text.specs.declared.fault.ExpandTextError.{ExpandTextError}
 use Rattle.expand_text.specs.declared.fault.ExpandTextError.TheVariants as error
@@ -19,13 +18,14 @@ use Rattle.expand_text.specs.Findings.{is_warning}
 use Rattle.expand_text.specs.Contexts.{Config, Context, new_context, with_finding, outside_call}
 use Rattle.expand_text.specs.Exports.{AreExported}
 use Rattle.expand_text.specs.Macros.{MayBePut, IsUnwritten}
-use Rattle.expand_text.specs.Outcomes.{Outcome, nothing, passes, enters, stays, becomes, trees_left}
+use Rattle.expand_text.specs.Outcomes.{Outcome, trees_left}
 use Rattle.expand_items.specs.Cfg.{known_of}
 use Rattle.expand_items.specs.Positions.{begun as begun_among}
 use Rattle.expand_items.specs.declared.position.Siblings.TheVariants.{Items}
 use Rattle.syntax_edit.specs.Places.{text_part}
-use Rattle.syntax_edit.specs.Texts.{Replacement, Writing, begun, finished, with_all, IsReplaced, AreReplaced, FitAll}
-use Rattle.expand_text.specs.Reading.{sorts_left}
+use Rattle.laws_round_trip.specs.Splices.{Splice, replacement_of, replacements_of}
+use Rattle.syntax_edit.specs.Texts.{Writing, begun, finished, with_all, IsReplaced, AreReplaced, FitAll}
+use Rattle.expand_text.specs.Reading.{AreSplices, Spells, sorts_left, splice}
 use Rattle.expand_text.specs.Scopes.{Macro}
 use Rattle.expand_text.specs.CallSites.{CallSite, PutIn, IsKept}
 use Rattle.expand_text.specs.Invocations.{body_of, entered_by, found_by, site_of}
@@ -34,29 +34,16 @@ use Rattle.syntax_parse.specs.Refusal.{IsFaultOf, IsRefusal}
 use Rattle.syntax_parse.specs.Spelled.{Sort, spelled}
 use Rattle.syntax_parse.specs.declared.fault.SyntaxFault.{SyntaxFault}
 use Rattle.syntax_unparse.specs.Settled.{sorts}
-use Rattle.syntax_unparse.specs.Text.{text_of}
 
--- the text from a span to another is replaced by the Rust text of trees
-abbrev pub replacement : (first last : Span) → Forest → Replacement
-replacement first last trees = record { start = start_of first.range; end = end_of last.range; text = text_of trees }
+-- a text that spells trees that replace a call which begins at a byte, or why they have none
+abbrev pub IsTextOf : (one_line : Bool) → (call : Delimiter) → (put : Forest) → (begin : ℕ) → Written → Type 0
+IsTextOf one_line call put begin (made.Text text) = MayBePut true call put × Spells one_line put (string_bytes text)
+IsTextOf one_line call put begin (made.Faulty at fault) = IsUnwritten call put begin at fault
 
--- all replacements, in order
-abbrev pub replacements : Outcome → List Replacement
-replacements nothing = []
-replacements (passes it behind) = replacements behind
-replacements (enters delimiter inside behind) = replacements inside ++ replacements behind
-replacements (stays trees behind) = replacements behind
-replacements (becomes first last trees behind) = replacement first last trees ∷ replacements behind
-
--- the Rust text of trees that replace a call which begins at a byte, or why they have none
-abbrev pub IsTextOf : (call : Delimiter) → (put : Forest) → (begin : ℕ) → Written → Type 0
-IsTextOf call put begin (made.Text text) = MayBePut true call put × (string_bytes text ≡ text_of put)
-IsTextOf call put begin (made.Faulty at fault) = IsUnwritten call put begin at fault
-
--- the Rust text of the expansion of a call, in its place, or why the call stays
-abbrev pub IsCallText : CallSite → (trees : Forest) → (begin : ℕ) → Written → Type 0
-IsCallText it trees begin (made.Text text) = (put : Forest) × PutIn true it trees put × MayBePut true it.delimiter put × (string_bytes text ≡ text_of put)
-IsCallText it trees begin (made.Faulty at fault) = IsKept true it trees begin at fault
+-- a text that spells the expansion of a call, in its place, or why the call stays
+abbrev pub IsCallText : (one_line : Bool) → CallSite → (trees : Forest) → (begin : ℕ) → Written → Type 0
+IsCallText one_line it trees begin (made.Text text) = (put : Forest) × PutIn true it trees put × MayBePut true it.delimiter put × Spells one_line put (string_bytes text)
+IsCallText one_line it trees begin (made.Faulty at fault) = IsKept true it trees begin at fault
 
 -- what a call expands to is written as Rust, or cannot be
 pub record IsInvocationText (config : Config) (limit : ℕ) (it : Invocation) (whole : Forest) (tree : Root) (result : Written) (before after : Context) : Type 0 where
@@ -64,13 +51,13 @@ pub record IsInvocationText (config : Config) (limit : ℕ) (it : Invocation) (w
   pub outcome : Outcome
   pub expands_to : ExpandsTo config false limit it.position 0 (entered_by config it tree before) (body_of it tree) inside outcome
   pub behind : after ≡ outside_call before inside
-  pub text : IsCallText (site_of whole it) (trees_left outcome) (start_of it.first_span.range) result
+  pub text : IsCallText config.one_line (site_of whole it) (trees_left outcome) (start_of it.first_span.range) result
 
--- an expansion replaces its call, if that part of the source is left; or the call stays, and that is found
-abbrev pub IsPut : Invocation → (whole trees : Forest) → (behind after : Context) → (old new : Writing) → Type 0
-IsPut it whole trees behind after old new =
+-- a text that spells an expansion replaces its call, if that part of the source is left; or the call stays, and that is found
+abbrev pub IsPut : (one_line : Bool) → Invocation → (whole trees : Forest) → (behind after : Context) → (old new : Writing) → Type 0
+IsPut one_line it whole trees behind after old new =
     ((put : Forest) × PutIn true (site_of whole it) trees put × MayBePut true it.delimiter put × (after ≡ behind)
-    × IsReplaced (replacement it.first_span it.last_span put) old new)
+    × (text : List ℕ) × Spells one_line put text × IsReplaced (replacement_of (splice it.first_span it.last_span put text)) old new)
     ⊎ ((at : ℕ) × (fault : MacroFault) × IsKept true (site_of whole it) trees (start_of it.first_span.range) at fault
     × (after ≡ with_finding (found_by it at fault) behind) × (new ≡ old))
 
@@ -79,27 +66,29 @@ pub record IsInvocationWritten (config : Config) (limit : ℕ) (it : Invocation)
   pub inside : Context
   pub outcome : Outcome
   pub expands_to : ExpandsTo config false limit it.position 0 (entered_by config it tree before) (body_of it tree) inside outcome
-  pub put : IsPut it whole (trees_left outcome) (outside_call before inside) after old new
+  pub put : IsPut config.one_line it whole (trees_left outcome) (outside_call before inside) after old new
 
 -- a source of these trees is written with each call replaced by its expansion
 pub record IsSourceText (config : Config) (limit : ℕ) (source : List ℕ) (trees : Forest) (result : List ℕ) (before after : Context) : Type 0 where
   pub outcome : Outcome
   pub expands_to : ExpandsTo config true limit (begun_among Items) 0 before trees after outcome
+  pub splices : List Splice
+  pub are : AreSplices config.one_line outcome splices
   pub written : Writing
-  pub replaced : AreReplaced (replacements outcome) (begun source) written
+  pub replaced : AreReplaced (replacements_of splices) (begun source) written
   pub text : result ≡ finished written
 
 -- the setting of the options
 abbrev pub config_by : ExpandOptions → Config
-config_by it = record { known = known_of it.cfg.now; root = it.root.now; everywhere = it.everywhere; max_tokens = it.max_tokens; only = option_map (λ name. name.now) it.only }
+config_by it = record { known = known_of it.cfg.now; root = it.root.now; everywhere = it.everywhere; max_tokens = it.max_tokens; only = option_map (λ name. name.now) it.only; one_line = it.one_line }
 
 -- a text reads back as what is left: it has no fault of syntax, and any tree that it is read as spells what is left
 pub record ReadsAs (text : List ℕ) (left : List Sort) : Type 0 where
   pub sound : (fault : SyntaxFault) → IsFaultOf text fault → ⊥
   pub reads : (part : SpanPart) (again : Root) → IsParse part text again → sorts (spelled again.children) ≡ left
 
--- a text that is read as trees, and its expansion: each call is replaced by its expansion, and all other text stays byte for byte. The
--- result reads back as the trees that are left
+-- a text that is read as trees, and its expansion: each call is replaced by a text that spells its expansion, and all other text stays
+-- byte for byte. The result reads back as the trees that are left
 pub record IsExpanded (options : ExpandOptions) (source : List ℕ) (it : Expanded) : Type 0 where
   pub tree : Root
   pub read : IsParse text_part source tree
@@ -108,8 +97,10 @@ pub record IsExpanded (options : ExpandOptions) (source : List ℕ) (it : Expand
   pub after : Context
   pub outcome : Outcome
   pub expands_to : ExpandsTo (config_by options) true options.limit (begun_among Items) 0 (new_context exported) tree.children after outcome
-  pub fits : FitAll (replacements outcome) (begun source)
-  pub text : string_bytes it.text ≡ with_all (replacements outcome) (begun source)
+  pub splices : List Splice
+  pub are : AreSplices options.one_line outcome splices
+  pub fits : FitAll (replacements_of splices) (begun source)
+  pub text : string_bytes it.text ≡ with_all (replacements_of splices) (begun source)
   pub back : ReadsAs (string_bytes it.text) (sorts_left outcome)
   pub findings : it.findings.items ≡ after.findings
   pub callers : it.callers.items ≡ after.callers

@@ -1,6 +1,6 @@
 -- Expansions that wait for those of calls in them.
 use Rattle.std.specs.Prelude.{◌≡◌, ◌-◌, ℕ, ◌∷◌, []}
-use Rattle.tt.specs.Building.{BuilderState, append, extended, depth}
+use Rattle.tt.specs.Building.{BuilderState, append, extended}
 use Rattle.tt.specs.Forest.{Forest, Root, size}
 use Rattle.tt.specs.Types.Delimiter.{Delimiter}
 use Rattle.expand_text.specs.declared.context.Context as context_in_code

@@ -21,7 +21,7 @@ use Rattle.expand_items.specs.Conditions.{behind_leaf_under}
 use Rattle.expand_items.specs.Inactive.{IsItemAt}
 use Rattle.expand_items.specs.Items.{Item, Call}
 use Rattle.expand_text.specs.Contexts.{Config, Context, left_in_scope}
-use Rattle.expand_text.specs.Outcomes.{Outcome, nothing, passes, enters, stays, becomes}
+use Rattle.expand_text.specs.Outcomes.{Outcome, passes, enters, stays, becomes}
 use Rattle.expand_items.specs.Positions.{first_inside, behind, behind_subtree, keeps_macros}
 
 -- the trees of a subtree that are left, the position before them, how many are taken as they are, where the subtree closes, and how many

@@ -1,25 +1,29 @@
 -- What is written for the next event of a walk through a text.
 use Rattle.std.specs.Prelude.{◌≡◌, ◌++◌, ℕ, Bool, true, false, List, [], ◌∷◌}
-use Rattle.syntax_edit.specs.Texts.{Replacement, Writing, AreReplaced}
+use Rattle.syntax_edit.specs.Texts.{Writing, AreReplaced}
 use Rattle.expand_text.specs.Contexts.{Config, Context}
-use Rattle.expand_text.specs.Expansion.{replacements}
 use Rattle.expand_text.specs.Outcomes.{Outcome, nothing}
+use Rattle.expand_text.specs.Reading.{AreSplices}
 use Rattle.expand_text.specs.Walks.{Level, Ends, Leads}
+use Rattle.laws_round_trip.specs.Splices.{Splice, replacements_of}
 
--- all replacements of what levels expand to
-abbrev pub all_replacements : List Outcome → List Replacement
-all_replacements [] = []
-all_replacements (it ∷ others) = replacements it ++ all_replacements others
+-- the trees that replace calls of what levels expand to, in order, each with a text that spells them
+pub data AllSplices (one_line : Bool) : List Outcome → List Splice → Type 0 where
+  no_level : AllSplices one_line [] []
+  one_level : {it : Outcome} {others : List Outcome} {first second : List Splice}
+      → AreSplices one_line it first
+      → AllSplices one_line others second
+      → AllSplices one_line (it ∷ others) (first ++ second)
 
 -- these levels lead to others, and what is replaced on the way is written
 pub record IsWrittenOn (config : Config) (limit : ℕ) (levels nexts : List Level) (old new : Writing) (before after : Context) : Type 0 where
   pub grown : List Outcome → List Outcome
-  pub more : List Replacement
+  pub more : List Splice
   pub leads : Leads config true limit levels before grown nexts after
   pub same :
-      (then : Context) (outcomes : List Outcome) → Ends config true limit levels before then (grown outcomes)
-      → all_replacements (grown outcomes) ≡ more ++ all_replacements outcomes
-  pub replaced : AreReplaced more old new
+      (then : Context) (outcomes : List Outcome) (splices : List Splice) → Ends config true limit levels before then (grown outcomes)
+      → AllSplices config.one_line outcomes splices → AllSplices config.one_line (grown outcomes) (more ++ splices)
+  pub replaced : AreReplaced (replacements_of more) old new
 
 -- the walk goes on so, or is at its end
 abbrev pub IsNextWritten : (goes_on : Bool) → Config → (limit : ℕ) → (levels nexts : List Level) → (old new : Writing) → (before after : Context) → Type 0

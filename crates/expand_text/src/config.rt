@@ -4,6 +4,7 @@ ghost use Rattle.expand_text.specs.Contexts.{asks_for};
 
 use expand_items::CfgOptions;
 use std::alloc::Global;
+use syntax_layout::Sources;
 use tt::Symbol;
 
 /// The setting of a walk, and the allocator.
@@ -20,6 +21,10 @@ pub(crate) struct Config<'a> {
     pub(crate) max_tokens: usize,
     /// The name of the only macros that are read and expanded; `None` for all macros.
     pub(crate) only: Option<Symbol>,
+    /// Whether each expansion is written on one line.
+    pub(crate) one_line: bool,
+    /// The text, from which expansions take their gaps, unless each is written on one line.
+    pub(crate) sources: Sources<'a>,
 }
 
 impl<'a> Config<'a> {

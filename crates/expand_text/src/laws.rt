@@ -1,5 +1,5 @@
 //! Laws of expanded texts: each is the contract of a function without effect.
-ghost use Rattle.std.specs.Prelude.{◌≡◌, ℕ, [], List, codes, string_bytes};
+ghost use Rattle.std.specs.Prelude.{◌≡◌, ℕ, [], List, codes, string_bytes, true};
 ghost use Rattle.tt.specs.Forest.{Root};
 ghost use Rattle.expand_text.specs.Expansion.{IsExpanded};
 ghost use Rattle.expand_text.specs.Lacking.{Lacks};
@@ -17,12 +17,14 @@ pub fn unchanged()
         → (string_bytes it.text ≡ source) × (it.findings.items ≡ []) }
 {}
 
-/// States that a text has only one expansion: any two have the same text, the same findings and the same callers. This holds if no finding names an exceeded
-/// limit of trees, because if a tree exceeds several limits, any one of them may be named.
+/// States that a text has only one expansion: any two leave the same trees, with the same calls replaced, and have the same findings and the
+/// same callers. On one line they also have the same text; otherwise each text reads back as the same trees. This holds if no finding names an
+/// exceeded limit of trees, because if a tree exceeds several limits, any one of them may be named.
 pub fn one_answer()
-    ensures { (options : ExpandOptions) → (source : List ℕ) → (it other : Expanded) → IsExpanded options source it → IsExpanded options source other
+    ensures { (options : ExpandOptions) → (source : List ℕ) → (it other : Expanded) → (is : IsExpanded options source it) → (was : IsExpanded options source other)
         → KeepLimits it.findings.items → KeepLimits other.findings.items
-        → (string_bytes it.text ≡ string_bytes other.text) × (it.findings.items ≡ other.findings.items) × (it.callers.items ≡ other.callers.items) }
+        → (is.outcome ≡ was.outcome) × (it.findings.items ≡ other.findings.items) × (it.callers.items ≡ other.callers.items)
+        × (options.one_line ≡ true → string_bytes it.text ≡ string_bytes other.text) }
 {}
 
 /// States that if nothing is found in a text, then no call of a macro in scope is left, neither in the text nor in what a call expands to.

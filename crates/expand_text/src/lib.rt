@@ -4,8 +4,8 @@
 //! in which the last definition of a name wins, and which a subtree cuts back at its end unless it is under `#[macro_use]`.
 //! `expand_call` finds the macro of a call and has `mbe_rules` expand the input. `expand_tree` walks the expansion in the same way, and
 //! keeps a list of those that wait for the expansion of a call in them, at most as many as the limit. At the top, an `Output` of
-//! `syntax_edit` copies the text and replaces each call by its expansion, `loosened` before it is written. `rooted` replaces `$crate` once
-//! per definition.
+//! `syntax_edit` copies the text and replaces each call by its expansion, which is `loosened` and then written: on one line, or laid out by
+//! `syntax_layout`, whose `Sources` hold the text. `rooted` replaces `$crate` once per definition.
 //!
 //! A definition or call with a fault stays in the text and yields a finding, with the calls that wrote it (`Caller`). A call one expansion
 //! too deep, or one for which too many tokens would be written, ends what comes of its call of the text: a macro that calls itself twice

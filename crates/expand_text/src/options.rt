@@ -24,11 +24,13 @@ pub struct ExpandOptions<'a> {
     pub everywhere: bool,
     /// The name of the only macros that are read and expanded; `None` for all macros.
     pub only: Option<&'a str>,
+    /// Whether each expansion is written on one line, with the spaces of `rust_text`. If not, it is laid out as its tokens are in the text.
+    pub one_line: bool,
 }
 
 impl<'a> ExpandOptions<'a> {
     /// The usual options: all macros, with at most 128 nested expansions and 4,000,000 tokens for a call of the text. `$crate` becomes
-    /// `crate`, and calls that are not expanded stay as they are.
+    /// `crate`, calls that are not expanded stay as they are, and an expansion is laid out.
     pub fn usual(cfg: &'a CfgOptions) -> ExpandOptions<'a>
         ensures cfg { result.cfg ≡ cfg.entry }
         ensures limit { result.limit ≡ 128 }
@@ -36,6 +38,7 @@ impl<'a> ExpandOptions<'a> {
         ensures root { result.root.now ≡ codes "crate" }
         ensures everywhere { result.everywhere ≡ false }
         ensures only { result.only ≡ None }
+        ensures one_line { result.one_line ≡ false }
     {
         ExpandOptions {
             limit: USUAL_LIMIT,
@@ -44,6 +47,7 @@ impl<'a> ExpandOptions<'a> {
             root: "crate",
             everywhere: false,
             only: None,
+            one_line: false,
         }
     }
 }

@@ -1,11 +1,14 @@
 //! A source text, and the text with its calls replaced.
-ghost use Rattle.std.specs.Prelude.{◌≡◌, ◌<◌, true, IfOk, OnOk, string_bytes};
+ghost use Rattle.std.specs.Prelude.{◌≡◌, ◌<◌, ◌+◌, ◌^◌, true, IfErr, IfOk, OnOk, length, string_bytes};
 ghost use Rattle.tt.specs.Stored.{IsWithinLimits};
 ghost use Rattle.expand_text.specs.Macros.{tree_of};
 ghost use Rattle.expand_items.specs.Loosening.{loosened, place_of};
 ghost use Rattle.expand_text.specs.Expansion.{IsTextOf, IsInvocationText, IsInvocationWritten, IsSourceText};
 ghost use Rattle.expand_text.specs.Contexts.{Learns, config_of};
+ghost use Rattle.expand_text.specs.Reading.{Spells};
 ghost use Rattle.syntax_edit.specs.Texts.{writing_of};
+ghost use Rattle.syntax_unparse.specs.Text.{text_of};
+ghost use Rattle.syntax_unparse.specs.Writable.{IsWritable, IsWriteFault};
 ghost use Rattle.tt.specs.Views.{trees_of};
 ghost use Rattle.expand_text.specs.Walks.{front_in, levels_of, past_in, work_in};
 ghost use Rattle.expand_text.specs.Writing.{IsNextWritten};
@@ -20,8 +23,8 @@ use crate::next::{Event, next};
 use crate::places::start_at;
 use crate::walk::Walk;
 use expand_items::{Position, Siblings, loosened};
-use std::alloc::Global;
 use syntax_edit::{Output, end_of, start_of};
+use syntax_layout::rust_text_laid;
 use syntax_unparse::{WriteFault, rust_text};
 use tt::{
     Delimiter, DelimiterKind, Refused, TokenTreesView, TopSubtree, TopSubtreeBuilder, TreeWalk,
@@ -35,18 +38,33 @@ pub(crate) enum Written {
     Faulty(u32, MacroFault),
 }
 
+// Returns the Rust text of trees that replace a call: on one line if that is asked for, and otherwise laid out. The call begins at the byte
+// `begin`.
+fn spelled(config: &Config<'_>, begin: u32, trees: TokenTreesView<'_>) -> Result<String, WriteFault>
+    ensures spells { IfOk result (λ text. Spells config.now.one_line (trees_of trees.entry) (string_bytes text)) }
+    ensures writable { IfOk result (λ _. IsWritable (trees_of trees.entry)) }
+    ensures fits { IfOk result (λ _. 1 + length (text_of (trees_of trees.entry)) < 2 ^ 32) }
+    ensures err { IfErr result (IsWriteFault (trees_of trees.entry)) }
+{
+    if config.one_line {
+        rust_text(config.alloc, trees)
+    } else {
+        rust_text_laid(config.alloc, trees, &config.sources, begin as usize)
+    }
+}
+
 // Writes the expansion of a call as a text, or returns why it has none. The call begins at
 // the byte `begin`. The tree must be within the limits.
 fn write_tree(
-    alloc: Global,
+    config: &Config<'_>,
     begin: u32,
     delimiter: Delimiter,
     tree: &TopSubtree,
 ) -> Result<Written, OutOfMemory>
     requires { IsWithinLimits (tree_of delimiter tree.now.children) }
-    ensures { IfOk result (IsTextOf delimiter tree.now.children begin) }
+    ensures { IfOk result (IsTextOf config.now.one_line delimiter tree.now.children begin) }
 {
-    match rust_text(alloc, tree.token_trees()) {
+    match spelled(config, begin, tree.token_trees()) {
         Ok(text) => Ok(Written::Text(text)),
         Err(WriteFault::Memory) => Err(OutOfMemory),
         Err(WriteFault::NotWritable { at: place }) => {
@@ -60,12 +78,12 @@ fn write_tree(
 // Writes an expansion, this tree in the place of its call, with only the parentheses that it needs, or returns why it has no text. The call
 // begins at the byte `begin`.
 fn write_loosened(
-    alloc: Global,
+    config: &Config<'_>,
     begin: u32,
     invocation: &Invocation,
     tree: &TopSubtree,
 ) -> Result<Written, OutOfMemory>
-    ensures { IfOk result (IsTextOf invocation.now.delimiter (loosened (place_of invocation.now.enclosure invocation.now.position) tree.now.children) begin) }
+    ensures { IfOk result (IsTextOf config.now.one_line invocation.now.delimiter (loosened (place_of invocation.now.enclosure invocation.now.position) tree.now.children) begin) }
 {
     let top = Delimiter {
         kind: DelimiterKind::Invisible,
@@ -73,13 +91,13 @@ fn write_loosened(
     };
     let position = invocation.position;
     match loosened(
-        alloc,
+        config.alloc,
         top,
         invocation.enclosure,
         position,
         tree.token_trees(),
     ) {
-        Ok(shown) => Ok(write_tree(alloc, begin, invocation.delimiter, &shown)?),
+        Ok(shown) => Ok(write_tree(config, begin, invocation.delimiter, &shown)?),
         Err(TtFault::Memory) => Err(OutOfMemory),
         Err(fault) => Ok(Written::Faulty(begin, MacroFault::TooLarge(fault))),
     }
@@ -115,7 +133,7 @@ fn invocation_text(
         None => {}
     }
     match builder.build() {
-        Ok(tree) => Ok(write_loosened(config.alloc, begin, invocation, &tree)?),
+        Ok(tree) => Ok(write_loosened(config, begin, invocation, &tree)?),
         Err(
             Refused {
                 fault: TtFault::Memory,

@@ -13,6 +13,7 @@ use crate::options::ExpandOptions;
 use crate::source::expand_source;
 use std::alloc::Global;
 use syntax_edit::parse;
+use syntax_layout::Sources;
 use tt::Symbol;
 
 /// An expanded text.
@@ -26,8 +27,12 @@ pub struct Expanded {
     pub callers: Vec<Caller>,
 }
 
-// Returns the setting of these options.
-fn config_by<'a>(alloc: Global, options: ExpandOptions<'a>) -> Result<Config<'a>, OutOfMemory>
+// Returns the setting of these options for a text.
+fn config_by<'a>(
+    alloc: Global,
+    text: &'a str,
+    options: ExpandOptions<'a>,
+) -> Result<Config<'a>, OutOfMemory>
     ensures { IfOk result (λ config. config_of config ≡ config_by options.entry) }
 {
     let only = match options.only {
@@ -41,11 +46,13 @@ fn config_by<'a>(alloc: Global, options: ExpandOptions<'a>) -> Result<Config<'a>
         everywhere: options.everywhere,
         max_tokens: options.max_tokens,
         only,
+        one_line: options.one_line,
+        sources: Sources::read(alloc, if options.one_line { "" } else { text })?,
     })
 }
 
-/// Returns the text in which each call of a macro in scope is replaced by its expansion, written as Rust. A definition or a call with a
-/// fault stays as it is, and yields a finding.
+/// Returns the text in which each call of a macro in scope is replaced by its expansion, written as Rust: on one line, or laid out as
+/// its tokens are in the text. A definition or a call with a fault stays as it is, and yields a finding.
 ///
 /// Time is linear in the text, and in what the macros read and write. The stack does not grow with nested expansions.
 pub fn expand_leniently(
@@ -57,7 +64,7 @@ pub fn expand_leniently(
     ensures err { IfErr result (IsLenientError text.now) }
 {
     let tree = parse(alloc, text)?;
-    let config = config_by(alloc, options)?;
+    let config = config_by(alloc, text, options)?;
     let exported = exported_macros(&config, &tree)?;
     let mut context = Context::new(alloc, exported);
     let text = expand_source(&config, &mut context, options.limit, text, tree)?;

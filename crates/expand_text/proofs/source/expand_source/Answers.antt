@@ -1,8 +1,9 @@
-use Rattle.std.proofs.Common.{◌∷◌, ◌++◌, [], List, true, false, sym, subst}
+use Rattle.std.proofs.Common.{◌∷◌, ◌++◌, [], sym, subst}
 use Rattle.tt.specs.TreeWalks.{innermost}
 use Rattle.expand_text.specs.Contexts.{Config, config_of}
+use Rattle.laws_round_trip.specs.Splices.{replacements_of}
 use Rattle.syntax_edit.specs.Texts.{Writing, AreReplaced, begun, writing_of}
-use Rattle.expand_text.specs.Walks.{Level, first_level, outer_of, levels_of, begun as begun_at}
+use Rattle.expand_text.specs.Walks.{first_level, outer_of, levels_of, begun as begun_at}
 use Rattle.expand_text.specs.Writing.{IsNextWritten}
 use Rattle.expand_items.specs.Positions.{begun as begun_among}
 use Rattle.expand_items.specs.declared.position.Siblings.TheVariants.{Items}
@@ -61,14 +62,16 @@ returns c before is =
     let (now, context, done, reading, are) = c.trees.invariant before is in
     let (after, ready, written) = c.in_ok-write_next.ensures.written now context in
     let (ended, same) = subst (λ b. IsNextWritten b config limit (levels_of walk) nexts old new now after) c.if-branch.false written in
-    let (outcome, expands_to, all) = reads_all config limit trees before now after (first_level walk) (outer_of walk) nexts done reading after ended in (
+    let (outcome, expands_to, splices) = reads_all config limit trees before now after (first_level walk) (outer_of walk) nexts done reading after ended in (
       after,
       ready,
       record {
         outcome = outcome;
         expands_to = expands_to;
+        splices = done;
+        are = splices;
         written = new;
-        replaced = subst (λ l. AreReplaced l (begun c.args.source.now) new) all (subst (AreReplaced done (begun c.args.source.now)) (sym same) are);
+        replaced = subst (AreReplaced (replacements_of done) (begun c.args.source.now)) (sym same) are;
         text = c.in_ok-finish.ensures;
       },
     )

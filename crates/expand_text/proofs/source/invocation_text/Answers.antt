@@ -45,6 +45,7 @@ returns-in-Err c before is =
 pub returns-in_ok-write_loosened-in-Ok : goal.returns-in_ok-write_loosened-in-Ok
 returns-in_ok-write_loosened-in-Ok c before is =
     let it = c.args.invocation.now in
+    let one_line = c.args.config.now.one_line in
     let text = c.in_ok-write_loosened-in-Ok.field-0 in
     let begin = c.start_of-begin.result in
     let (after, ready, put) = c.in_ok-fault.ensures.placed before is in
@@ -54,8 +55,8 @@ returns-in_ok-write_loosened-in-Ok c before is =
     let tree : c.in-Ok.tree ≡ tree_of it.delimiter trees = c.in-Ok.ensures.ok ∙ whole in
     let within : IsWithinLimits (tree_of it.delimiter trees) = subst IsWithinLimits tree c.in-Ok.ensures.limits in
     let shown = loosened (place_of it.enclosure it.position) trees in
-    let made : IsTextOf it.delimiter shown begin text =
-    subst (λ f. IsTextOf it.delimiter (loosened (place_of it.enclosure it.position) f) begin text) (ap (λ r. r.children) tree) c.in_ok-write_loosened-in-Ok.ensures in (
+    let made : IsTextOf one_line it.delimiter shown begin text =
+    subst (λ f. IsTextOf one_line it.delimiter (loosened (place_of it.enclosure it.position) f) begin text) (ap (λ r. r.children) tree) c.in_ok-write_loosened-in-Ok.ensures in (
       after,
       ready,
       record {
@@ -63,6 +64,6 @@ returns-in_ok-write_loosened-in-Ok c before is =
         outcome = put.outcome;
         expands_to = put.expands_to;
         behind = put.behind;
-        text = call_text (site_of (trees_of c.args.whole) it) (trees_left put.outcome) shown _ text (trees, so, (within, refl)) (subst (λ n. IsTextOf it.delimiter shown n text) c.start_of-begin.ensures made);
+        text = call_text one_line (site_of (trees_of c.args.whole) it) (trees_left put.outcome) shown _ text (trees, so, (within, refl)) (subst (λ n. IsTextOf one_line it.delimiter shown n text) c.start_of-begin.ensures made);
       },
     )

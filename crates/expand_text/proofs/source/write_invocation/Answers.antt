@@ -11,7 +11,7 @@ pub returns-in_ok-find-in-Faulty : goal.returns-in_ok-find-in-Faulty
 returns-in_ok-find-in-Faulty c before is =
     let it = c.args.invocation.now in
     let (now, context, came) = c.in_ok-text.ensures before is in
-    let kept = subst (IsCallText (site_of (trees_of c.args.whole) it) (trees_left came.outcome) (start_of it.first_span.range)) c.in-Faulty.is came.text in (
+    let kept = subst (IsCallText c.args.config.now.one_line (site_of (trees_of c.args.whole) it) (trees_left came.outcome) (start_of it.first_span.range)) c.in-Faulty.is came.text in (
       with_finding (found_by it c.in-Faulty.at c.in-Faulty.fault) now,
       c.in_ok-find-in-Faulty.ensures.found now context,
       record {

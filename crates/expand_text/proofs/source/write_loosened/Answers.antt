@@ -12,7 +12,7 @@ returns-in_ok-write_tree-in-Ok c =
     let it = c.args.invocation.now in
     let all : Forest = loosened (place_of it.enclosure it.position) c.args.tree.now.children in
     let is : c.in-Ok.shown ≡ tree_of it.delimiter all = search rules in
-    subst (λ f. IsTextOf it.delimiter f c.args.begin c.in_ok-write_tree-in-Ok.field-0) (ap (λ r. r.children) is) c.in_ok-write_tree-in-Ok.ensures
+    subst (λ f. IsTextOf c.args.config.now.one_line it.delimiter f c.args.begin c.in_ok-write_tree-in-Ok.field-0) (ap (λ r. r.children) is) c.in_ok-write_tree-in-Ok.ensures
 
 pub returns-in-Err : goal.returns-in-Err
 returns-in-Err c =

@@ -1,9 +1,7 @@
-use Rattle.std.proofs.Common.{◌≡◌, ◌∷◌, [], ◌-◌, List, true, refl, sym, subst}
-use Rattle.expand_text.specs.declared.next.Event.TheVariants as event
+use Rattle.std.proofs.Common.{true, refl, sym, subst}
 use Rattle.expand_text.specs.Contexts.{config_of}
 use Rattle.expand_text.specs.Events.{IsNext}
-use Rattle.expand_text.specs.Outcomes.{nothing}
-use Rattle.expand_text.specs.Walks.{Level, first_level, outer_of, levels_of, front_in, past_in}
+use Rattle.expand_text.specs.Walks.{first_level, outer_of, levels_of, front_in, past_in}
 use Rattle.expand_text.specs.Writing.{IsWrittenOn}
 use Rattle.syntax_edit.specs.Texts.{writing_of}
 use Rattle.expand_text.proofs.Replacing.{writes_leaf, writes_stay, writes_subtree, writes_end, writes_invocation}

@@ -1,7 +1,7 @@
-use Rattle.std.proofs.Common.{◌≡◌, ◌∙◌, [], true, ap, sym, subst}
+use Rattle.std.proofs.Common.{◌≡◌, ◌∙◌, List, [], true, subst}
 use Rattle.std.specs.Prelude.{string_bytes}
 use Rattle.expand_text.specs.Meaning.{ExpandsTo}
-use Rattle.expand_text.specs.Expansion.{config_by, replacements}
+use Rattle.expand_text.specs.Expansion.{config_by}
 use Rattle.syntax_edit.specs.Places.{text_part}
 use Rattle.expand_text.specs.Contexts.{new_context}
 use Rattle.expand_text.specs.Exports.{AreExported}
@@ -10,11 +10,11 @@ use Rattle.expand_items.specs.declared.position.Siblings.TheVariants.{Items}
 use Rattle.syntax_edit.specs.Texts.{begun, with_all, FitAll}
 use Rattle.expand_text.proofs.Fitting.{comes_fit}
 use Rattle.expand_text.proofs.Replacing.{all_replaced}
-use Rattle.expand_text.proofs.Weaving.{as_texts, text_woven}
-use Rattle.expand_text.specs.Reading.{splices, sorts_left}
+use Rattle.expand_text.proofs.Weaving.{text_woven}
+use Rattle.expand_text.specs.Reading.{AreSplices, sorts_left}
 use Rattle.laws_round_trip.proofs.CallWeaves.{no_fault_woven, read_woven}
 use Rattle.laws_round_trip.specs.Calls.{IsWoven}
-use Rattle.laws_round_trip.specs.Splices.{replacements_of}
+use Rattle.laws_round_trip.specs.Splices.{Splice, replacements_of}
 use Rattle.expand_text.proofs.text.expand_leniently.Goals as goal
 use Rattle.syntax_parse.specs.Parsed.{IsParse}
 use Rattle.syntax_parse.specs.Refusal.{IsFaultOf}
@@ -30,12 +30,12 @@ returns-clause-ok c =
     let (after, ready, source) = c.in_ok-text.ensures (new_context exported) (c.new-context.ensures exported are) in
     let expands_to : ExpandsTo (config_by options) true options.limit (begun_among Items) 0 (new_context exported) tree.children after source.outcome =
     subst (λ s. ExpandsTo s true options.limit (begun_among Items) 0 (new_context exported) tree.children after source.outcome) c.in_ok-config.ensures source.expands_to in
-    let woven : IsWoven [] (spelled tree.children) (splices source.outcome) (sorts_left source.outcome) = text_woven (config_by options) tree.children source.outcome expands_to in
-    let fits : FitAll (replacements source.outcome) (begun text) = comes_fit text_part text tree c.utf8.text read expands_to in
-    let written : string_bytes c.in_ok-text.text ≡ with_all (replacements source.outcome) (begun text) =
-    source.text ∙ all_replaced (replacements source.outcome) (begun text) source.written fits source.replaced in
-    let spliced : string_bytes c.in_ok-text.text ≡ with_all (replacements_of (splices source.outcome)) (begun text) =
-    written ∙ ap (λ rs. with_all rs (begun text)) (sym (as_texts source.outcome)) in
+    let splices : List Splice = source.splices in
+    let are : AreSplices options.one_line source.outcome splices = subst (λ s. AreSplices s.one_line source.outcome splices) c.in_ok-config.ensures source.are in
+    let woven : IsWoven [] (spelled tree.children) splices (sorts_left source.outcome) = text_woven (config_by options) tree.children source.outcome splices expands_to are in
+    let fits : FitAll (replacements_of splices) (begun text) = comes_fit text_part text tree c.utf8.text read expands_to are in
+    let written : string_bytes c.in_ok-text.text ≡ with_all (replacements_of splices) (begun text) =
+    source.text ∙ all_replaced (replacements_of splices) (begun text) source.written fits source.replaced in
     record {
       tree = tree;
       read = read;
@@ -44,11 +44,13 @@ returns-clause-ok c =
       after = after;
       outcome = source.outcome;
       expands_to = expands_to;
+      splices = splices;
+      are = are;
       fits = fits;
       text = written;
       back = record {
-        sound = λ fault found. no_fault_woven text_part text tree (splices source.outcome) (sorts_left source.outcome) fault c.utf8.text read woven (subst (λ u. IsFaultOf u fault) spliced found);
-        reads = λ part again parse. read_woven text_part part text tree again (splices source.outcome) (sorts_left source.outcome) c.utf8.text read woven (subst (λ u. IsParse part u again) spliced parse);
+        sound = λ fault found. no_fault_woven text_part text tree splices (sorts_left source.outcome) fault c.utf8.text read woven (subst (λ u. IsFaultOf u fault) written found);
+        reads = λ part again parse. read_woven text_part part text tree again splices (sorts_left source.outcome) c.utf8.text read woven (subst (λ u. IsParse part u again) written parse);
       };
       findings = ready.findings;
       callers = ready.callers;
