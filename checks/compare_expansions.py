@@ -4,9 +4,9 @@
 PROGRAM is `cuvolemin`. Each file of a crate in a FOLDER, which needs no other crate, is expanded by it, and put back in a copy of
 the crate. What rustc then expands that copy to is compared with what it expands the crate to, token by token, as PROGRAM prints
 tokens. The same is done with N files that are made by chance, each a crate of its own; these are run too, as they are and
-expanded, and what they print is compared. It prints how many files agree, how many do but for parentheses, how many are refused
-or have calls that are left, by the first diagnostic, and each file that differs. No part of the gate: it needs rustc (--rustc gives
-its path).
+expanded, and what they print is compared. With --one-line PROGRAM must write the same tokens. It prints how many files agree, how
+many do but for parentheses, how many are refused or have calls that are left, by the first diagnostic, and each file that differs.
+No part of the gate: it needs rustc (--rustc gives its path).
 """
 import argparse
 import collections
@@ -122,6 +122,8 @@ def compare_file(program, compiler, root, edition, path, theirs):
     status, ours, told = output_of(program, "expand", str(path))
     if status:
         return f"refused: {first_message(told)}", None
+    if tokens_of(program, ours) != tokens_of(program, output_of(program, "expand", "--one-line", str(path))[1]):
+        return "DIFFER: --one-line writes other tokens", None
     if ours == text:
         return (f"nothing expanded: {first_message(told)}" if told else "no call of a macro of its own"), None
     path.write_bytes(ours)

@@ -241,6 +241,7 @@ def try_mistakes(files):
     files.mistake("tree", "a", "b")
     files.mistake("expand", "a", "b")
     files.mistake("check")
+    files.mistake("check", "--one-line", "a")
     files.mistake("pack", "-")
     files.mistake("pack", "-o", "/no/out")
     files.mistake("unpack")

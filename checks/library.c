@@ -84,7 +84,7 @@ static bool expands(const char *arms, const char *input, const char *text) {
 static const char TEXT[] = "fn  first( a :u8 )->u8{a}// last";
 static const char SOURCE[] = "macro_rules! twice { ($x:tt) => { [$x $x] } }\nlet  a = twice!(b); // stays\n";
 static const char EXPANDED[] = "macro_rules! twice { ($x:tt) => { [$x $x] } }\nlet  a = [b b]; // stays\n";
-static const char WRITTEN[] = "fn first (a : u8) -> u8 {a}";
+static const char WRITTEN[] = "fn first(a: u8) -> u8 { a }";
 
 static const char FAULTY[] =
     "macro_rules! m { ($x:ident) => { n!($x) } }\n"
@@ -95,10 +95,10 @@ static const char FAULTY[] =
 static const char LISTED[] =
     "macro_rules! m { ($x:ident) => { n!($x) } }\n"
     "macro_rules! n { (a) => { 1 } }\n"
-    "f(1, n ! (b));\n"
+    "f(1, n!(b));\n"
     "macro_rules! bad { () => {}; ($y) => {} }\n\0n\0bad\0m";
 static const size_t WORDS[] = {
-    133, 2, CUVOLEMIN_NO_MATCH, 88, 57, 0, 0, 134, CUVOLEMIN_BEGINS_NOTHING, 123, SIZE_MAX, SIZE_MAX, 1, 136, 85, SIZE_MAX, 140,
+    131, 2, CUVOLEMIN_NO_MATCH, 88, 57, 0, 0, 132, CUVOLEMIN_BEGINS_NOTHING, 123, SIZE_MAX, SIZE_MAX, 1, 134, 85, SIZE_MAX, 138,
 };
 enum { WORD_COUNT = sizeof WORDS / sizeof *WORDS };
 
@@ -111,11 +111,11 @@ struct listed {
 struct options {
     const char *root, *only, *cfg;
     size_t cfg_len;
-    uint32_t everywhere;
+    uint32_t everywhere, one_line;
     size_t limit, max_tokens;
 };
 
-static const struct options USUAL = {"crate", "", "", 0, 0, 128, 4000000};
+static const struct options USUAL = {"crate", "", "", 0, 0, 0, 128, 4000000};
 
 // What a text expands to with options, in outputs of these sizes.
 static struct listed list(const void *text, size_t len, struct options with, size_t room, size_t word_room) {
@@ -124,8 +124,8 @@ static struct listed list(const void *text, size_t len, struct options with, siz
     memset(listed.words, UNTOUCHED, sizeof listed.words);
     listed.made.answer =
         tt_expand_text_with(text, len, (const uint8_t *)with.root, strlen(with.root), (const uint8_t *)with.only, strlen(with.only),
-                            (const uint8_t *)with.cfg, with.cfg_len, with.everywhere, with.limit, with.max_tokens, listed.made.bytes, room,
-                            &listed.made.written, listed.words, word_room, &listed.found, &listed.made.at);
+                            (const uint8_t *)with.cfg, with.cfg_len, with.everywhere, with.one_line, with.limit, with.max_tokens,
+                            listed.made.bytes, room, &listed.made.written, listed.words, word_room, &listed.found, &listed.made.at);
     return listed;
 }
 
@@ -182,18 +182,20 @@ static bool becomes(const char *text, struct options with, const char *wanted, s
 }
 
 static bool heeds_options(void) {
-    struct options root = USUAL, only = USUAL, everywhere = USUAL, limit = USUAL, max_tokens = USUAL;
+    struct options root = USUAL, only = USUAL, everywhere = USUAL, one_line = USUAL, limit = USUAL, max_tokens = USUAL;
     root.root = "std";
     only.only = "b";
     everywhere.everywhere = 2;
+    one_line.one_line = 3;
     limit.limit = 1;
     max_tokens.max_tokens = 2;
-    return becomes("macro_rules! p { () => { $crate::q } } f(p!());", root, "macro_rules! p { () => { $crate::q } } f(std :: q);", 0) &&
+    return becomes("macro_rules! p { () => { $crate::q } } f(p!());", root, "macro_rules! p { () => { $crate::q } } f(std::q);", 0) &&
+           becomes("macro_rules! p { () => { $crate::q } } f(p!());", one_line, "macro_rules! p { () => { $crate::q } } f(crate :: q);", 0) &&
            becomes("macro_rules! a { () => { 1 } } macro_rules! b { () => { 2 } } f(a!(), b!());", only,
                    "macro_rules! a { () => { 1 } } macro_rules! b { () => { 2 } } f(a!(), 2);", 0) &&
            becomes("macro_rules! a { () => { 1 } } v![a!()];", USUAL, "macro_rules! a { () => { 1 } } v![a!()];", 0) &&
            becomes("macro_rules! a { () => { 1 } } v![a!()];", everywhere, "macro_rules! a { () => { 1 } } v![1];", 0) &&
-           becomes("macro_rules! m { () => { m!() } } f(m!());", limit, "macro_rules! m { () => { m!() } } f(m ! ());", CUVOLEMIN_TOO_DEEP) &&
+           becomes("macro_rules! m { () => { m!() } } f(m!());", limit, "macro_rules! m { () => { m!() } } f(m!());", CUVOLEMIN_TOO_DEEP) &&
            becomes("macro_rules! m { () => { 1 2 3 } } f(m!());", max_tokens, "macro_rules! m { () => { 1 2 3 } } f(m!());",
                    CUVOLEMIN_OVER_MAX_TOKENS);
 }

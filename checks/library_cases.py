@@ -111,7 +111,7 @@ def first_of(made):
 
 
 def alone(text):
-    """The same by the function without options."""
+    """The same of a text by the function without options."""
     try:
         return cuvolemin.expand(text)
     except cuvolemin.Error as error:
@@ -126,7 +126,7 @@ def judged(case):
         return None
     lines = told_lines(told)
     try:
-        made = cuvolemin.expand_with(text, **options)
+        made = cuvolemin.expand_with(text, one_line=True, **options)
     except cuvolemin.Error as error:
         return "" if place(text, error.at) in lines[1:2] else f"{name}: it is refused at byte {error.at}"
     if written is not None and made.text.encode() != written:
@@ -134,6 +134,6 @@ def judged(case):
     found = [line for finding in made.findings for line in lines_of(text, finding, options)]
     if found != lines:
         return f"{name}: the findings say {found}"
-    if not options and first_of(made) != alone(text):
+    if not options and first_of(cuvolemin.expand_with(text)) != alone(text):
         return f"{name}: without options the first fault is {alone(text)}"
     return ""

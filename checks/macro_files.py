@@ -1,7 +1,8 @@
 """The commands `expand` and `check` of `cuvolemin` over files; files.py runs them.
 
-Beside a text of examples/rust with macros is what `expand` must write for it (`.expanded`), and which diagnostics it must report
-(`.messages`). The file small.cases there has one text after the other, each with a name, options, and both.
+Beside a text of examples/rust with macros is what `expand --one-line` must write for it (`.expanded`), and which diagnostics it must report
+(`.messages`). The file small.cases there has one text after the other, each with a name, options, and both. layout.py tries `expand` without
+that option.
 """
 import os
 import pty
@@ -52,10 +53,10 @@ def without_syntax_error(status, written, told):
 
 
 def judge(files, written, told, *words, given=b"", is_file=True):
-    """Refuses a run of `expand` or `check` that does not write and report that; None is a text that has an error."""
+    """Refuses a run of `expand --one-line` or `check` that does not write and report that; None is a text that has an error."""
     options, names = words[:-1], words[-1]
     status = int(written is None)
-    found = files.run("expand", *options, names, given=given)
+    found = files.run("expand", "--one-line", *options, names, given=given)
     wants("what is expanded", found, (status, written or b"", told.encode()))
     found = files.run("check", *(it for it in options if it not in DROPS), names, given=given)
     wants("what is checked", found if is_file else without_syntax_error(*found), (status, b"", told.encode()))

@@ -2,9 +2,9 @@
 """Each request for memory of a run over a file refused in turn: refused_files.py PROGRAM LIBRARY
 
 PROGRAM is `cuvolemin`, and LIBRARY is checks/refuse.c. The first, second, .. request of a run of `expand` is refused, until it
-makes no more of them. Each run ends: either as with ample memory, or with status 1, or 2 while the words of the command line
-are read, nothing written, and a last message that says that memory ran out. A line is printed for each text, `ok NAME` or
-`FAILED NAME: WHY`; the status is 1 if one failed.
+makes no more of them; one text is also tried with `--one-line`. Each run ends: either as with ample memory, or with status 1, or
+2 while the words of the command line are read, nothing written, and a last message that says that memory ran out. A line is
+printed for each text, `ok NAME` or `FAILED NAME: WHY`; the status is 1 if one failed.
 """
 import os
 import pathlib
@@ -15,6 +15,8 @@ import tempfile
 EXAMPLES = pathlib.Path(__file__).resolve().parent.parent / "examples" / "rust"
 # One that is written, one with warnings, one with errors, one with no tree.
 NAMES = ("nested", "squared", "faults", "mismatched")
+# The texts, each with options.
+RUNS = (("nested", ("--one-line",)), *((name, ()) for name in NAMES))
 SECONDS = 60
 # The diagnostics of a run that ran out of memory: the program's, or the system's if it finds no room for the arguments.
 WANTING = (b"out of memory", b"Cannot allocate memory", b"memory allocation failed")
@@ -24,20 +26,21 @@ class Wrong(Exception):
     """What a run did, and should not have."""
 
 
-def run(program, name, **environment):
+def run(program, name, options, **environment):
     """The status of a run, what it wrote, and its diagnostics."""
     done = subprocess.run(
-        [program, "expand", str(EXAMPLES / f"{name}.rs")],
+        [program, "expand", *options, str(EXAMPLES / f"{name}.rs")],
         stdin=subprocess.DEVNULL, capture_output=True, timeout=SECONDS, check=False, env={**os.environ, **environment},
     )
     return done.returncode, done.stdout, done.stderr
 
 
-def expected(name):
+def expected(name, options):
     """What a run over an example has to be with enough memory: what the files beside it have."""
     path = EXAMPLES / f"{name}.rs"
     is_right = path.with_suffix(".expanded").exists()
-    written = path.with_suffix(".expanded").read_bytes() if is_right else b""
+    ending = ".out" if path.with_suffix(".out").exists() and not options else ".expanded"
+    written = path.with_suffix(ending).read_bytes() if is_right else b""
     told = path.with_suffix(".messages").read_bytes() if path.with_suffix(".messages").exists() else b""
     return int(not is_right), written, told.replace(b"FILE", str(path).encode())
 
@@ -50,14 +53,14 @@ def is_refused_well(ended, ample):
     return status in (1, 2) and written == b"" and any(words in told for words in WANTING)
 
 
-def try_each(program, library, name):
+def try_each(program, library, name, options):
     """Has each request refused in turn, and finds a run that does not end well."""
-    ample = expected(name)
+    ample = expected(name, options)
     with tempfile.TemporaryDirectory() as room:
         refused = pathlib.Path(room) / "refused"
         named = False
         for nth in range(1, sys.maxsize):
-            ended = run(program, name, REFUSE=str(nth), REFUSED=str(refused), LD_PRELOAD=library)
+            ended = run(program, name, options, REFUSE=str(nth), REFUSED=str(refused), LD_PRELOAD=library)
             if not refused.exists():
                 break
             refused.unlink()
@@ -73,13 +76,14 @@ def try_each(program, library, name):
 def main():
     """Tries all, and says of each how it went."""
     failed = False
-    for name in NAMES:
+    for name, options in RUNS:
+        trial = " ".join((f"memory refused over {name}.rs", *options))
         try:
-            try_each(*sys.argv[1:], name)
-            print(f"ok memory refused over {name}.rs", flush=True)
+            try_each(*sys.argv[1:], name, options)
+            print(f"ok {trial}", flush=True)
         except (Wrong, OSError, subprocess.TimeoutExpired) as why:
             failed = True
-            print(f"FAILED memory refused over {name}.rs: {why}", flush=True)
+            print(f"FAILED {trial}: {why}", flush=True)
     return int(failed)
 
 

@@ -17,7 +17,7 @@ static void *expand(void *unused) {
     static size_t findings[1 << 10];
     size_t written, found, at;
     (void)unused;
-    answer = tt_expand_text_with((const uint8_t *)text, strlen(text), (const uint8_t *)"crate", 5, out, 0, out, 0, 0, 1000, 4000000, out,
+    answer = tt_expand_text_with((const uint8_t *)text, strlen(text), (const uint8_t *)"crate", 5, out, 0, out, 0, 0, 0, 1000, 4000000, out,
                                  sizeof out, &written, findings, sizeof findings / sizeof *findings, &found, &at);
     if (answer == 0 && findings[1] != 0) {
         answer = (uint32_t)findings[2];

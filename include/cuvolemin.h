@@ -24,7 +24,7 @@ extern "C" {
  * Faults: 1 to 44. *at is a byte of the text; 0 for faults 1, 2 and 4 to 9. */
 uint32_t tt_text_to_bytes(const uint8_t *text, size_t text_len, uint8_t *out, size_t out_len, size_t *written, size_t *at);
 
-/* The Rust text of the tree that has these bytes. Read again, it gives the same tokens.
+/* The Rust text of the tree that has these bytes, on one line, with the spaces of rustfmt. Read again, it gives the same tokens.
  * Faults: 1, 2, 60 to 64, with a byte of the input in *at; 105, with the number of tokens before the leaf in *at; 106. */
 uint32_t tt_bytes_to_text(const uint8_t *bytes, size_t bytes_len, uint8_t *out, size_t out_len, size_t *written, size_t *at);
 
@@ -69,7 +69,8 @@ struct cuvolemin_token {
     size_t context;
 };
 
-/* A Rust text with the calls of its own macros expanded. All else stays byte for byte. Up to 128 expansions may be nested, and
+/* A Rust text with the calls of its own macros expanded. All else stays byte for byte. What a call becomes is laid out like the template and
+ * the input that it comes from, with the indentation of the call. Up to 128 expansions may be nested, and
  * a call with all that comes of it may write 4,000,000 tokens; 64 KiB of stack were enough when measured. $crate becomes crate. A call
  * under #[cfg(..)] stays only if the condition cannot apply to each part of its expansion. A call of a macro whose last definition is under
  * #[cfg(..)] stays if another definition of the name is in scope.
@@ -82,6 +83,7 @@ uint32_t tt_expand_text(const uint8_t *text, size_t text_len, uint8_t *out, size
  *   only        the name, without r#, of the only macros that are read and expanded; all are if only_len is 0
  *   cfg         what is true in #[cfg(..)], each with a 0 behind it: NAME or NAME="VALUE". All else is open
  *   everywhere  not 0: calls in the brackets of calls that stay are expanded too
+ *   one_line    not 0: what a call becomes is one line, with a space between all tokens
  *   limit       how many expansions may be nested (128 are usual)
  *   max_tokens  how many tokens a call with all that comes of it may write (4,000,000 are usual)
  * out gets the text and then the names that the words speak of, each of them with a 0 behind it. findings has room for findings_len words
@@ -90,8 +92,8 @@ uint32_t tt_expand_text(const uint8_t *text, size_t text_len, uint8_t *out, size
  * Faults: 1; 2; 3 of the text, of root, of only or of cfg, in this order, with a byte of that in *at; 50, with the number of conditions in cfg
  * before the wrong one; 4 to 44, with a byte of the text. *at is 0 for faults 1, 2 and 4 to 9. */
 uint32_t tt_expand_text_with(const uint8_t *text, size_t text_len, const uint8_t *root, size_t root_len, const uint8_t *only, size_t only_len,
-                             const uint8_t *cfg, size_t cfg_len, uint32_t everywhere, size_t limit, size_t max_tokens, uint8_t *out,
-                             size_t out_len, size_t *written, size_t *findings, size_t findings_len, size_t *found, size_t *at);
+                             const uint8_t *cfg, size_t cfg_len, uint32_t everywhere, uint32_t one_line, size_t limit, size_t max_tokens,
+                             uint8_t *out, size_t out_len, size_t *written, size_t *findings, size_t findings_len, size_t *found, size_t *at);
 
 /* The words of a finding, which may be read as this struct. A number that is missing is SIZE_MAX. */
 struct cuvolemin_finding {

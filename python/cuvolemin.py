@@ -127,7 +127,7 @@ def _library():
         "tt_bytes_to_text": slice_in + makes,
         "tt_bytes_to_tokens": slice_in + makes[:3] + makes,
         "tt_expand_text": slice_in + makes,
-        "tt_expand_text_with": slice_in * 4 + [ctypes.c_uint32] + [ctypes.c_size_t] * 2 + makes[:3] + makes,
+        "tt_expand_text_with": slice_in * 4 + [ctypes.c_uint32] * 2 + [ctypes.c_size_t] * 2 + makes[:3] + makes,
         "tt_expand_bytes": slice_in + slice_in + makes,
         "tt_check_bytes": slice_in + [number_out],
     }.items():
@@ -208,7 +208,7 @@ class Tree:
         return hash(self._bytes)
 
     def to_text(self):
-        """Its Rust text. Error if a leaf cannot be written so that it reads back."""
+        """Its Rust text, on one line, with the spaces of rustfmt. Error if a leaf cannot be written so that it reads back."""
         return _made(_LIBRARY.tt_bytes_to_text, 2 * len(self._bytes), self._bytes).decode()
 
     def tokens(self):
@@ -320,16 +320,18 @@ def _ended(cfg):
     return b"".join(ended)
 
 
-def expand_with(text, *, root="crate", only=None, cfg=(), everywhere=False, limit=128, max_tokens=4_000_000):
+def expand_with(text, *, root="crate", only=None, cfg=(), everywhere=False, one_line=False, limit=128, max_tokens=4_000_000):
     """The Rust text with the calls of its macros expanded, and all that is found. A definition or a call with a fault stays.
 
     root is the word that $crate becomes. only is the name, without r#, of the only macros that are read and expanded. cfg lists what is true in
     #[cfg(..)], each NAME or NAME="VALUE" as rustc's --cfg takes it, without escapes; all else is open. With everywhere, calls in the brackets of
-    calls that stay are expanded too. At most limit expansions may be nested, and a call with all that comes of it may write at
-    most max_tokens tokens."""
+    calls that stay are expanded too. What a call becomes is laid out like the template and the input that it comes from; with one_line it is one
+    line, with a space between all tokens. At most limit expansions may be nested, and a call with all that comes of it may write at most
+    max_tokens tokens."""
     data, root, only, cfg = _bytes_of(text), _bytes_of(root), _bytes_of(only or ""), _ended(cfg)
     for size in (limit, max_tokens):
         if not 0 <= size <= MISSING:
             raise ValueError(f"{size} is no limit")
     arguments = [word for part in (data, root, only, cfg) for word in (part, len(part))]
-    return _expansion(*_made_both(_LIBRARY.tt_expand_text_with, 64 + 2 * len(data), 64, *arguments, bool(everywhere), limit, max_tokens))
+    arguments += [bool(everywhere), bool(one_line), limit, max_tokens]
+    return _expansion(*_made_both(_LIBRARY.tt_expand_text_with, 64 + 2 * len(data), 64, *arguments))

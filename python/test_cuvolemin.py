@@ -18,7 +18,7 @@ class Cuvolemin(unittest.TestCase):
         self.assertEqual((told.exception.name, told.exception.at), (name, at))
 
     def test_a_text_is_read_and_written(self):
-        self.assertEqual(parse("fn  first( a :u8 )->u8{a}// last").to_text(), "fn first (a : u8) -> u8 {a}")
+        self.assertEqual(parse("fn  first( a :u8 )->u8{a}// last").to_text(), "fn first(a: u8) -> u8 { a }")
         self.assertEqual(parse("").to_text(), "")
 
     def test_equal_trees_are_equal_bytes(self):
@@ -43,14 +43,14 @@ class Cuvolemin(unittest.TestCase):
     def test_a_macro_expands_an_input(self):
         arms = parse("($a:ident + $b:ident) => { $b - $a }; ($($x:tt),*) => { [$($x)*] }")
         self.assertEqual(arms.expand(parse("p + q")).to_text(), "q - p")
-        self.assertEqual(arms.expand(parse("1, (2), c")).to_text(), "[1 (2) c]")
+        self.assertEqual(arms.expand(parse("1, (2), c")).to_text(), "[1(2) c]")
         self.is_fault("NoMatch", 1, arms.expand, parse("1 2"))
         self.is_fault("BeginsNothing", 1, parse("(a) => {}; ($x) => {}").expand, parse("a"))
         self.is_fault("Ambiguous", 1, parse("(a) => {}; ($(b)? $(b)?) => {}").expand, parse("b"))
 
     def test_calls_in_a_text_are_expanded(self):
         text = PAIRS + "let  all = pairs!(a, b); // stays\n"
-        self.assertEqual(expand(text), PAIRS + "let  all = [(a , a) , (b , b)]; // stays\n")
+        self.assertEqual(expand(text), PAIRS + "let  all = [(a, a), (b, b)]; // stays\n")
         self.is_fault("NoMatch", len(PAIRS) + 10, expand, PAIRS + "pairs!(a, 1);")
         self.is_fault("NotUtf8", 1, expand, b"a\xff")
 
@@ -58,7 +58,7 @@ class Cuvolemin(unittest.TestCase):
         # m begins at byte 13, n at 57, the calls at 78 and 85, and the b of the second at 88
         rules = "macro_rules! m { ($x:ident) => { n!($x) } }\nmacro_rules! n { (a) => { 1 } }\n"
         made = expand_with(rules + "f(m!(a), m!(b));\n")
-        self.assertEqual(made.text, rules + "f(1, n ! (b));\n")
+        self.assertEqual(made.text, rules + "f(1, n!(b));\n")
         self.assertEqual(made.findings, [(100, "n", 88, 57, 0, [("m", 85)])])
         finding = made.findings[0]
         self.assertEqual((finding.name, finding.message), ("NoMatch", "No arm matches the input."))
@@ -89,13 +89,21 @@ class Cuvolemin(unittest.TestCase):
     def test_options_are_heeded(self):
         two = "macro_rules! a { () => { $crate::x } } macro_rules! b { () => { a!() } } "
         text = two + "f(a!(), b!()); v![a!()];"
-        self.assertEqual(expand_with(text, root="std").text, two + "f(std :: x, std :: x); v![a!()];")
-        self.assertEqual(expand_with(text, only="b").text, two + "f(a!(), a ! ()); v![a!()];")
-        self.assertEqual(expand_with(text, everywhere=True).text, two + "f(crate :: x, crate :: x); v![crate :: x];")
+        self.assertEqual(expand_with(text, root="std").text, two + "f(std::x, std::x); v![a!()];")
+        self.assertEqual(expand_with(text, only="b").text, two + "f(a!(), a!()); v![a!()];")
+        self.assertEqual(expand_with(text, everywhere=True).text, two + "f(crate::x, crate::x); v![crate::x];")
+        self.assertEqual(expand_with(text, one_line=True).text, two + "f(crate :: x, crate :: x); v![a!()];")
         deep = expand_with(text, limit=1).findings
         self.assertEqual([(it.name, it.at, it.trail) for it in deep], [("TooDeep", 64, [("b", 81)])])
         long = expand_with(text, max_tokens=3).findings
         self.assertEqual([(it.name, it.at) for it in long], [("OverMaxTokens", 75), ("OverMaxTokens", 64)])
+
+    def test_an_expansion_is_laid_out(self):
+        rules = "macro_rules! all { ($($x:ident),*) => {\n    [\n        $(Some($x)),* // each\n    ]\n} }\n"
+        text = rules + "fn f() {\n    g(all!(a, b))\n}\n"
+        self.assertEqual(expand(text), rules + "fn f() {\n    g([\n        Some(a),\n        Some(b) // each\n    ])\n}\n")
+        self.assertEqual(expand_with(text).text, expand(text))
+        self.assertEqual(expand_with(text, one_line=True).text, rules + "fn f() {\n    g([Some (a) , Some (b)])\n}\n")
 
     def test_conditions_are_known(self):
         text = '#[cfg(all(b, k = "v"))] macro_rules! m(() => {1}); #[cfg(not(b))] macro_rules! m(() => {2}); f(m!());'

@@ -13,6 +13,9 @@ pub struct ExpandOptions<'a> {
     pub cfg: &'a [&'a str],
     /// Whether calls in the brackets of calls that stay are expanded too.
     pub everywhere: bool,
+    /// Whether what a call becomes is written on one line, with a space between all tokens. Else it is laid out like the template and the
+    /// input that it comes from, with the indentation of the call.
+    pub one_line: bool,
     /// How many expansions may be nested. The stack that a call needs does not grow with it: 64 KiB were enough for 1,000.
     pub limit: usize,
     /// How many tokens a call with all that comes of it may write.
@@ -20,13 +23,15 @@ pub struct ExpandOptions<'a> {
 }
 
 impl Default for ExpandOptions<'_> {
-    /// All macros, at most 128 nested expansions, and 4,000,000 tokens for a call; `$crate` becomes `crate`, and all conditions are open.
+    /// All macros, at most 128 nested expansions, and 4,000,000 tokens for a call; `$crate` becomes `crate`, all conditions are open, and what a
+    /// call becomes is laid out.
     fn default() -> Self {
         ExpandOptions {
             root: "crate",
             only: None,
             cfg: &[],
             everywhere: false,
+            one_line: false,
             limit: 128,
             max_tokens: 4_000_000,
         }
@@ -94,6 +99,7 @@ pub fn expand_with(text: &str, options: &ExpandOptions<'_>) -> Result<Expansion,
                 cfg.as_ptr(),
                 cfg.len(),
                 options.everywhere.into(),
+                options.one_line.into(),
                 options.limit,
                 options.max_tokens,
                 out.as_mut_ptr(),

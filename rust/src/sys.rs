@@ -50,6 +50,7 @@ unsafe extern "C" {
         cfg: *const u8,
         cfg_len: usize,
         everywhere: u32,
+        one_line: u32,
         limit: usize,
         max_tokens: usize,
         out: *mut u8,

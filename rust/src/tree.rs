@@ -46,7 +46,7 @@ impl Tree {
         self.bytes
     }
 
-    /// Its Rust text, which reads back. An error has the number of tokens before the leaf that cannot be written.
+    /// Its Rust text, on one line, with the spaces of rustfmt; it reads back. An error has the number of tokens before the leaf that cannot be written.
     pub fn to_text(&self) -> Result<String, Error> {
         let bytes = self.as_bytes();
         let text = made(2 * bytes.len(), |out, written, at| {

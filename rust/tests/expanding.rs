@@ -31,7 +31,7 @@ fn a_text_is_expanded_beside_its_findings() {
         text,
         "macro_rules! m { ($x:ident) => { n!($x) } }\n\
          macro_rules! n { (a) => { 1 } }\n\
-         f(1, n ! (b));\n"
+         f(1, n!(b));\n"
     );
     assert_eq!(
         findings,
@@ -102,7 +102,7 @@ fn options_are_heeded() {
     };
     assert_eq!(
         made("macro_rules! p { () => { $crate::q } } f(p!());", root),
-        "macro_rules! p { () => { $crate::q } } f(std :: q);"
+        "macro_rules! p { () => { $crate::q } } f(std::q);"
     );
     let only = ExpandOptions {
         only: Some("b"),
@@ -125,6 +125,44 @@ fn options_are_heeded() {
     assert_eq!(
         made(&format!("{one} v![a!()];"), everywhere),
         format!("{one} v![1];")
+    );
+}
+
+#[test]
+fn an_expansion_is_laid_out_like_its_template() {
+    let rules = "macro_rules! text {\n    \
+                     ($($name:ident),*) => {\n        \
+                         fn text(level: Level) -> &'static str {\n            \
+                             match level {\n                \
+                                 $(Level::$name => stringify!($name),)* // all of them\n            \
+                             }\n        \
+                         }\n    \
+                     };\n\
+                 }\n";
+    let source = format!("{rules}\nmod levels {{\n    text!(Low, High);\n}}\n");
+    assert_eq!(
+        made(&source, ExpandOptions::default()),
+        format!(
+            "{rules}\nmod levels {{\n    \
+                 fn text(level: Level) -> &'static str {{\n        \
+                     match level {{\n            \
+                         Level::Low => stringify!(Low),\n            \
+                         Level::High => stringify!(High), // all of them\n        \
+                     }}\n    \
+                 }}\n\
+             }}\n"
+        )
+    );
+    let one_line = ExpandOptions {
+        one_line: true,
+        ..ExpandOptions::default()
+    };
+    assert_eq!(
+        made(&source, one_line),
+        format!(
+            "{rules}\nmod levels {{\n    fn text (level : Level) -> &'static str \
+             {{match level {{Level :: Low => stringify ! (Low) , Level :: High => stringify ! (High) ,}}}}\n}}\n"
+        )
     );
 }
 
@@ -163,7 +201,7 @@ fn limits_have_their_findings_with_the_calls_around() {
         ..ExpandOptions::default()
     };
     let Expansion { text, findings } = expand_with(endless, &limit).unwrap();
-    assert_eq!(text, "macro_rules! m { () => { m!() } } f(m ! ());");
+    assert_eq!(text, endless, "the last call is laid out like the first");
     assert_eq!(findings.len(), 1);
     assert_eq!((findings[0].fault, findings[0].at), (Fault::TooDeep, 25));
     assert_eq!(

@@ -10,7 +10,7 @@ fn fault_of(text: &str) -> Error {
 #[test]
 fn a_text_is_read_and_written() {
     let tree = parse("fn  first( a :u8 )->u8{a}// last").unwrap();
-    assert_eq!(tree.to_text().unwrap(), "fn first (a : u8) -> u8 {a}");
+    assert_eq!(tree.to_text().unwrap(), "fn first(a: u8) -> u8 { a }");
 }
 
 #[test]
@@ -19,7 +19,7 @@ fn what_is_written_is_read_as_it_was() {
         .unwrap()
         .to_text()
         .unwrap();
-    assert_eq!(written, "x += 1 ; 'a : loop {break 'a}");
+    assert_eq!(written, "x += 1; 'a: loop { break 'a }");
     assert_eq!(parse(&written).unwrap().to_text().unwrap(), written);
 }
 
@@ -127,7 +127,7 @@ fn a_macro_expands_an_input() {
             .map(|tree| tree.to_text().unwrap())
     };
     assert_eq!(made("p + q").unwrap(), "q - p");
-    assert_eq!(made("1, (2), c").unwrap(), "[1 (2) c]");
+    assert_eq!(made("1, (2), c").unwrap(), "[1(2) c]");
     assert_eq!(
         made("1 2"),
         Err(Error {
@@ -170,7 +170,7 @@ fn calls_in_a_text_are_expanded() {
     let text = format!("{PAIRS}let  all = pairs!(a, b); // stays\n");
     assert_eq!(
         expand(&text).unwrap(),
-        format!("{PAIRS}let  all = [(a , a) , (b , b)]; // stays\n")
+        format!("{PAIRS}let  all = [(a, a), (b, b)]; // stays\n")
     );
     assert_eq!(expand("other!(a)").unwrap(), "other!(a)");
 }

@@ -9,8 +9,8 @@ use Rattle.expand_text.specs.declared.fault.ExpandTextError.{ExpandTextError}
 use Rattle.expand_text.specs.declared.options.ExpandOptions.{ExpandOptions}
 use Rattle.expand_text.specs.declared.text.Expanded.{Expanded}
 
--- all macros are expanded, at most 128 nested and with 4,000,000 tokens for a call, and no condition is known; `$crate` becomes `crate`, and
--- other calls stay as they are
+-- all macros are expanded, at most 128 nested and with 4,000,000 tokens for a call, and no condition is known; `$crate` becomes `crate`,
+-- other calls stay as they are, and expansions are laid out
 pub record IsUsual (options : ExpandOptions) : Type 0 where
   pub cfg : known_of options.cfg.now ≡ unknown
   pub limit : options.limit ≡ 128
@@ -18,6 +18,7 @@ pub record IsUsual (options : ExpandOptions) : Type 0 where
   pub root : options.root.now ≡ codes "crate"
   pub others : options.everywhere ≡ false
   pub all : options.only ≡ None
+  pub laid_out : options.one_line ≡ false
 
 -- the text is that of an expansion without faults
 pub record IsTextIn (options : ExpandOptions) (source text : List ℕ) : Type 0 where

@@ -28,6 +28,7 @@ pub record AreAsked (asked : Asked) (options : ExpandOptions) : Type 0 where
   pub max_tokens : options.max_tokens ≡ asked.max_tokens
   pub root : options.root.now ≡ asked.root.now
   pub everywhere : options.everywhere ≡ nat_lt 0 asked.everywhere
+  pub one_line : options.one_line ≡ nat_lt 0 asked.one_line
   pub only : option_map (λ name. name.now) options.only ≡ only_of asked.only.now
 
 -- a number, or the largest word if there is none

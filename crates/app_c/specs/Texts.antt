@@ -9,11 +9,11 @@ use Rattle.app_c.specs.Bytes.{AreOfNoTree}
 use Rattle.app_c.specs.Failures.{at_place, limit_fault, placeless, text_failure, write_failure}
 use Rattle.app_c.specs.declared.failure.Failure.{Failure}
 use Rattle.app_c.specs.declared.fault.Fault.TheVariants.{NotUtf8}
+use Rattle.laws_round_trip.specs.Splices.{IsSpelling}
+use Rattle.syntax_layout.specs.Spaces.{IsSpacedText}
 use Rattle.syntax_parse.specs.Parsed.{IsParse}
 use Rattle.syntax_parse.specs.Refusal.{IsRefusal}
 use Rattle.syntax_parse.specs.declared.fault.TextFault.{TextFault}
-use Rattle.syntax_unparse.specs.Settled.{ReadsBack}
-use Rattle.syntax_unparse.specs.Text.{text_of}
 use Rattle.syntax_unparse.specs.Writable.{IsWritable, IsWriteFault}
 use Rattle.syntax_unparse.specs.declared.fault.WriteFault.{WriteFault}
 
@@ -47,11 +47,11 @@ AreBytesOfText text bytes = (root : Root) × IsTreeOf text root × AreBytesOf ro
 abbrev pub HasNone : (text : List ℕ) → Failure → Type 0
 HasNone text failure = HasNoTree text failure ⊎ ((root : Root) × IsTreeOf text root × HasNoBytes root failure)
 
--- the Rust text of a tree whose leaves can all be written, and which reads back
+-- the Rust text of a tree whose leaves can all be written, spaced as by rustfmt within a line; it reads back as the tree
 pub record IsTextOf (root : Root) (text : List ℕ) : Type 0 where
   pub writable : IsWritable root.children
-  pub is : text ≡ text_of root.children
-  pub back : ReadsBack root.children text
+  pub is : IsSpacedText root.children text
+  pub spells : IsSpelling root.children text
 
 -- a tree has no text, with the reason
 abbrev pub HasNoText : Root → Failure → Type 0

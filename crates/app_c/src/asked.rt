@@ -11,6 +11,8 @@ pub(crate) struct Asked<'a> {
     pub(crate) cfg: &'a [u8],
     /// Whether the walk enters calls that are not expanded: 0 for no.
     pub(crate) everywhere: u32,
+    /// Whether what a call becomes is written on one line: 0 for no.
+    pub(crate) one_line: u32,
     /// The limit of nested expansions.
     pub(crate) limit: usize,
     /// The limit of the tokens that arms write for one call of the text.

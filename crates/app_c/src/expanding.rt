@@ -61,6 +61,7 @@ fn options_of<'a>(
         root,
         everywhere: asked.everywhere > 0,
         only: only_of(only),
+        one_line: asked.one_line > 0,
     }
 }
 

@@ -52,7 +52,7 @@ pub extern "C" fn tt_text_to_bytes(
     }
 }
 
-/// Writes the Rust text of the tree that has these bytes.
+/// Writes the Rust text of the tree that has these bytes, spaced as by rustfmt within a line.
 #[unsafe(no_mangle)]
 pub extern "C" fn tt_bytes_to_text(
     alloc: Global,
@@ -118,6 +118,7 @@ pub extern "C" fn tt_expand_text_with(
     only: &[u8],
     cfg: &[u8],
     everywhere: u32,
+    one_line: u32,
     limit: usize,
     max_tokens: usize,
     out: &mut [u8],
@@ -126,7 +127,7 @@ pub extern "C" fn tt_expand_text_with(
     found: &mut usize,
     at: &mut usize,
 ) -> u32
-    ensures { let asked : Asked = record { root = root.entry; only = only.entry; cfg = cfg.entry; everywhere = everywhere; limit = limit; max_tokens = max_tokens } in
+    ensures { let asked : Asked = record { root = root.entry; only = only.entry; cfg = cfg.entry; everywhere = everywhere; one_line = one_line; limit = limit; max_tokens = max_tokens } in
         AnswersBoth (IsListed text.now asked) (IsNotListed text.now asked) out.old out.new findings.old findings.new written.new found.new at.new result }
 {
     let asked = Asked {
@@ -134,6 +135,7 @@ pub extern "C" fn tt_expand_text_with(
         only,
         cfg,
         everywhere,
+        one_line,
         limit,
         max_tokens,
     };

@@ -6,8 +6,8 @@ use crate::bytes::{bytes_of_tree, tree_of_bytes};
 use crate::failure::{Failure, text_failure, write_failure};
 use crate::fault::Fault;
 use std::alloc::Global;
+use syntax_layout::rust_text_spaced;
 use syntax_parse::parse_to_token_tree;
-use syntax_unparse::rust_text;
 use tt::{ErasedFileAstId, FileId, SpanAnchor, SyntaxContext, TopSubtree};
 
 /// Returns the text of these bytes.
@@ -49,12 +49,12 @@ pub(crate) fn bytes_of_text(alloc: Global, text: &[u8]) -> Result<Vec<u8>, Failu
     bytes_of_tree(alloc, &tree)
 }
 
-// Returns the text of a tree.
+// Returns the text of a tree, spaced as by rustfmt within a line.
 fn text_of_tree(alloc: Global, tree: &TopSubtree) -> Result<String, Failure>
     ensures ok { IfOk result (λ text. IsTextOf tree.now (string_bytes text)) }
     ensures err { IfErr result (HasNoText tree.now) }
 {
-    match rust_text(alloc, tree.token_trees()) {
+    match rust_text_spaced(alloc, tree.token_trees()) {
         Ok(text) => Ok(text),
         Err(fault) => Err(write_failure(fault)),
     }

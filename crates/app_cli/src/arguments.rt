@@ -22,6 +22,8 @@ const CFG: &str = "cfg";
 
 const CFG_FROM: &str = "cfg-from";
 
+const ONE_LINE: &str = "one-line";
+
 const DROP_RULES: &str = "drop-rules";
 
 const DROP_EXPORTED: &str = "drop-exported";
@@ -132,8 +134,13 @@ fn expand<'a>(alloc: Global) -> Result<Command<'a>, AllocError> {
         .action(ArgAction::SetTrue)
         .requires_arg(DROP_RULES)?
         .help("Leaves out also those under #[macro_export], which other crates may use");
+    let one_line = Arg::new(alloc, ONE_LINE)
+        .long(ONE_LINE)
+        .action(ArgAction::SetTrue)
+        .help("Writes what a call becomes on one line, with a space between all tokens");
     let about = "Writes the text in which calls of its own macros are expanded";
     expands(alloc, "expand", about, file(alloc))?
+        .arg(one_line)?
         .arg(drops)?
         .arg(drops_exported)
 }
@@ -211,6 +218,11 @@ pub fn files_of<'m, 'a>(matches: &'m ArgMatches<'a>) -> Option<&'m [&'a str]> {
 /// Returns whether the walk enters calls that are not expanded.
 pub fn is_everywhere(matches: &ArgMatches<'_>) -> bool {
     matches.get_flag(EVERYWHERE)
+}
+
+/// Returns whether what a call becomes is written on one line. A command without that option says no.
+pub fn is_one_line(matches: &ArgMatches<'_>) -> bool {
+    matches.get_flag(ONE_LINE)
 }
 
 /// Returns which definitions are left out.

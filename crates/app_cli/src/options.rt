@@ -1,5 +1,7 @@
 //! The options of macro expansion.
-use crate::arguments::{MOST_LIMIT, is_everywhere, limit_of, max_tokens_of, only_of, root_of};
+use crate::arguments::{
+    MOST_LIMIT, is_everywhere, is_one_line, limit_of, max_tokens_of, only_of, root_of,
+};
 use crate::failure::Failure;
 use crate::recursion_limit::recursion_limit;
 use clap::ArgMatches;
@@ -19,6 +21,7 @@ pub struct Options<'a> {
     pub everywhere: bool,
     /// The only name whose macros are expanded, if one is given.
     pub only: Option<&'a str>,
+    one_line: bool,
 }
 
 // Returns the limit of nested expansions that a text sets, as far as it is allowed, or else the usual one.
@@ -67,7 +70,16 @@ impl<'a> Options<'a> {
             root,
             everywhere: is_everywhere(matches),
             only: only(rt, matches)?,
+            one_line: is_one_line(matches),
         })
+    }
+
+    /// Returns the options with which what a call becomes is not laid out.
+    pub fn on_one_line(self) -> Options<'a> {
+        Options {
+            one_line: true,
+            ..self
+        }
     }
 
     /// Returns the options for a text: if no limit is given, the one that the text sets counts.
@@ -82,6 +94,7 @@ impl<'a> Options<'a> {
             root: self.root,
             everywhere: self.everywhere,
             only: self.only,
+            one_line: self.one_line,
         }
     }
 }

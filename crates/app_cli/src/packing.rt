@@ -5,7 +5,7 @@ use crate::tree_lines::tree_of;
 use crate::whole_file::{is_same_file, write_whole};
 use std::fmt::Display;
 use std::io::Write;
-use syntax_unparse::rust_text;
+use syntax_layout::rust_text_spaced;
 use tt_bytes::{from_bytes, to_bytes};
 
 // Returns the failure about a file, in one line.
@@ -39,7 +39,7 @@ pub fn pack(rt: &HostRuntime, input: Input<'_>, out: &str) -> Result<(), Failure
     }
 }
 
-/// Writes the tree of a piece of bytes as Rust text, and a line feed behind it if the text is not empty.
+/// Writes the tree of a piece of bytes as Rust text in one line, spaced as by rustfmt, and a line feed behind it if the text is not empty.
 pub fn unpack(rt: &HostRuntime, input: Input<'_>) -> Result<(), Failure> {
     let alloc = rt.alloc();
     let bytes = input.bytes(rt)?;
@@ -47,7 +47,7 @@ pub fn unpack(rt: &HostRuntime, input: Input<'_>) -> Result<(), Failure> {
         Ok(tree) => tree,
         Err(fault) => return Err(of_file(rt, input.name(), fault)),
     };
-    let mut text = match rust_text(alloc, tree.token_trees()) {
+    let mut text = match rust_text_spaced(alloc, tree.token_trees()) {
         Ok(text) => text,
         Err(fault) => return Err(of_file(rt, input.name(), fault)),
     };

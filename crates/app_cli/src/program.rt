@@ -47,7 +47,9 @@ fn run_command(rt: &HostRuntime, matches: &ArgMatches<'_>) -> Result<ExitCode, F
         "check" => match files_of(given) {
             Some(names) => {
                 let cfg = cfg_options_of(rt, given)?;
-                check(rt, names, Options::of(rt, given, &cfg)?)
+                let options = Options::of(rt, given, &cfg)?;
+                // what calls become is not shown, so it needs no layout
+                check(rt, names, options.on_one_line())
             }
             None => Ok(ExitCode::SUCCESS),
         },

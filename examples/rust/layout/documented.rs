@@ -1,0 +1,13 @@
+// Comments that document something are attributes.
+macro_rules! made {
+    ($name:ident) => {
+        /// The first line.
+        /// The second.
+        pub fn $name() {} /// Of the next.
+        pub fn next() {}
+    };
+}
+
+mod inner {
+    made!(f);
+}
