@@ -83,7 +83,7 @@ uint32_t tt_expand_text(const uint8_t *text, size_t text_len, uint8_t *out, size
  *   only        the name, without r#, of the only macros that are read and expanded; all are if only_len is 0
  *   cfg         what is true in #[cfg(..)], each with a 0 behind it: NAME or NAME="VALUE". All else is open
  *   everywhere  not 0: calls in the brackets of calls that stay are expanded too
- *   one_line    not 0: what a call becomes is one line, with a space between all tokens
+ *   one_line    not 0: what a call becomes is one line, with spaces between most tokens
  *   limit       how many expansions may be nested (128 are usual)
  *   max_tokens  how many tokens a call with all that comes of it may write (4,000,000 are usual)
  * out gets the text and then the names that the words speak of, each of them with a 0 behind it. findings has room for findings_len words

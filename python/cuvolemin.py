@@ -326,7 +326,7 @@ def expand_with(text, *, root="crate", only=None, cfg=(), everywhere=False, one_
     root is the word that $crate becomes. only is the name, without r#, of the only macros that are read and expanded. cfg lists what is true in
     #[cfg(..)], each NAME or NAME="VALUE" as rustc's --cfg takes it, without escapes; all else is open. With everywhere, calls in the brackets of
     calls that stay are expanded too. What a call becomes is laid out like the template and the input that it comes from; with one_line it is one
-    line, with a space between all tokens. At most limit expansions may be nested, and a call with all that comes of it may write at most
+    line, with spaces between most tokens. At most limit expansions may be nested, and a call with all that comes of it may write at most
     max_tokens tokens."""
     data, root, only, cfg = _bytes_of(text), _bytes_of(root), _bytes_of(only or ""), _ended(cfg)
     for size in (limit, max_tokens):

@@ -13,7 +13,7 @@ pub struct ExpandOptions<'a> {
     pub cfg: &'a [&'a str],
     /// Whether calls in the brackets of calls that stay are expanded too.
     pub everywhere: bool,
-    /// Whether what a call becomes is written on one line, with a space between all tokens. Else it is laid out like the template and the
+    /// Whether what a call becomes is written on one line, with spaces between most tokens. Else it is laid out like the template and the
     /// input that it comes from, with the indentation of the call.
     pub one_line: bool,
     /// How many expansions may be nested. The stack that a call needs does not grow with it: 64 KiB were enough for 1,000.
