@@ -123,7 +123,7 @@ def try_mark(files):
 
 
 def try_faults(files):
-    """Diagnostics of faults, with their marks: at the end, behind tabs, behind characters that are wide or have no width."""
+    """Diagnostics of faults, with their marks: at the end, behind tabs, behind characters that are wide or have no width. NUL is not shown."""
     for text, line, column, mark, message in (
         ("a ]", 1, 3, "  ^", "unopened ']'"),
         ("'", 1, 1, "^", "unterminated literal"),
@@ -135,7 +135,7 @@ def try_faults(files):
         ("a\n(\n\n", 2, 1, "^", "unclosed '('"),
         ("0b", 1, 1, "^", "number with no digits"),
     ):
-        shown = text.replace("\r\n", "\n").split("\n")[line - 1]
+        shown = text.replace("\r\n", "\n").split("\n")[line - 1].replace("\0", "\ufffd")
         files.tells(
             f"error: {message}\n --> <stdin>:{line}:{column}\n  |\n{line} | {shown}\n  | {mark}\n", "tree", given=text.encode()
         )
@@ -304,6 +304,20 @@ def try_doublings(files):
     )
 
 
+def try_product(files):
+    """A rule that would write 10,000 times 40,000 tokens writes none past the limit, in a gigabyte of memory."""
+    rules = "macro_rules! m {\n    ($($a:tt)*) => { " + "$($a)* " * 10_000 + "};\n}\n"
+    text = rules + "m!(" + "x " * 40_000 + ");\n"
+    done = subprocess.run([files.program, "check", "-"], input=text.encode(), capture_output=True, timeout=SECONDS, check=False,
+                          preexec_fn=lambda: resource.setrlimit(resource.RLIMIT_AS, (1 << 30, 1 << 30)))
+    told = (
+        f"error: too many tokens are written while expanding `m`\n --> <stdin>:4:1\n  |\n4 | m!({'x ' * 78}x..\n  | ^\n"
+        "  = note: the limit is 4000000 tokens for a call with all that comes of it; --max-tokens N sets another one\n"
+        "note: `m` is defined here\n --> <stdin>:1:14\n  |\n1 | macro_rules! m {\n  |              ^\n\nerror: found 1 error\n"
+    )
+    wants("the run", (done.returncode, done.stdout, done.stderr), (1, b"", told.encode()))
+
+
 def try_long(files):
     """Many tokens in one line, and in as many lines."""
     lines = "".join(f"IDENT   é {1}:{2 * at + 1}..1:{2 * at + 2}\n" for at in range(WORDS))
@@ -342,7 +356,7 @@ def tried(files):
     for try_one in (
         try_missing, try_folder, try_unreadable, try_empty, try_no_utf8, try_mark, try_faults, try_bad_pieces, try_limited,
         try_own_input, try_replaced, try_device, try_help, try_version, try_mistakes, try_closed_pipe, try_deep, try_deep_tree,
-        try_doublings, try_long,
+        try_doublings, try_product, try_long,
     ):
         yield try_one.__name__.removeprefix("try_").replace("_", " "), lambda try_one=try_one: try_one(files)
 

@@ -40,6 +40,7 @@ NOT_SWEPT = {
     "tt::FlatBuilder::push": "parse_to_token_tree calls it",
     "tt::FlatBuilder::build": "parse_to_token_tree calls it",
     "syntax_unparse::is_writable": "rust_text does the same for each leaf",
+    "mbe_rules::MacroRules::expand_within": "MacroRules::expand does the same without a limit",
     "mbe_rules::Template::new": "MacroRules::new calls it",
     "mbe_rules::Template::transcribe": "MacroRules::expand calls it",
 }

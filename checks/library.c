@@ -91,14 +91,14 @@ static const char FAULTY[] =
     "macro_rules! n { (a) => { 1 } }\n"
     "f(m!(a), m!(b));\n"
     "macro_rules! bad { () => {}; ($y) => {} }\n";
-// What is made of it, and the names of two findings and of a caller.
+// What is made of it, the names of two findings and of a caller, and what the rules expect for the first finding.
 static const char LISTED[] =
     "macro_rules! m { ($x:ident) => { n!($x) } }\n"
     "macro_rules! n { (a) => { 1 } }\n"
     "f(1, n!(b));\n"
-    "macro_rules! bad { () => {}; ($y) => {} }\n\0n\0bad\0m";
+    "macro_rules! bad { () => {}; ($y) => {} }\n\0n\0`a` (rule 1)\0bad\0m";
 static const size_t WORDS[] = {
-    131, 2, CUVOLEMIN_NO_MATCH, 88, 57, 0, 0, 132, CUVOLEMIN_BEGINS_NOTHING, 123, SIZE_MAX, SIZE_MAX, 1, 134, 85, SIZE_MAX, 138,
+    131, 2, CUVOLEMIN_NO_MATCH, 88, 57, 0, 0, 132, 134, CUVOLEMIN_BEGINS_NOTHING, 123, SIZE_MAX, SIZE_MAX, 1, 147, SIZE_MAX, 85, SIZE_MAX, 151,
 };
 enum { WORD_COUNT = sizeof WORDS / sizeof *WORDS };
 
@@ -170,7 +170,8 @@ static bool has_findings(void) {
     const char *names = (const char *)listed.made.bytes;
     return listed.words[1] == 2 && findings[0].fault == CUVOLEMIN_NO_MATCH && strcmp(names + findings[0].name, "n") == 0 &&
            callers[findings[0].caller].at == 85 && strcmp(names + callers[findings[0].caller].name, "m") == 0 &&
-           callers[findings[0].caller].caller == SIZE_MAX && findings[1].detail == 1 && strcmp(names + findings[1].name, "bad") == 0;
+           callers[findings[0].caller].caller == SIZE_MAX && strcmp(names + findings[0].expected, "`a` (rule 1)") == 0 &&
+           findings[1].detail == 1 && strcmp(names + findings[1].name, "bad") == 0 && findings[1].expected == SIZE_MAX;
 }
 
 // Whether a text becomes another one with options, with this first fault, or with none if that is 0.

@@ -75,6 +75,8 @@ def lines_of(text, finding, options):
     name = f"`{finding.macro_name}`"
     yield f"{'warning' if finding.is_warning else 'error'}: " + MESSAGES[finding.number].format(name=name, rule=finding.detail + 1)
     yield place(text, finding.at)
+    if finding.expected is not None:
+        yield f"= note: expected {finding.expected}"
     if finding.number in LIMITS:
         yield LIMITS[finding.number].format(**{"limit": 128, "max_tokens": 4_000_000, **options})
     calls = finding.trail[::-1]

@@ -126,7 +126,7 @@ def try_several(files):
     text = "macro_rules! k { ($a:nix) => {}; } k!(1);"
     left = files.made("left", text.encode())
     calls = "".join(
-        f"error: no rule of `m` matches this\n --> {wrong}:{line}:5\n  |\n{line} | m!({line - 1});\n  |     ^\n"
+        f"error: no rule of `m` matches this\n --> {wrong}:{line}:5\n  |\n{line} | m!({line - 1});\n  |     ^\n  = note: expected `,` (rule 1)\n"
         f"note: `m` is defined here\n --> {wrong}:1:14\n  |\n1 | {DEFINITION.decode()}  |              ^\n\n"
         for line in (2, 3)
     )
@@ -164,7 +164,7 @@ def try_bytes_stay(files):
     judge(files, text.replace("m!(1, 2)", "1 + 2").encode(), "", files.made("text", text.encode()), is_file=False)
     wrong = files.made("text", text.replace("m!(1, 2)", "m!(1)").encode())
     told = (
-        f"error: no rule of `m` matches this\n --> {wrong}:2:9\n  |\n2 | é\t= m!(1) ; // 漢 \n  |  \t      ^\n"
+        f"error: no rule of `m` matches this\n --> {wrong}:2:9\n  |\n2 | é\t= m!(1) ; // 漢 \n  |  \t      ^\n  = note: expected `,` (rule 1)\n"
         f"note: `m` is defined here\n --> {wrong}:1:14\n  |\n1 | {DEFINITION.decode()}  |              ^\n{ONE_ERROR}"
     )
     judge(files, None, told, wrong, is_file=False)
@@ -179,7 +179,7 @@ def try_first_line(files):
         judge(files, text.replace("m!(1, 2)", "1 + 2").encode(), "", name)
     wrong = files.made("wrong", f"{line}{DEFINITION.decode()}m!(1)".encode())
     told = (
-        f"error: no rule of `m` matches this\n --> {wrong}:3:5\n  |\n3 | m!(1)\n  |     ^\n"
+        f"error: no rule of `m` matches this\n --> {wrong}:3:5\n  |\n3 | m!(1)\n  |     ^\n  = note: expected `,` (rule 1)\n"
         f"note: `m` is defined here\n --> {wrong}:2:14\n  |\n2 | {DEFINITION.decode()}  |              ^\n{ONE_ERROR}"
     )
     judge(files, None, told, wrong, is_file=False)
@@ -202,9 +202,23 @@ def try_cut_lines(files):
         wrong = files.made(f"line{front}-{behind}", DEFINITION + line.encode())
         told = (
             f"error: no rule of `m` matches this\n --> {wrong}:2:{mark + 1}\n  |\n2 | {shown}\n  | {under}^\n"
-            f"note: `m` is defined here\n --> {wrong}:1:14\n  |\n1 | {DEFINITION.decode()}  |              ^\n{ONE_ERROR}"
+            f"  = note: expected `,` (rule 1)\nnote: `m` is defined here\n --> {wrong}:1:14\n  |\n1 | {DEFINITION.decode()}  |              ^\n{ONE_ERROR}"
         )
         judge(files, None, told, wrong)
+
+
+def try_controls(files):
+    """No diagnostic has a character that controls a terminal: neither the line of a text, nor what is expected or found."""
+    text = "macro_rules! m { (\"\x1b[2J\") => {} } m!(b); /* \x1b[31m \x9b31m \u202e \x07 */\n"
+    line = re.sub("[\x1b\x9b\u202e\x07]", "\ufffd", text)
+    at = text.index("b)")
+    told = (
+        f"error: no rule of `m` matches this\n --> <stdin>:1:{at + 1}\n  |\n1 | {line}  | {' ' * at}^\n  = note: expected a token (rule 1)\n"
+        f"note: `m` is defined here\n --> <stdin>:1:14\n  |\n1 | {line}  |              ^\n{ONE_ERROR}"
+    )
+    judge(files, None, told, "-", given=text.encode(), is_file=False)
+    status, written, told = files.run("check", "-", given=b"fn f() { a \"\x1b[2J\" }")
+    wants("the run", (status, written, b"\x1b" in told), (1, b"", False))
 
 
 def try_only(files):
@@ -321,7 +335,7 @@ def tried(files, examples):
     """Each thing that is tried, by its name."""
     yield from tried_cases(files, examples / "small.cases")
     for try_one in (
-        try_missing, try_several, try_empty, try_no_utf8, try_bytes_stay, try_first_line, try_cut_lines, try_only, try_options, try_keywords, try_seams, try_deep, try_forever,
+        try_missing, try_several, try_empty, try_no_utf8, try_bytes_stay, try_first_line, try_cut_lines, try_controls, try_only, try_options, try_keywords, try_seams, try_deep, try_forever,
         try_long,
         try_closed_pipe, try_colours,
     ):

@@ -86,7 +86,7 @@ uint32_t tt_expand_text(const uint8_t *text, size_t text_len, uint8_t *out, size
  *   one_line    not 0: what a call becomes is one line, with spaces between most tokens
  *   limit       how many expansions may be nested (128 are usual)
  *   max_tokens  how many tokens a call with all that comes of it may write (4,000,000 are usual)
- * out gets the text and then the names that the words speak of, each of them with a 0 behind it. findings has room for findings_len words
+ * out gets the text and then the names and other texts that the words speak of, each of them with a 0 behind it. findings has room for findings_len words
  * and gets: the number of bytes of the text; the number of findings; the words of each finding, in order; and those of each caller, up to
  * the end. *found is the number of words. If one of the outputs is too short, nothing is written into either.
  * Faults: 1; 2; 3 of the text, of root, of only or of cfg, in this order, with a byte of that in *at; 50, with the number of conditions in cfg
@@ -109,6 +109,9 @@ struct cuvolemin_finding {
     size_t detail;
     /* The byte of out at which the name of the macro begins. */
     size_t name;
+    /* The byte of out at which a text begins that says what the macro's rules expect at the byte `at`, for CUVOLEMIN_NO_MATCH: up to three
+     * parts of their patterns, such as `,` (rule 1) or the end (rule 1). */
+    size_t expected;
 };
 
 /* The words of a caller: a call whose expansion has a finding. */

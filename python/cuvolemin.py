@@ -256,12 +256,13 @@ Call = collections.namedtuple("Call", "macro_name at")
 Expansion = collections.namedtuple("Expansion", "text findings")
 
 
-class Finding(collections.namedtuple("Finding", "number macro_name at defined_at detail trail")):
+class Finding(collections.namedtuple("Finding", "number macro_name at defined_at detail trail expected")):
     """A fault of a macro or of a call, or the reason why a call stays, with the number of the fault and the byte of the text at which it shows.
 
     defined_at is the byte at which the macro's name begins in its definition, if this is about a call, else None. detail is the byte at which
     the macro binds a captured name; else the number of the arm, from 0, if the fault is in one; else 0. trail has the calls that wrote the
-    definition or the call, the outermost first."""
+    definition or the call, the outermost first. expected says what the macro's rules expect if none of them matches, such as
+    "`,` (rule 1) or the end (rule 1)", else None."""
 
     __slots__ = ()
 
@@ -284,26 +285,26 @@ class Finding(collections.namedtuple("Finding", "number macro_name at defined_at
 def _expansion(data, words):
     """The expansion that the library wrote as these bytes and words (include/cuvolemin.h)."""
     length, count = words[:2]
-    callers = 2 + 6 * count
+    callers = 2 + 7 * count
 
     def number(word):
         return None if word == MISSING else word
 
-    def name_at(at):
-        return data[at : data.index(0, at)].decode()
+    def text_at(at):
+        return None if at == MISSING else data[at : data.index(0, at)].decode()
 
     def trail(index):
         calls = []
         while index != MISSING:
             at, outer, name = words[callers + 3 * index :][:3]
-            calls.append(Call(name_at(name), at))
+            calls.append(Call(text_at(name), at))
             index = outer
         return calls[::-1]
 
     findings = []
-    for place in range(2, callers, 6):
-        fault, at, defined_at, caller, detail, name = words[place : place + 6]
-        findings.append(Finding(fault, name_at(name), at, number(defined_at), detail, trail(caller)))
+    for place in range(2, callers, 7):
+        fault, at, defined_at, caller, detail, name, expected = words[place : place + 7]
+        findings.append(Finding(fault, text_at(name), at, number(defined_at), detail, trail(caller), text_at(expected)))
     return Expansion(data[:length].decode(), findings)
 
 

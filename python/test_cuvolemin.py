@@ -59,7 +59,7 @@ class Cuvolemin(unittest.TestCase):
         rules = "macro_rules! m { ($x:ident) => { n!($x) } }\nmacro_rules! n { (a) => { 1 } }\n"
         made = expand_with(rules + "f(m!(a), m!(b));\n")
         self.assertEqual(made.text, rules + "f(1, n!(b));\n")
-        self.assertEqual(made.findings, [(100, "n", 88, 57, 0, [("m", 85)])])
+        self.assertEqual(made.findings, [(100, "n", 88, 57, 0, [("m", 85)], "`a` (rule 1)")])
         finding = made.findings[0]
         self.assertEqual((finding.name, finding.message), ("NoMatch", "No arm matches the input."))
         self.assertEqual((finding.trail, finding.is_warning), ([Call("m", 85)], False))
@@ -82,9 +82,9 @@ class Cuvolemin(unittest.TestCase):
             self.assertEqual(made.text == text, number != 96)
 
     def test_a_fault_has_the_number_of_its_arm(self):
-        self.assertEqual(expand_with("macro_rules! m { () => {}; ($x) => {} }").findings, [(82, "m", 28, None, 1, [])])
+        self.assertEqual(expand_with("macro_rules! m { () => {}; ($x) => {} }").findings, [(82, "m", 28, None, 1, [], None)])
         ambiguous = "macro_rules! m { (a) => {}; ($(b)? $(b)?) => {} } m!(b);"
-        self.assertEqual(expand_with(ambiguous).findings, [(101, "m", 50, 13, 1, [])])
+        self.assertEqual(expand_with(ambiguous).findings, [(101, "m", 50, 13, 1, [], None)])
 
     def test_options_are_heeded(self):
         two = "macro_rules! a { () => { $crate::x } } macro_rules! b { () => { a!() } } "

@@ -62,6 +62,9 @@ pub struct Finding {
     pub detail: usize,
     /// The calls that wrote the definition or the call, the outermost first. None if it is in the text itself.
     pub trail: Vec<Call>,
+    /// What the macro's rules expect at the byte if none of them matches: up to three parts of their patterns, such as
+    /// `` `,` (rule 1) or the end (rule 1) ``.
+    pub expected: Option<String>,
 }
 
 /// A call that wrote what has a finding.
@@ -130,14 +133,14 @@ impl Expansion {
     /// The expansion that the library wrote as these bytes and words (`include/cuvolemin.h`).
     fn of(bytes: &[u8], words: &[usize]) -> Expansion {
         let (len, count) = (words[0], words[1]);
-        let (findings, callers) = words[2..].split_at(6 * count);
+        let (findings, callers) = words[2..].split_at(7 * count);
         let callers: Vec<_> = callers.chunks_exact(3).collect();
         Expansion {
             text: text_of(bytes[..len].to_vec()),
             findings: findings
-                .chunks_exact(6)
+                .chunks_exact(7)
                 .map(|words| Finding {
-                    macro_name: name_at(bytes, words[5]),
+                    macro_name: text_at(bytes, words[5]),
                     fault: u32::try_from(words[0])
                         .ok()
                         .and_then(Fault::of_number)
@@ -146,6 +149,7 @@ impl Expansion {
                     defined_at: number(words[2]),
                     detail: words[4],
                     trail: trail(bytes, &callers, words[3]),
+                    expected: number(words[6]).map(|at| text_at(bytes, at)),
                 })
                 .collect(),
         }
@@ -157,8 +161,8 @@ fn number(word: usize) -> Option<usize> {
     (word != usize::MAX).then_some(word)
 }
 
-/// The name that begins at a byte, and that a 0 ends.
-fn name_at(bytes: &[u8], at: usize) -> String {
+/// The text that begins at a byte, and that a 0 ends.
+fn text_at(bytes: &[u8], at: usize) -> String {
     let name = bytes[at..].iter().copied().take_while(|byte| *byte != 0);
     text_of(name.collect())
 }
@@ -168,7 +172,7 @@ fn trail(bytes: &[u8], callers: &[&[usize]], index: usize) -> Vec<Call> {
     let caller = |index| number(index).map(|index| callers[index]);
     let mut calls: Vec<_> = std::iter::successors(caller(index), |words| caller(words[1]))
         .map(|words| Call {
-            macro_name: name_at(bytes, words[2]),
+            macro_name: text_at(bytes, words[2]),
             at: words[0],
         })
         .collect();

@@ -42,6 +42,7 @@ fn a_text_is_expanded_beside_its_findings() {
             defined_at: Some(57),
             detail: 0,
             trail: vec![call("m", 85)],
+            expected: Some("`a` (rule 1)".to_string()),
         }]
     );
     assert!(!findings[0].is_warning());
@@ -64,6 +65,7 @@ fn faults_in_arms_have_their_number() {
         defined_at,
         detail,
         trail: vec![],
+        expected: None,
     };
     assert_eq!(
         findings,
@@ -88,6 +90,7 @@ fn a_captured_name_has_the_byte_that_binds_it() {
             defined_at: Some(13),
             detail: 38,
             trail: vec![],
+            expected: None,
         }]
     );
     assert!(findings[0].is_warning());

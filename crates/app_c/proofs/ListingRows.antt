@@ -24,7 +24,11 @@ details : (detail_of (found.Definition (record { arm = 2; fault = arm.NoArrow 5 
 details = (refl, refl, refl, refl, refl, refl, refl)
 
 abbrev finding : MacroFault → (defined_at caller : Option ℕ) → Finding
-finding fault defined_at by = record { name = codes "mn"; at = 3; fault = fault; defined_at = defined_at; caller = by }
+finding fault defined_at by = record { name = codes "mn"; at = 3; fault = fault; defined_at = defined_at; expected = None; caller = by }
+
+-- a finding that says what is expected
+abbrev unmatched : Finding
+unmatched = record (finding found.NoMatch (Some 4) None) { expected = Some (codes "`;`") }
 
 abbrev caller : Option ℕ → Caller
 caller by = record { name = codes "k"; at = 5; caller = by }
@@ -33,25 +37,28 @@ caller by = record { name = codes "k"; at = 5; caller = by }
 abbrev missing : ℕ
 missing = 18446744073709551615
 
--- The fault, its byte, the definition, the caller, the detail and the name.
-words : (finding_words 7 (finding found.Statements (Some 4) (Some 1)) ≡ 107 ∷ 3 ∷ 4 ∷ 1 ∷ 0 ∷ 7 ∷ [])
-    × (finding_words 0 (finding (found.Ambiguous 2) None None) ≡ 101 ∷ 3 ∷ missing ∷ missing ∷ 2 ∷ 0 ∷ [])
+-- The fault, its byte, the definition, the caller, the detail, the name and what is expected.
+words : (finding_words 7 (finding found.Statements (Some 4) (Some 1)) ≡ 107 ∷ 3 ∷ 4 ∷ 1 ∷ 0 ∷ 7 ∷ missing ∷ [])
+    × (finding_words 0 (finding (found.Ambiguous 2) None None) ≡ 101 ∷ 3 ∷ missing ∷ missing ∷ 2 ∷ 0 ∷ missing ∷ [])
+    × (finding_words 7 unmatched ≡ 100 ∷ 3 ∷ 4 ∷ missing ∷ 0 ∷ 7 ∷ 10 ∷ [])
     × (caller_words 9 (caller (Some 0)) ≡ 5 ∷ 0 ∷ 9 ∷ [])
     × (caller_words 9 (caller None) ≡ 5 ∷ missing ∷ 9 ∷ [])
-words = (refl, refl, refl, refl)
+words = (refl, refl, refl, refl, refl)
 
--- Names are one behind the other, each with its 0, and each finding has the byte of its own.
+-- Texts are one behind the other, each with its 0, and each finding has the bytes of its own.
 abbrev two : List Finding
 two = finding found.Left (Some 4) None ∷ finding found.TooDeep (Some 4) (Some 0) ∷ []
 
 several : (findings_bytes two ≡ codes "mn" ++ 0 ∷ (codes "mn" ++ 0 ∷ []))
-    × (findings_words 10 two ≡ 84 ∷ 3 ∷ 4 ∷ missing ∷ 0 ∷ 10 ∷ 104 ∷ 3 ∷ 4 ∷ 0 ∷ 0 ∷ 13 ∷ [])
-several = (refl, refl)
+    × (findings_words 10 two ≡ 84 ∷ 3 ∷ 4 ∷ missing ∷ 0 ∷ 10 ∷ missing ∷ 104 ∷ 3 ∷ 4 ∷ 0 ∷ 0 ∷ 13 ∷ missing ∷ [])
+    × (findings_bytes (unmatched ∷ two) ≡ codes "mn" ++ 0 ∷ (codes "`;`" ++ 0 ∷ (codes "mn" ++ 0 ∷ (codes "mn" ++ 0 ∷ []))))
+    × (findings_words 1 (unmatched ∷ finding found.Left None None ∷ []) ≡ 100 ∷ 3 ∷ 4 ∷ missing ∷ 0 ∷ 1 ∷ 4 ∷ 84 ∷ 3 ∷ missing ∷ missing ∷ 0 ∷ 8 ∷ missing ∷ [])
+several = (refl, refl, refl, refl)
 
 -- The text comes first, and the callers last.
 all : (listed_bytes (codes "ab") two (caller None ∷ []) ≡ codes "ab" ++ 0 ∷ (codes "mn" ++ 0 ∷ (codes "mn" ++ 0 ∷ (codes "k" ++ 0 ∷ []))))
     × (listed_words (codes "ab") two (caller None ∷ [])
-    ≡ 2 ∷ 2 ∷ 84 ∷ 3 ∷ 4 ∷ missing ∷ 0 ∷ 3 ∷ 104 ∷ 3 ∷ 4 ∷ 0 ∷ 0 ∷ 6 ∷ 5 ∷ missing ∷ 9 ∷ [])
+    ≡ 2 ∷ 2 ∷ 84 ∷ 3 ∷ 4 ∷ missing ∷ 0 ∷ 3 ∷ missing ∷ 104 ∷ 3 ∷ 4 ∷ 0 ∷ 0 ∷ 6 ∷ missing ∷ 5 ∷ missing ∷ 9 ∷ [])
     × (listed_bytes [] [] [] ≡ 0 ∷ [])
     × (listed_words [] [] [] ≡ 0 ∷ 0 ∷ [])
 all = (refl, refl, refl, refl)

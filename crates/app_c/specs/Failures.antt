@@ -150,6 +150,7 @@ rules_failure error = at_place (arm_fault error.fault) error.arm
 abbrev pub transcribe_fault : TranscribeError → Fault
 transcribe_fault (filling.LengthsDiffer at) = answer.LengthsDiffer
 transcribe_fault (filling.NoRound at) = answer.NoRound
+transcribe_fault filling.OverLimit = answer.OverMaxTokens
 transcribe_fault (filling.Tree fault) = limit_fault fault
 
 -- a macro that does not expand an input: with the number of the arm

@@ -48,20 +48,35 @@ detail_of fault = 0
 abbrev pub ended : (text : List ℕ) → List ℕ
 ended text = text ++ 0 ∷ []
 
--- the words of a finding whose name begins at that byte
-abbrev pub finding_words : (name : ℕ) → Finding → List ℕ
-finding_words name it =
-    number_of (macro_fault it.fault) ∷ it.at ∷ word_of it.defined_at ∷ word_of it.caller ∷ detail_of it.fault ∷ name ∷ []
+-- what is expected, if that is known
+abbrev pub expected_bytes : (expected : Option (List ℕ)) → List ℕ
+expected_bytes None = []
+expected_bytes (Some text) = ended text
 
--- the names of findings, one behind the other
+-- the byte at which it begins
+abbrev pub expected_at : (expected : Option (List ℕ)) → (at : ℕ) → Option ℕ
+expected_at None at = None
+expected_at (Some text) at = Some at
+
+-- the texts of a finding: its name, and what is expected
+abbrev pub finding_bytes : Finding → List ℕ
+finding_bytes it = ended it.name ++ expected_bytes it.expected
+
+-- the words of a finding whose texts begin at that byte
+abbrev pub finding_words : (texts : ℕ) → Finding → List ℕ
+finding_words texts it =
+    number_of (macro_fault it.fault) ∷ it.at ∷ word_of it.defined_at ∷ word_of it.caller ∷ detail_of it.fault ∷ texts
+    ∷ word_of (expected_at it.expected (texts + length (ended it.name))) ∷ []
+
+-- the texts of findings, one behind the other
 abbrev pub findings_bytes : List Finding → List ℕ
 findings_bytes [] = []
-findings_bytes (it ∷ its) = ended it.name ++ findings_bytes its
+findings_bytes (it ∷ its) = finding_bytes it ++ findings_bytes its
 
--- the words of findings whose names begin at that byte
-abbrev pub findings_words : (names : ℕ) → List Finding → List ℕ
-findings_words names [] = []
-findings_words names (it ∷ its) = finding_words names it ++ findings_words (names + length (ended it.name)) its
+-- the words of findings whose texts begin at that byte
+abbrev pub findings_words : (texts : ℕ) → List Finding → List ℕ
+findings_words texts [] = []
+findings_words texts (it ∷ its) = finding_words texts it ++ findings_words (texts + length (finding_bytes it)) its
 
 -- the words of a caller whose name begins at that byte
 abbrev pub caller_words : (name : ℕ) → Caller → List ℕ
@@ -77,7 +92,7 @@ abbrev pub callers_words : (names : ℕ) → List Caller → List ℕ
 callers_words names [] = []
 callers_words names (it ∷ its) = caller_words names it ++ callers_words (names + length (ended it.name)) its
 
--- the bytes: the text, the names of the findings and those of the callers
+-- the bytes: the text, the texts of the findings and the names of the callers
 abbrev pub listed_bytes : (text : List ℕ) → List Finding → List Caller → List ℕ
 listed_bytes text findings callers = ended text ++ findings_bytes findings ++ callers_bytes callers
 

@@ -218,6 +218,7 @@ fn transcribe_fault(fault: TranscribeError) -> Fault
     match fault {
         TranscribeError::LengthsDiffer(_) => Fault::LengthsDiffer,
         TranscribeError::NoRound(_) => Fault::NoRound,
+        TranscribeError::OverLimit => Fault::OverMaxTokens,
         TranscribeError::Tree(fault) => limit_fault(fault),
     }
 }

@@ -1,12 +1,13 @@
 //! What a caller gets of an expansion: bytes, and words about the findings.
 ghost use Rattle.std.specs.Prelude.{◌≡◌, ◌++◌, [], length, IfOk, IfErr, OnOk};
 ghost use Rattle.app_c.specs.Failures.{placeless};
-ghost use Rattle.app_c.specs.Listings.{caller_words, callers_bytes, callers_words, detail_of, ended, finding_words, findings_bytes, findings_words, word_of, IsListingOf};
+ghost use Rattle.app_c.specs.Listings.{caller_words, callers_bytes, callers_words, detail_of, ended, expected_at, expected_bytes, finding_bytes, finding_words, findings_bytes, findings_words, word_of, IsListingOf};
 
 use crate::failure::{Failure, macro_fault};
 use crate::fault::Fault;
 use expand_text::{Caller, Expanded, Finding, MacroFault};
 use std::alloc::{AllocError, Global};
+use tt::Symbol;
 
 /// The bytes and the words that a caller gets.
 #[derive(Drop)]
@@ -72,12 +73,25 @@ impl Listing {
         Ok(place)
     }
 
+    // Adds what is expected, if that is known, and returns its place.
+    fn put_expected(&mut self, expected: &Option<Symbol>) -> Result<Option<usize>, AllocError>
+        ensures place { IfOk result (λ place. place ≡ expected_at expected.now (length self.old.bytes.items)) }
+        ensures bytes { OnOk result (self.new.bytes.items ≡ self.old.bytes.items ++ expected_bytes expected.now) }
+        ensures words { self.new.words.items ≡ self.old.words.items }
+    {
+        match expected {
+            None => Ok(None),
+            Some(text) => Ok(Some(self.put_text(text.as_str())?)),
+        }
+    }
+
     // Adds a finding.
     fn put_finding(&mut self, finding: &Finding) -> Result<(), AllocError>
-        ensures bytes { OnOk result (self.new.bytes.items ≡ self.old.bytes.items ++ ended finding.now.name) }
+        ensures bytes { OnOk result (self.new.bytes.items ≡ self.old.bytes.items ++ finding_bytes finding.now) }
         ensures words { OnOk result (self.new.words.items ≡ self.old.words.items ++ finding_words (length self.old.bytes.items) finding.now) }
     {
         let name = self.put_text(finding.name.as_str())?;
+        let expected = self.put_expected(&finding.expected)?;
         let words = [
             macro_fault(finding.fault).number() as usize,
             finding.at as usize,
@@ -85,6 +99,7 @@ impl Listing {
             word_of(finding.caller),
             detail_of(finding.fault),
             name,
+            word_of(expected),
         ];
         self.words.extend_from_slice(&words)
     }

@@ -1,6 +1,7 @@
 -- The line that says how many diagnostics are not shown.
 use Rattle.std.proofs.Common.{◌≡◌, ◌++◌, ◌∷◌, [], ℕ, zero, suc, List, refl}
-use Rattle.app_cli.specs.Reports.{more_message, IsMoreText, IsPlainText}
+use Rattle.app_files.specs.Plain.{IsPlainText}
+use Rattle.app_cli.specs.Reports.{more_message, IsMoreText}
 use Rattle.syntax_diagnostic.specs.declared.level.Level.TheVariants.{Warning}
 use Rattle.syntax_diagnostic.specs.declared.paint.Style.{Style}
 

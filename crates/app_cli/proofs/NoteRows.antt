@@ -44,7 +44,7 @@ nine_shown = refl
 
 -- The definition comes before the calls. A captured name shows where the macro binds it instead.
 abbrev finding : MacroFault → Option ℕ → Finding
-finding fault by = record { name = codes "m"; at = 3; fault = fault; defined_at = Some 4; caller = by }
+finding fault by = record { name = codes "m"; at = 3; fault = fault; defined_at = Some 4; expected = None; caller = by }
 
 abbrev note : List ℕ → ℕ → Note
 note message byte = record { message = message; at = byte }
@@ -58,5 +58,5 @@ none_hidden = refl
 captured : other_notes (finding (wrong.Captured 6) None) ≡ note (codes "`m` binds it here") 6 ∷ []
 captured = refl
 
-definition : other_notes (record { name = codes "m"; at = 3; fault = wrong.NoMatch; defined_at = None; caller = None }) ≡ []
+definition : other_notes (record { name = codes "m"; at = 3; fault = wrong.NoMatch; defined_at = None; expected = None; caller = None }) ≡ []
 definition = refl

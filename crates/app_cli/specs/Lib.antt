@@ -1,7 +1,5 @@
--- What the program reads and writes, and its exit status.
+-- What the program writes of the macros of a text.
 pub mod Counts
 pub mod Messages
 pub mod Notes
-pub mod RecursionLimit
 pub mod Reports
-pub mod TokenWords

@@ -59,6 +59,7 @@ definition_message name error = rule_message name error.arm error.fault
 abbrev pub transcribe_message : (name : List ℕ) (arm : ℕ) → TranscribeError → List ℕ
 transcribe_message name arm (filling.LengthsDiffer at) = about_rule arm name (codes " repeats variables together that have different numbers of rounds")
 transcribe_message name arm (filling.NoRound at) = about_rule arm name (codes " needs at least one round here")
+transcribe_message name arm filling.OverLimit = about_rule arm name (codes " writes too many tokens")
 transcribe_message name arm (filling.Tree fault) = about_rule arm name (codes " writes too much: " ++ fault_text fault)
 
 -- the limit of trees that the macro of that name or its expansion exceeds

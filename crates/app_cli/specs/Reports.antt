@@ -1,5 +1,6 @@
 -- What the program writes of a text whose macros are expanded.
-use Rattle.std.specs.Prelude.{◌≡◌, ◌-◌, ℕ, zero, suc, List, [], ◌∷◌, ◌++◌, length, take, map, nat_lt, codes, decimal, string_bytes, None, Some, MatchOption, if◌then◌else◌}
+use Rattle.std.specs.Prelude.{◌≡◌, ◌-◌, ℕ, zero, suc, List, [], ◌∷◌, ◌++◌, length, take, map, nat_lt, codes, decimal, string_bytes, Option, None, Some, MatchOption, if◌then◌else◌}
+use Rattle.app_files.specs.Plain.{IsPlainText}
 use Rattle.app_cli.specs.Counts.{counted, counts_of, level_of, message_of}
 use Rattle.app_cli.specs.Messages.{message}
 use Rattle.app_cli.specs.Notes.{ArePlaced, IsSpot, hidden_callers, notes_at}
@@ -22,12 +23,21 @@ use Rattle.syntax_diagnostic.specs.declared.paint.Style.{Style}
 abbrev pub level_of_fault : MacroFault → Level
 level_of_fault fault = if is_warning fault then Warning else Error
 
--- the notes on a fault: the limit that it passes
-abbrev pub notes_on : ExpandOptions → MacroFault → List (List ℕ)
-notes_on options wrong.TooDeep = (codes "the limit is " ++ decimal options.limit ++ codes "; --limit N sets another one, up to 1000") ∷ []
-notes_on options wrong.OverMaxTokens =
+-- what the rules of the macro expect, if none of them matches
+abbrev pub expected_note : (expected : Option (List ℕ)) → List (List ℕ)
+expected_note None = []
+expected_note (Some text) = (codes "expected " ++ text) ∷ []
+
+-- the limit that a fault passes
+abbrev pub limit_note : ExpandOptions → MacroFault → List (List ℕ)
+limit_note options wrong.TooDeep = (codes "the limit is " ++ decimal options.limit ++ codes "; --limit N sets another one, up to 1000") ∷ []
+limit_note options wrong.OverMaxTokens =
     (codes "the limit is " ++ decimal options.max_tokens ++ codes " tokens for a call with all that comes of it; --max-tokens N sets another one") ∷ []
-notes_on options fault = []
+limit_note options fault = []
+
+-- the notes on a finding
+abbrev pub notes_on : ExpandOptions → Finding → List (List ℕ)
+notes_on options finding = limit_note options finding.fault ++ expected_note finding.expected
 
 -- how many calls around a place are not shown, if some are not
 abbrev pub hidden_note : (hidden : ℕ) → List (List ℕ)
@@ -40,7 +50,7 @@ pub record IsDiagnosticOf (file text : List ℕ) (options : ExpandOptions) (call
   pub level : it.level ≡ level_of_fault finding.fault
   pub message : it.message.now ≡ message finding.name finding.fault
   pub spot : MatchOption it.spot ⊥ (IsSpot file text finding.at)
-  pub notes : map string_bytes it.notes.items ≡ notes_on options finding.fault ++ hidden_note (hidden_callers callers finding)
+  pub notes : map string_bytes it.notes.items ≡ notes_on options finding ++ hidden_note (hidden_callers callers finding)
   pub placed : ArePlaced file text (notes_at callers finding) it.placed_notes.items
 
 -- its text
@@ -55,16 +65,6 @@ AreDiagnosticTexts style file text options callers (finding ∷ findings) writte
     (first others : List ℕ) × IsDiagnosticText style file text options callers finding first
     × AreDiagnosticTexts style file text options callers findings others
     × (written ≡ first ++ 10 ∷ others)
-
--- the text of a message without a place
-pub record IsPlainText (style : Style) (level : Level) (message written : List ℕ) : Type 0 where
-  pub it : Diagnostic
-  pub level_is : it.level ≡ level
-  pub message_is : it.message.now ≡ message
-  pub no_spot : it.spot ≡ None
-  pub no_notes : it.notes.items ≡ []
-  pub no_placed_notes : it.placed_notes.items ≡ []
-  pub is : written ≡ diagnostic_text style it
 
 -- the last line: the number of errors and warnings, if there are any
 abbrev pub IsSummary : Style → Counts → List ℕ → Type 0

@@ -1,7 +1,6 @@
 //! What the options say of conditions, `#[cfg(..)]`.
 use crate::arguments::{cfg_file_of, cfgs_of};
-use crate::failure::Failure;
-use crate::input::Input;
+use app_files::{Failure, Input};
 use clap::ArgMatches;
 use expand_items::CfgOptions;
 use syntax_cfg::{Cfg, cfg_in};

@@ -1,6 +1,6 @@
 //! The diagnostics of findings in the macros of a text.
 ghost use Rattle.std.specs.Prelude.{◌≡◌, ◌++◌, map, IfOk, OnOk, string_bytes};
-ghost use Rattle.app_cli.specs.Reports.{AreDiagnosticTexts, IsDiagnosticText, hidden_note, level_of_fault, notes_on};
+ghost use Rattle.app_cli.specs.Reports.{AreDiagnosticTexts, IsDiagnosticText, expected_note, hidden_note, level_of_fault, limit_note, notes_on};
 
 use crate::counts::counted;
 use crate::messages::message;
@@ -20,13 +20,24 @@ fn level_of(fault: &MacroFault) -> Level
     }
 }
 
-// Returns the notes on a fault: the limit of the options that it passes.
-fn notes_of(
+// Adds the note on what the rules of the macro expect, if none of them matches.
+fn add_expected(alloc: Global, finding: &Finding, notes: &mut Vec<String>) -> Result<(), AllocError>
+    ensures { OnOk result (map string_bytes notes.new.items ≡ map string_bytes notes.old.items ++ expected_note finding.now.expected) }
+{
+    if let Some(expected) = &finding.expected {
+        let text = expected.as_str();
+        notes.push(format!(in alloc; "expected {text}")?)?;
+    }
+    Ok(())
+}
+
+// Returns the note on the limit of the options that a fault passes, if it passes one.
+fn limit_notes(
     alloc: Global,
     options: ExpandOptions<'_>,
     fault: MacroFault,
 ) -> Result<Vec<String>, AllocError>
-    ensures { IfOk result (λ notes. map string_bytes notes.items ≡ notes_on options.entry fault) }
+    ensures { IfOk result (λ notes. map string_bytes notes.items ≡ limit_note options.entry fault) }
 {
     let mut notes = Vec::new(alloc);
     let limit = options.limit;
@@ -46,6 +57,19 @@ fn notes_of(
         }
         _ => {}
     }
+    Ok(notes)
+}
+
+// Returns the notes on a finding.
+fn notes_of(
+    alloc: Global,
+    options: ExpandOptions<'_>,
+    finding: &Finding,
+) -> Result<Vec<String>, AllocError>
+    ensures { IfOk result (λ notes. map string_bytes notes.items ≡ notes_on options.entry finding.now) }
+{
+    let mut notes = limit_notes(alloc, options, finding.fault)?;
+    add_expected(alloc, finding, &mut notes)?;
     Ok(notes)
 }
 
@@ -80,7 +104,7 @@ fn one_diagnostic(
 {
     let message = message(alloc, finding.name.as_str(), finding.fault)?;
     let (places, hidden) = notes_at(alloc, callers, finding)?;
-    let mut notes = notes_of(alloc, options, finding.fault)?;
+    let mut notes = notes_of(alloc, options, finding)?;
     add_hidden(alloc, hidden, &mut notes)?;
     let diagnostic = Diagnostic {
         level: level_of(&finding.fault),

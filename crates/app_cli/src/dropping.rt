@@ -1,5 +1,5 @@
 //! The expanded text without the macros that it defines but does not need.
-use crate::failure::Failure;
+use app_files::Failure;
 use expand_unused::{DropRulesError, without_rules};
 
 // Returns the failure of a text of that name whose definitions cannot be dropped.

@@ -2,16 +2,12 @@
 use crate::counts::Counts;
 use crate::diagnostics::diagnostics_text;
 use crate::dropping::{Drops, without_definitions};
-use crate::failure::Failure;
-use crate::grammar_error::grammar_failure;
-use crate::input::Input;
-use crate::mentions::Mentions;
 use crate::options::Options;
 use crate::report::{Report, report_on, summary};
-use crate::shebang::{shebang_of, without_shebang};
-use crate::style::style_of;
-use crate::syntax_error::syntax_failure;
-use crate::tree_lines::tree_of;
+use app_files::{
+    Failure, Input, Mentions, grammar_failure, shebang_of, style_of, syntax_failure, tree_of,
+    without_shebang,
+};
 use expand_text::{ExpandOptions, ExpandTextError, expand_leniently};
 use mbe_grammar::{ParsedFile, parse_file};
 use std::io::{self, Write};

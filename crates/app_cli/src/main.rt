@@ -8,27 +8,13 @@ mod counts;
 mod diagnostics;
 mod dropping;
 mod expanding;
-mod failure;
-mod grammar_error;
-mod input;
-mod mentions;
 mod messages;
 mod note;
 mod options;
 mod packing;
 mod program;
-mod recursion_limit;
 mod report;
-mod shebang;
-mod style;
-mod syntax_error;
-mod syntax_lines;
-mod token_lines;
 mod trail;
-mod tree_lines;
-mod trivia;
-mod whole_file;
-mod words;
 
 use std::process::ExitCode;
 

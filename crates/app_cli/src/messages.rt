@@ -96,6 +96,7 @@ fn transcribe_message(
             name,
             " needs at least one round here",
         ),
+        TranscribeError::OverLimit => about_rule(alloc, arm, name, " writes too many tokens"),
         TranscribeError::Tree(fault) => {
             let why = fault.to_string(alloc)?;
             let words = format!(in alloc; " writes too much: {why}")?;

@@ -2,8 +2,7 @@
 use crate::arguments::{
     MOST_LIMIT, is_everywhere, is_one_line, limit_of, max_tokens_of, only_of, root_of,
 };
-use crate::failure::Failure;
-use crate::recursion_limit::recursion_limit;
+use app_files::{Failure, recursion_limit_of};
 use clap::ArgMatches;
 use expand_items::CfgOptions;
 use expand_text::{ExpandOptions, USUAL_LIMIT, USUAL_MAX_TOKENS};
@@ -29,7 +28,7 @@ fn limit_in(text: &str) -> usize {
     if text.len() > MOST_TEXT_BYTES {
         return USUAL_LIMIT;
     }
-    match recursion_limit(text) {
+    match recursion_limit_of(text) {
         Some(limit) => limit.clamp(1, MOST_LIMIT as usize),
         None => USUAL_LIMIT,
     }

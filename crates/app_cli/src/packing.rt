@@ -1,8 +1,5 @@
 //! Trees as pieces of bytes, in files.
-use crate::failure::Failure;
-use crate::input::Input;
-use crate::tree_lines::tree_of;
-use crate::whole_file::{is_same_file, write_whole};
+use app_files::{Failure, Input, is_same_file, tree_of, write_whole};
 use std::fmt::Display;
 use std::io::Write;
 use syntax_layout::rust_text_spaced;

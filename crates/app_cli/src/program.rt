@@ -2,16 +2,12 @@
 use crate::arguments::{drops_of, file_of, files_of, out_of, parse, shows_syntax};
 use crate::cfg_options::cfg_options_of;
 use crate::expanding::{check, expand};
-use crate::failure::Failure;
-use crate::grammar_error::grammar_failure;
-use crate::input::Input;
 use crate::options::Options;
 use crate::packing::{pack, unpack};
-use crate::shebang::without_shebang;
-use crate::syntax_error::syntax_failure;
-use crate::syntax_lines::write_syntax;
-use crate::token_lines::write_tokens;
-use crate::tree_lines::{tree_of, write_tree};
+use app_files::{
+    Failure, Input, grammar_failure, syntax_failure, tree_of, without_shebang, write_syntax,
+    write_tokens, write_tree,
+};
 use clap::ArgMatches;
 use mbe_grammar::{ParsedFile, parse_file};
 use std::env;

@@ -1,12 +1,13 @@
 //! What the program writes of a text whose macros are expanded.
 ghost use Rattle.std.specs.Prelude.{◌≡◌, IfOk, string_bytes, take};
-ghost use Rattle.app_cli.specs.Reports.{most_shown, AreShown, IsMoreText, IsPlainText, IsReport, IsSummary};
+ghost use Rattle.app_cli.specs.Reports.{most_shown, AreShown, IsMoreText, IsReport, IsSummary};
 
 use crate::counts::{Counts, counted};
 use crate::diagnostics::diagnostics_text;
+use app_files::plain_text;
 use expand_text::{Caller, ExpandOptions, Expanded, Finding};
 use std::alloc::{AllocError, Global};
-use syntax_diagnostic::{Diagnostic, Level, Style, diagnostic_text};
+use syntax_diagnostic::{Level, Style};
 
 /// How many diagnostics of a text are shown at most.
 const MOST_SHOWN: usize = 100;
@@ -96,25 +97,6 @@ pub fn report_on(
         diagnostics,
         counts,
     })
-}
-
-/// Returns the text of a message without a place.
-pub fn plain_text(
-    alloc: Global,
-    style: Style,
-    level: Level,
-    message: &str,
-) -> Result<String, AllocError>
-    ensures { IfOk result (λ text. IsPlainText style level message.now (string_bytes text)) }
-{
-    let diagnostic = Diagnostic {
-        level,
-        message,
-        spot: None,
-        notes: Vec::new(alloc),
-        placed_notes: Vec::new(alloc),
-    };
-    diagnostic_text(alloc, style, &diagnostic)
 }
 
 /// Returns the last line of a report: the number of errors and warnings, or an empty text if there are none.

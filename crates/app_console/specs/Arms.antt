@@ -1,7 +1,7 @@
 -- The answer of the command that expands a macro of several arms, and the state after it.
 use Rattle.std.specs.Prelude.{◌≡◌, ◌⊎◌, ℕ, List, ◌++◌, Option, None, Some, codes, decimal}
 use Rattle.tt.specs.Forest.{Root}
-use Rattle.tt_base.specs.declared.fault.TtFault.TheVariants.{Memory}
+use Rattle.tt_base.specs.declared.fault.TtFault.TheVariants.{Memory, TooManyTokens}
 use Rattle.mbe_rules.specs.Arms.{Arm, Spell}
 use Rattle.mbe_rules.specs.Expansions.{IsExpansion, IsExpandError}
 use Rattle.mbe_rules.specs.ArmFaults.{IsRulesError}
@@ -65,6 +65,7 @@ lengths_line = line (codes "lengths")
 abbrev pub unfilled_line : TranscribeError → List ℕ
 unfilled_line (filling.LengthsDiffer at) = lengths_line
 unfilled_line (filling.NoRound at) = lengths_line
+unfilled_line filling.OverLimit = fault_line TooManyTokens
 unfilled_line (filling.Tree fault) = fault_line fault
 
 -- the tree is the expansion of the input by the macro of these arms

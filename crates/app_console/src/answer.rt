@@ -231,6 +231,7 @@ impl Answer {
             TranscribeError::LengthsDiffer(_) | TranscribeError::NoRound(_) => Answer::fixed(
                 b"lengths\n",
             ),
+            TranscribeError::OverLimit => Answer::fault(TtFault::TooManyTokens),
             TranscribeError::Tree(fault) => Answer::fault(fault),
         }
     }

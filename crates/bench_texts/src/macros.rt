@@ -86,7 +86,9 @@ impl Macro {
             Err(error) => match error.fault {
                 TranscribeError::LengthsDiffer(at) => writeln!(out, "lengths {} {at}", error.arm)?,
                 TranscribeError::NoRound(at) => writeln!(out, "no round {} {at}", error.arm)?,
-                TranscribeError::Tree(_) => return Err(BenchError::NotExpanded(error)),
+                TranscribeError::OverLimit | TranscribeError::Tree(_) => {
+                    return Err(BenchError::NotExpanded(error));
+                }
             },
         }
         Ok(())

@@ -13,7 +13,8 @@ use Rattle.expand_text.specs.Capturing.{IsCaptureFound}
 use Rattle.expand_text.specs.declared.fault.MacroFault.{MacroFault}
 use Rattle.expand_text.specs.CallSites.{PutIn, IsKept}
 use Rattle.expand_text.specs.Contexts.{Config, Context, outside_call, tokens_left, with_finding}
-use Rattle.expand_text.specs.Macros.{IsRead, IsCallFault, MayBePut, Writes, called_by, arms_of, found_of, context_behind}
+use Rattle.expand_text.specs.Expecting.{IsExpectedFor}
+use Rattle.expand_text.specs.Macros.{IsRead, IsCallFault, MayBePut, Writes, called_by, arms_of, found_expecting, found_of, context_behind}
 use Rattle.expand_text.specs.Meaning.{ExpandsTo, ends, on_leaf, on_node, on_definition, on_inactive, on_other_call, into_other_call, into_attributes, on_faulty_call, on_call, on_kept_call, IsPlain, plain_behind, plain_behind_part, context_after, behind_call, rest_in, behind_in, begun_by, site_in, entered_in, begin_in, becomes_in, stays_in, body_in}
 use Rattle.expand_text.specs.Outcomes.{Outcome, nothing, passes, enters, stays, trees_left}
 use Rattle.expand_text.specs.Scopes.{Macro}
@@ -101,7 +102,8 @@ module _ (config : Config) (in_text : Bool) (limit : ℕ) (position : Position) 
   IsWrong arms it trees =
       (macro : Macro) × (at : ℕ) × (fault : MacroFault) × (others : Outcome) × (called_by config context it ≡ Some macro)
       × IsCallFault limit (tokens_left config context) arms it at fault
-      × ExpandsTo config in_text limit (behind (is_brace it.delimiter.kind) position) 0 (with_finding (found_of it macro at fault) context) (behind_call it trees) after others
+      × (expected : Option (List ℕ)) × IsExpectedFor arms it fault expected
+      × ExpandsTo config in_text limit (behind (is_brace it.delimiter.kind) position) 0 (with_finding (found_expecting it macro at fault expected) context) (behind_call it trees) after others
       × (outcome ≡ stays (front_trees it.len trees) others)
 
   -- a call with that expansion is replaced
@@ -194,9 +196,9 @@ begins {config = config} (into_other_call {in_text = in_text} {limit = limit} {p
 begins {config = config} (into_attributes {in_text = in_text} {limit = limit} {position = position} {context = context} {after = after} {it = it} {trees = trees} {others = others} going is some none behind) =
     calls_by config in_text limit position context after others it None trees going is none
     (goes_in config in_text limit position context after others it.attributes config.everywhere it trees some behind)
-begins {config = config} (on_faulty_call {in_text = in_text} {limit = limit} {position = position} {context = context} {after = after} {it = it} {macro = macro} {arms = arms} {trees = trees} {others = others} at fault going is called expands bad behind) =
+begins {config = config} (on_faulty_call {in_text = in_text} {limit = limit} {position = position} {context = context} {after = after} {it = it} {macro = macro} {arms = arms} {trees = trees} {others = others} at fault expected going is called expands bad wanted behind) =
     calls_by config in_text limit position context after (stays (front_trees it.len trees) others) it (Some arms) trees going is (ap arms_of called ∙ expands)
-    (inl (macro, at, fault, others, called, bad, behind, refl))
+    (inl (macro, at, fault, others, called, bad, expected, wanted, behind, refl))
 begins {config = config} (on_call {in_text = in_text} {limit = left} {position = position} {context = context} {noted = noted} {inside = inside} {after = after} {it = it} {macro = macro} {arms = arms} {trees = trees} {held = held} {others = others} tree put going is called expands makes captures within so may behind) =
     calls_by config in_text (suc left) position context after (becomes_in position it trees put others) it (Some arms) trees going is (ap arms_of called ∙ expands)
     (inr (tree, macro, noted, inside, held, called, makes, captures, within, inl (put, others, so, may, behind, refl)))

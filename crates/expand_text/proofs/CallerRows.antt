@@ -35,7 +35,7 @@ abbrev caller : List ℕ → (at : ℕ) → Option ℕ → Caller
 caller name at by = record { name = name; at = at; caller = by }
 
 abbrev finding : MacroFault → Option ℕ → Finding
-finding fault by = record { name = codes "u"; at = 2; fault = fault; defined_at = None; caller = by }
+finding fault by = record { name = codes "u"; at = 2; fault = fault; defined_at = None; expected = None; caller = by }
 
 -- Each call is listed behind the one that wrote it.
 listed : second.callers ≡ caller (codes "t") 7 None ∷ caller (codes "u") 2 (Some 0) ∷ []

@@ -110,7 +110,7 @@ module _ (config : Config) (in_text : Bool) (limit : ℕ) (rest : Forest) (now :
       found at fault = ap₂ finding is.name (is.defined ∙ sym from.defined)
         where
           finding : List ℕ → ℕ → Finding
-          finding name place = record { name = name; at = at; fault = fault; defined_at = Some place; caller = None }
+          finding name place = record { name = name; at = at; fault = fault; defined_at = Some place; expected = None; caller = None }
 
       entered : entered_by config i tree others ≡ entered_in config it rest tree others
       entered =

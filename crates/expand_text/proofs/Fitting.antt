@@ -38,7 +38,7 @@ comes_follow (on_other_call {it = it} going is bare unexpanded not_into others) 
 comes_follow (into_other_call going is bare unexpanded into others) laid are = comes_follow others laid are
 comes_follow (on_inactive {len = len} going is others) laid (stayed are) = comes_follow others (laid_behind len laid) are
 comes_follow (into_attributes going is some unexpanded others) laid are = comes_follow others laid are
-comes_follow (on_faulty_call {it = it} at fault going is called some faulty others) laid (stayed are) = comes_follow others (laid_behind it.len laid) are
+comes_follow (on_faulty_call {it = it} at fault expected going is called some faulty wanted others) laid (stayed are) = comes_follow others (laid_behind it.len laid) are
 comes_follow {config = config} (on_call {position = position} {it = it} {trees = trees} tree put going is called some expands noted held so may others) laid (stayed (became spells are)) =
     let (lies, behind) = call_laid config.root trees it position (calls_at is) laid in
     next lies (comes_follow others behind are)

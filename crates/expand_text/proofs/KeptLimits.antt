@@ -11,7 +11,7 @@ use Rattle.expand_text.specs.Meaning.{ExpandsTo, ends, on_leaf, on_node, on_defi
 use Rattle.expand_text.specs.Contexts.{Config, Context, asks_for, outside_call, with_finding}
 use Rattle.expand_text.specs.Limits.{names_limit, KeepLimits}
 use Rattle.expand_text.specs.Capturing.{IsCaptureFound, capture_found}
-use Rattle.expand_text.specs.Macros.{IsDefinedAt, IsReadIf, IsRead, called_by, context_behind, found_in, found_of, left_behind, unexported_by}
+use Rattle.expand_text.specs.Macros.{IsDefinedAt, IsReadIf, IsRead, called_by, context_behind, found_expecting, found_in, found_of, left_behind, unexported_by}
 use Rattle.expand_text.specs.Outcomes.{Outcome}
 use Rattle.expand_text.specs.Scopes.{Macro}
 
@@ -74,8 +74,8 @@ keep_before {config = config} (into_other_call {context = context} {it = it} goi
     keep_behind config it context (keep_before others keep)
 keep_before (on_inactive going is others) keep = keep_before others keep
 keep_before (into_attributes going is some unexpanded others) keep = keep_before others keep
-keep_before (on_faulty_call {context = context} {it = it} {macro = macro} at fault going is called some faulty others) keep =
-    (keep_found (found_of it macro at fault) context (keep_before others keep)).0
+keep_before (on_faulty_call {context = context} {it = it} {macro = macro} at fault expected going is called some faulty wanted others) keep =
+    (keep_found (found_expecting it macro at fault expected) context (keep_before others keep)).0
 keep_before (on_call {position = position} {context = context} {noted = noted} {it = it} {macro = macro} {trees = trees} tree put going is called some expands captures held so may others) keep =
     keep_capture macro.defined_at it (begun_by position it trees) (body_in position it trees tree) context noted captures (keep_before held (keep_before others keep))
 keep_before (on_kept_call {position = position} {context = context} {noted = noted} {inside = inside} {it = it} {macro = macro} {trees = trees} tree at fault going is called some expands captures held kept others) keep =

@@ -129,7 +129,7 @@ module _ (config : Config) (in_text : Bool) (limit : ℕ) (level : Level) (outer
       leads_faulty then is after (others ∷ more) (within, expands_to, behind) = (
         within,
         subst (λ n. ExpandsTo config in_text limit level.position n context level.rest within (stays (front_trees it.len level.rest) others)) (sym first)
-            (on_faulty_call is.at is.fault goes_on there is.called is.expands is.wrong
+            (on_faulty_call is.at is.fault is.expected goes_on there is.called is.expands is.wrong is.wanted
             (subst (λ k. ExpandsTo config in_text limit (past_end (is_brace it.delimiter.kind) level.position) 0 k (after_trees it.len level.rest) within others) is.found
             (subst (λ n. ExpandsTo config in_text limit (past_end (is_brace it.delimiter.kind) level.position) n then (after_trees it.len level.rest) within others) first expands_to))),
         behind,

@@ -1,9 +1,11 @@
+pub mod Alternatives
 pub mod Beginning
 pub mod CallParts
 pub mod CallPlaces
 pub mod CallerRows
 pub mod Calls
 pub mod Finishing
+pub mod ExpectingRows
 pub mod FirstFaults
 pub mod Fitting
 pub mod KeptLimits
@@ -15,6 +17,7 @@ pub mod NoneLeft
 pub mod Nth
 pub mod OneCapture
 pub mod OneExpansion
+pub mod OneExpected
 pub mod OneExport
 pub mod OneFault
 pub mod OneKept

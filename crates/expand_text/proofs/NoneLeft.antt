@@ -11,7 +11,7 @@ use Rattle.expand_text.specs.declared.fault.MacroFault.TheVariants as wrong
 use Rattle.expand_text.specs.Contexts.{Config, Context, asks_for, outside_call, with_finding}
 use Rattle.expand_text.specs.Left.{NoneIsLeft}
 use Rattle.expand_text.specs.Capturing.{IsCaptureFound, capture_found}
-use Rattle.expand_text.specs.Macros.{IsDefinedAt, IsReadIf, IsRead, called_by, context_behind, found_in, found_of, left_behind, unexported_by}
+use Rattle.expand_text.specs.Macros.{IsDefinedAt, IsReadIf, IsRead, called_by, context_behind, found_expecting, found_in, found_of, left_behind, unexported_by}
 use Rattle.expand_text.specs.Meaning.{ExpandsTo, ends, on_leaf, on_node, on_definition, on_inactive, on_other_call, into_other_call, into_attributes, on_faulty_call, on_call, on_kept_call, begun_by, body_in, context_after}
 use Rattle.expand_text.specs.Outcomes.{Outcome}
 use Rattle.expand_text.specs.Scopes.{Macro}
@@ -86,8 +86,8 @@ none_before {config = config} (into_other_call {context = context} {it = it} goi
     (behind_none config it context (none_before others none)).1
 none_before (on_inactive going is others) none = none_before others none
 none_before (into_attributes going is some unexpanded others) none = none_before others none
-none_before (on_faulty_call {context = context} {it = it} {macro = macro} at fault going is called some faulty others) none =
-    absurd (one_there (found_of it macro at fault) context (none_before others none))
+none_before (on_faulty_call {context = context} {it = it} {macro = macro} at fault expected going is called some faulty wanted others) none =
+    absurd (one_there (found_expecting it macro at fault expected) context (none_before others none))
 none_before (on_call {position = position} {context = context} {noted = noted} {it = it} {macro = macro} {trees = trees} tree put going is called some expands captures held so may others) none =
     (capture_none macro.defined_at it (begun_by position it trees) (body_in position it trees tree) context noted captures (none_before held (none_before others none))).0
 none_before (on_kept_call {noted = noted} {inside = inside} {it = it} {macro = macro} tree at fault going is called some expands captures held kept others) none =
@@ -115,8 +115,8 @@ none_left {config = config} (into_other_call {context = context} {it = call} goi
     ((quiet.0, it.0), it.1)
 none_left (on_inactive going is others) goes none = none_left others goes none
 none_left (into_attributes going is some unexpanded others) goes none = none_left others goes none
-none_left (on_faulty_call {context = context} {it = call} {macro = macro} at fault going is called some faulty others) goes none =
-    absurd (one_there (found_of call macro at fault) context (none_before others none))
+none_left (on_faulty_call {context = context} {it = call} {macro = macro} at fault expected going is called some faulty wanted others) goes none =
+    absurd (one_there (found_expecting call macro at fault expected) context (none_before others none))
 none_left (on_call {position = position} {context = context} {noted = noted} {inside = inside} {it = call} {macro = macro} {trees = trees} tree put going is called some expands captures held so may others) goes none =
     let known = capture_none macro.defined_at call (begun_by position call trees) (body_in position call trees tree) context noted captures (none_before held (none_before others none)) in
     let within = none_left held (known.1 goes) (none_before others none) in

@@ -1,7 +1,8 @@
 -- Arms make one thing of an input: a tree, no match, an ambiguity, or an error that names no limit of trees.
-use Rattle.std.proofs.Common.{◌≡◌, ℕ, suc, false, List, [], ◌∷◌, Some, inl, inr, max, refl, ap, ap₂, sym, subst, ◌∙◌, arith, true≢false}
-use Rattle.tt.specs.Forest.{Forest}
+use Rattle.std.proofs.Common.{◌≡◌, ℕ, suc, false, List, [], ◌∷◌, Option, None, Some, inl, inr, max, refl, ap, ap₂, sym, subst, ◌∙◌, arith, true≢false}
+use Rattle.tt.specs.Forest.{Forest, Root, size}
 use Rattle.tt.specs.TreeFault.{under}
+use Rattle.tt.specs.Types.Delimiter.{Delimiter}
 use Rattle.expand_text.specs.Limits.{is_limit}
 use Rattle.mbe_matcher.specs.Fronts.{StopsAt}
 use Rattle.mbe_matcher.specs.Readings.{Reading, IsReadBy, IsAmbiguous}
@@ -12,8 +13,10 @@ use Rattle.mbe_rules.specs.declared.rules_error.ExpandError.{ExpandError}
 use Rattle.mbe_rules.specs.declared.macro_rules.Expansion.{Expansion}
 use Rattle.mbe_rules.specs.declared.macro_rules.Expansion.TheVariants as expansion
 use Rattle.mbe_rules.specs.Arms.{Arm}
-use Rattle.mbe_rules.specs.Expansions.{written, IsRefusal, IsExpansion, IsExpandError}
-use Rattle.mbe_rules.specs.Transcribing.{TranscribeFault, lengths_differ, no_round}
+use Rattle.mbe_rules.specs.Expansions.{written, IsRefusalWithin, IsExpansion, IsExpansionWithin, IsExpandErrorWithin}
+use Rattle.mbe_rules.specs.Limits.{IsOver, IsWithin}
+use Rattle.mbe_rules.specs.Results.{IsTranscribed, IsTranscribeError}
+use Rattle.mbe_rules.specs.Transcribing.{Transcribed, lengths_differ, no_round}
 
 -- An input is read in one way.
 one_reading : (pattern : Pattern) (input : Forest) (a b : Reading) → IsReadBy pattern input a → IsReadBy pattern input b → a ≡ b
@@ -22,24 +25,54 @@ one_reading pattern input a b x y = y.alone a x.holds
 not_both : (pattern : Pattern) (input : Forest) (reading : Reading) → IsReadBy pattern input reading → IsAmbiguous pattern input → ⊥
 not_both pattern input reading read two = two.differ (read.alone two.one two.one_holds ∙ sym (read.alone two.other two.other_holds))
 
+abbrev expand_error : ℕ → TranscribeError → ExpandError
+expand_error arm why = record { arm = arm; fault = why }
+
 -- A pattern stops at one place.
 one_place : (pattern : Pattern) (input : Forest) (a b : ℕ) → StopsAt pattern input a → StopsAt pattern input b → a ≡ b
 one_place pattern input a b x y = omega (arith, x.least y.left y.comes, y.least x.left x.comes, x.place, y.place)
 
--- a fault of a template as an error, and an error of its parts
-abbrev error_of : TranscribeFault → TranscribeError
-error_of (lengths_differ at) = error.LengthsDiffer at
-error_of (no_round at) = error.NoRound at
+-- An error that names no limit of trees is that of the one reading of the input.
+refused : (most : Option ℕ) (arm : Arm) (input : Forest) (why : TranscribeError) → is_limit why ≡ false → IsRefusalWithin most arm input why
+    → (reading : Reading) × IsReadBy arm.pattern input reading × IsTranscribeError most arm.delimiter (written arm reading) why
+refused most arm input (error.LengthsDiffer at) free h = h
+refused most arm input (error.NoRound at) free h = h
+refused most arm input error.OverLimit free h = h
+refused most arm input (error.Tree why) free h = absurd (true≢false free)
 
-abbrev expand_error : ℕ → TranscribeError → ExpandError
-expand_error arm why = record { arm = arm; fault = why }
+-- So many tokens exceed a limit or do not.
+not_over : (most : Option ℕ) (count : ℕ) → IsOver most count → IsWithin most count → ⊥
+not_over None count over within = over
+not_over (Some n) count over within = omega (arith, over, within)
 
--- An arm that is not filled reads the input in one way, and its template has a fault.
-refused : (arm : Arm) (input : Forest) (why : TranscribeError) → is_limit why ≡ false → IsRefusal arm input why
-    → (reading : Reading) × (found : TranscribeFault) × IsReadBy arm.pattern input reading × ((written arm reading).fault ≡ Some found) × (why ≡ error_of found)
-refused arm input (error.LengthsDiffer at) free (reading, read, wrong) = (reading, lengths_differ at, read, wrong.0, refl)
-refused arm input (error.NoRound at) free (reading, read, wrong) = (reading, no_round at, read, wrong.0, refl)
-refused arm input (error.Tree why) free h = absurd (true≢false free)
+module _ (most : Option ℕ) (delimiter : Delimiter) (it : Transcribed) where
+  -- A template that is filled within the limit has no error.
+  filled_only : (tree : Root) (why : TranscribeError) → is_limit why ≡ false → IsTranscribed delimiter it tree → IsWithin most (size tree.children)
+      → IsTranscribeError most delimiter it why → ⊥
+  filled_only tree (error.LengthsDiffer at) free is within wrong = cc (sym is.sound ∙ wrong.0)
+  filled_only tree (error.NoRound at) free is within wrong = cc (sym is.sound ∙ wrong.0)
+  filled_only tree error.OverLimit free is within over = not_over most (size it.trees) over (subst (IsWithin most) (ap (λ t. size t.children) is.is) within)
+  filled_only tree (error.Tree why) free is within wrong = true≢false free
+
+  -- A template has one error.
+  one_refusal : (a b : TranscribeError) → is_limit a ≡ false → is_limit b ≡ false → IsTranscribeError most delimiter it a → IsTranscribeError most delimiter it b → a ≡ b
+  one_refusal (error.Tree why) b free none h k = absurd (true≢false free)
+  one_refusal a (error.Tree why) free none h k = absurd (true≢false none)
+  one_refusal (error.LengthsDiffer at) (error.LengthsDiffer place) free none h k =
+      let both : Some (lengths_differ at) ≡ Some (lengths_differ place) = sym h.0 ∙ k.0 in
+      let same : at ≡ place = cc both in
+      ap error.LengthsDiffer same
+  one_refusal (error.LengthsDiffer at) (error.NoRound place) free none h k = absurd (cc (sym h.0 ∙ k.0))
+  one_refusal (error.LengthsDiffer at) error.OverLimit free none h k = absurd (not_over most (size it.trees) k h.2)
+  one_refusal (error.NoRound at) (error.LengthsDiffer place) free none h k = absurd (cc (sym h.0 ∙ k.0))
+  one_refusal (error.NoRound at) (error.NoRound place) free none h k =
+      let both : Some (no_round at) ≡ Some (no_round place) = sym h.0 ∙ k.0 in
+      let same : at ≡ place = cc both in
+      ap error.NoRound same
+  one_refusal (error.NoRound at) error.OverLimit free none h k = absurd (not_over most (size it.trees) k h.2)
+  one_refusal error.OverLimit (error.LengthsDiffer place) free none h k = absurd (not_over most (size it.trees) h k.2)
+  one_refusal error.OverLimit (error.NoRound place) free none h k = absurd (not_over most (size it.trees) h k.2)
+  one_refusal error.OverLimit error.OverLimit free none h k = refl
 
 -- Arms expand an input to one thing.
 pub one_expansion : (arms : List Arm) (number farthest : ℕ) (input : Forest) (a b : Expansion) → IsExpansion arms number farthest input a → IsExpansion arms number farthest input b → a ≡ b
@@ -67,38 +100,40 @@ one_expansion (arm ∷ others) number farthest input (expansion.Tree t) (expansi
 one_expansion (arm ∷ others) number farthest input (expansion.Tree s) (expansion.Tree t) (inr (reading, read, is)) (inr (other, again, was)) =
     ap expansion.Tree (is.is ∙ ap (λ r. under arm.delimiter (written arm r).trees) (one_reading arm.pattern input reading other read again) ∙ sym was.is)
 
--- Arms that expand an input give no error.
-pub no_error : (arms : List Arm) (number farthest : ℕ) (input : Forest) (a : Expansion) (b : ExpandError) → IsExpansion arms number farthest input a → IsExpandError arms number input b
-    → is_limit b.fault ≡ false → ⊥
-no_error [] number farthest input a b h k free = k
-no_error (arm ∷ others) number farthest input a b (inl (at, none, h)) (inl (again, k)) free = no_error others (suc number) (max farthest at) input a b h k free
-no_error (arm ∷ others) number farthest input a b (inl (at, none, h)) (inr (is, k)) free =
-    let it = refused arm input b.fault free k in
-    none.0 it.0 it.2.holds
-no_error (arm ∷ others) number farthest input (expansion.NoMatch x) b (inr h) k free = h
-no_error (arm ∷ others) number farthest input (expansion.Ambiguous n) b (inr h) (inl (none, k)) free = none h.1.one h.1.one_holds
-no_error (arm ∷ others) number farthest input (expansion.Ambiguous n) b (inr h) (inr (is, k)) free =
-    let it = refused arm input b.fault free k in
-    not_both arm.pattern input it.0 it.2 h.1
-no_error (arm ∷ others) number farthest input (expansion.Tree t) b (inr (reading, read, filled)) (inl (none, k)) free = none reading read.holds
-no_error (arm ∷ others) number farthest input (expansion.Tree t) b (inr (reading, read, filled)) (inr (is, k)) free =
-    let it = refused arm input b.fault free k in
-    cc (sym filled.sound ∙ ap (λ r. (written arm r).fault) (one_reading arm.pattern input reading it.0 read it.2) ∙ it.3)
+module _ (most : Option ℕ) (input : Forest) where
+  -- Arms that expand an input within the limit give no error.
+  pub no_error : (arms : List Arm) (number farthest : ℕ) (a : Expansion) (b : ExpandError) → IsExpansion arms number farthest input a → IsExpansionWithin most a
+      → IsExpandErrorWithin most arms number input b → is_limit b.fault ≡ false → ⊥
+  no_error [] number farthest a b h within k free = k
+  no_error (arm ∷ others) number farthest a b (inl (at, none, h)) within (inl (again, k)) free = no_error others (suc number) (max farthest at) a b h within k free
+  no_error (arm ∷ others) number farthest a b (inl (at, none, h)) within (inr (is, k)) free =
+      let it = refused most arm input b.fault free k in
+      none.0 it.0 it.1.holds
+  no_error (arm ∷ others) number farthest (expansion.NoMatch x) b (inr h) within k free = h
+  no_error (arm ∷ others) number farthest (expansion.Ambiguous n) b (inr h) within (inl (none, k)) free = none h.1.one h.1.one_holds
+  no_error (arm ∷ others) number farthest (expansion.Ambiguous n) b (inr h) within (inr (is, k)) free =
+      let it = refused most arm input b.fault free k in
+      not_both arm.pattern input it.0 it.1 h.1
+  no_error (arm ∷ others) number farthest (expansion.Tree t) b (inr (reading, read, filled)) within (inl (none, k)) free = none reading read.holds
+  no_error (arm ∷ others) number farthest (expansion.Tree t) b (inr (reading, read, filled)) within (inr (is, k)) free =
+      let it = refused most arm input b.fault free k in
+      filled_only most arm.delimiter (written arm reading) t b.fault free filled within
+      (subst (λ r. IsTranscribeError most arm.delimiter (written arm r) b.fault) (one_reading arm.pattern input it.0 reading it.1 read) it.2)
 
--- Arms give one error.
-pub one_error : (arms : List Arm) (number : ℕ) (input : Forest) (a b : ExpandError) → IsExpandError arms number input a → IsExpandError arms number input b
-    → is_limit a.fault ≡ false → is_limit b.fault ≡ false → a ≡ b
-one_error [] number input a b h k free none = absurd h
-one_error (arm ∷ others) number input a b (inl (x, h)) (inl (y, k)) free none = one_error others (suc number) input a b h k free none
-one_error (arm ∷ others) number input a b (inl (x, h)) (inr (was, k)) free none =
-    let it = refused arm input b.fault none k in
-    absurd (x it.0 it.2.holds)
-one_error (arm ∷ others) number input a b (inr (is, h)) (inl (y, k)) free none =
-    let it = refused arm input a.fault free h in
-    absurd (y it.0 it.2.holds)
-one_error (arm ∷ others) number input a b (inr (is, h)) (inr (was, k)) free none =
-    let it = refused arm input a.fault free h in
-    let other = refused arm input b.fault none k in
-    let same : Some it.1 ≡ Some other.1 = sym it.3 ∙ ap (λ r. (written arm r).fault) (one_reading arm.pattern input it.0 other.0 it.2 other.2) ∙ other.3 in
-    let found : it.1 ≡ other.1 = cc same in
-    ap₂ expand_error (is ∙ sym was) (it.4 ∙ ap error_of found ∙ sym other.4)
+  -- Arms give one error.
+  pub one_error : (arms : List Arm) (number : ℕ) (a b : ExpandError) → IsExpandErrorWithin most arms number input a → IsExpandErrorWithin most arms number input b
+      → is_limit a.fault ≡ false → is_limit b.fault ≡ false → a ≡ b
+  one_error [] number a b h k free none = absurd h
+  one_error (arm ∷ others) number a b (inl (x, h)) (inl (y, k)) free none = one_error others (suc number) a b h k free none
+  one_error (arm ∷ others) number a b (inl (x, h)) (inr (was, k)) free none =
+      let it = refused most arm input b.fault none k in
+      absurd (x it.0 it.1.holds)
+  one_error (arm ∷ others) number a b (inr (is, h)) (inl (y, k)) free none =
+      let it = refused most arm input a.fault free h in
+      absurd (y it.0 it.1.holds)
+  one_error (arm ∷ others) number a b (inr (is, h)) (inr (was, k)) free none =
+      let it = refused most arm input a.fault free h in
+      let other = refused most arm input b.fault none k in
+      let same = one_refusal most arm.delimiter (written arm it.0) a.fault b.fault free none it.2
+      (subst (λ r. IsTranscribeError most arm.delimiter (written arm r) b.fault) (one_reading arm.pattern input other.0 it.0 other.1 it.1) other.2) in
+      ap₂ expand_error (is ∙ sym was) same

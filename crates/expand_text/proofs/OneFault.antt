@@ -1,14 +1,14 @@
 -- A definition is read in one way, and the input of a call has one fault, if no finding names a limit of trees.
-use Rattle.std.proofs.Common.{◌≡◌, ◌≢◌, ℕ, zero, suc, Bool, true, false, List, None, inl, inr, refl, ap, ap₂, sym, subst, ◌∙◌, arith, true≢false}
-use Rattle.tt.specs.Forest.{Forest, Root, size}
+use Rattle.std.proofs.Common.{◌≡◌, ◌≢◌, ℕ, zero, suc, Bool, true, false, List, None, Some, inl, inr, refl, ap, ap₂, sym, subst, ◌∙◌, arith, true≢false}
+use Rattle.tt.specs.Forest.{Forest, Root}
 use Rattle.tt.specs.Span.{start_of}
 use Rattle.expand_items.specs.declared.position.Position.{Position}
 use Rattle.expand_items.specs.Items.{Definition, Call}
 use Rattle.expand_text.specs.declared.fault.MacroFault.{MacroFault}
 use Rattle.expand_text.specs.declared.fault.MacroFault.TheVariants as wrong
 use Rattle.expand_text.specs.Contexts.{Config, Context, asks_for, with_macro, with_finding}
-use Rattle.expand_text.specs.Limits.{names_limit, KeepLimits}
-use Rattle.expand_text.specs.Macros.{macro_of, macro_with, IsDefinitionFault, found_in, IsDefined, IsDefinedAt, IsReadIf, IsRead, IsInputFault, IsCallFault, Writes}
+use Rattle.expand_text.specs.Limits.{is_limit, names_limit, KeepLimits}
+use Rattle.expand_text.specs.Macros.{macro_of, macro_with, IsDefinitionFault, found_in, IsDefined, IsDefinedAt, IsReadIf, IsRead, IsInputFault, IsCallFault, Writes, over_limit}
 use Rattle.expand_text.specs.Places.{byte_at, definition_byte}
 use Rattle.expand_text.specs.Roots.{rooted}
 use Rattle.expand_text.proofs.KeptLimits.{keep_found}
@@ -16,10 +16,12 @@ use Rattle.expand_text.proofs.OneExpansion.{one_expansion, no_error, one_error}
 use Rattle.expand_text.proofs.OneMacro.{one_spelled, no_rules_error, one_rules_error}
 use Rattle.mbe_rules.specs.Arms.{Arm}
 use Rattle.mbe_rules.specs.ArmFaults.{IsRulesError}
-use Rattle.mbe_rules.specs.Expansions.{IsExpansion}
+use Rattle.mbe_rules.specs.Expansions.{IsExpansion, IsExpandErrorWithin}
 use Rattle.mbe_rules.specs.declared.macro_rules.Expansion.TheVariants as expansion
 use Rattle.mbe_rules.specs.declared.rules_error.ArmFault.TheVariants as arm_fault
+use Rattle.mbe_rules.specs.declared.rules_error.ExpandError.{ExpandError}
 use Rattle.mbe_rules.specs.declared.rules_error.RulesError.{RulesError}
+use Rattle.mbe_rules.specs.declared.transcribe_error.TranscribeError.TheVariants as error
 
 -- A definition's fault that names no limit is one of its arms.
 arms_wrong : (it : Definition) (trees : Forest) (at : ℕ) (found : MacroFault) → IsDefinitionFault it trees at found → names_limit found ≡ false
@@ -78,9 +80,21 @@ module _ (allowed : ℕ) (arms : List Arm) (it : Call) where
   pub no_fault : (tree : Root) (at : ℕ) (found : MacroFault) → Writes allowed arms it tree → IsInputFault allowed arms it at found → names_limit found ≡ false → ⊥
   no_fault tree at wrong.NoMatch h k free = cc (one_expansion arms 0 0 it.input (expansion.Tree tree) (expansion.NoMatch k.0) h.0 k.1)
   no_fault tree at (wrong.Ambiguous n) h k free = cc (one_expansion arms 0 0 it.input (expansion.Tree tree) (expansion.Ambiguous n) h.0 k.0)
-  no_fault tree at (wrong.Expansion why) h k free = no_error arms 0 0 it.input (expansion.Tree tree) why h.0 k.0 free
-  no_fault tree at wrong.OverMaxTokens h k free = omega (arith, h.1, k.2, ap (λ t. size t.children) (one_tree tree k.0 h.0 k.1))
+  no_fault tree at (wrong.Expansion why) h k free = no_error (Some allowed) it.input arms 0 0 (expansion.Tree tree) why h.0 h.1 k.0 free
+  no_fault tree at wrong.OverMaxTokens h k free = no_error (Some allowed) it.input arms 0 0 (expansion.Tree tree) (over_limit k.0) h.0 h.1 k.1 refl
   no_fault tree at found h k free = k
+
+  -- An input that no arm matches, or that one matches in two ways, has no error.
+  unmatched : (place : ℕ) (why : ExpandError) → IsExpansion arms 0 0 it.input (expansion.NoMatch place) → IsExpandErrorWithin (Some allowed) arms 0 it.input why → is_limit why.fault ≡ false → ⊥
+  unmatched place why h k free = no_error (Some allowed) it.input arms 0 0 (expansion.NoMatch place) why h tt k free
+
+  read_twice : (n : ℕ) (why : ExpandError) → IsExpansion arms 0 0 it.input (expansion.Ambiguous n) → IsExpandErrorWithin (Some allowed) arms 0 it.input why → is_limit why.fault ≡ false → ⊥
+  read_twice n why h k free = no_error (Some allowed) it.input arms 0 0 (expansion.Ambiguous n) why h tt k free
+
+  -- If an arm would write too many tokens, no other error is given.
+  over_only : (n : ℕ) (why : ExpandError) → IsExpandErrorWithin (Some allowed) arms 0 it.input (over_limit n) → IsExpandErrorWithin (Some allowed) arms 0 it.input why → is_limit why.fault ≡ false
+      → why.fault ≡ error.OverLimit
+  over_only n why h k free = ap (λ e. e.fault) (one_error (Some allowed) it.input arms 0 why (over_limit n) k h free refl)
 
   -- An input has one fault.
   one_input : (at place : ℕ) (found other : MacroFault) → IsInputFault allowed arms it at found → IsInputFault allowed arms it place other → names_limit found ≡ false → names_limit other ≡ false
@@ -91,9 +105,8 @@ module _ (allowed : ℕ) (arms : List Arm) (it : Call) where
       (h.2 ∙ ap (λ n. byte_at it.input n (start_of it.delimiter.close.range)) same ∙ sym k.2, refl)
   one_input at place wrong.NoMatch (wrong.Ambiguous m) h k free none =
       absurd (cc (one_expansion arms 0 0 it.input (expansion.NoMatch h.0) (expansion.Ambiguous m) h.1 k.0))
-  one_input at place wrong.NoMatch (wrong.Expansion why) h k free none = absurd (no_error arms 0 0 it.input (expansion.NoMatch h.0) why h.1 k.0 none)
-  one_input at place wrong.NoMatch wrong.OverMaxTokens h k free none =
-      absurd (cc (one_expansion arms 0 0 it.input (expansion.NoMatch h.0) (expansion.Tree k.0) h.1 k.1))
+  one_input at place wrong.NoMatch (wrong.Expansion why) h k free none = absurd (unmatched h.0 why h.1 k.0 none)
+  one_input at place wrong.NoMatch wrong.OverMaxTokens h k free none = absurd (unmatched h.0 (over_limit k.0) h.1 k.1 refl)
   one_input at place wrong.NoMatch other h k free none = absurd k
   one_input at place (wrong.Ambiguous n) wrong.NoMatch h k free none =
       absurd (cc (one_expansion arms 0 0 it.input (expansion.Ambiguous n) (expansion.NoMatch k.0) h.0 k.1))
@@ -101,22 +114,19 @@ module _ (allowed : ℕ) (arms : List Arm) (it : Call) where
       let both = one_expansion arms 0 0 it.input (expansion.Ambiguous n) (expansion.Ambiguous m) h.0 k.0 in
       let same : n ≡ m = cc both in
       (h.1 ∙ sym k.1, ap wrong.Ambiguous same)
-  one_input at place (wrong.Ambiguous n) (wrong.Expansion why) h k free none = absurd (no_error arms 0 0 it.input (expansion.Ambiguous n) why h.0 k.0 none)
-  one_input at place (wrong.Ambiguous n) wrong.OverMaxTokens h k free none =
-      absurd (cc (one_expansion arms 0 0 it.input (expansion.Ambiguous n) (expansion.Tree k.0) h.0 k.1))
+  one_input at place (wrong.Ambiguous n) (wrong.Expansion why) h k free none = absurd (read_twice n why h.0 k.0 none)
+  one_input at place (wrong.Ambiguous n) wrong.OverMaxTokens h k free none = absurd (read_twice n (over_limit k.0) h.0 k.1 refl)
   one_input at place (wrong.Ambiguous n) other h k free none = absurd k
-  one_input at place (wrong.Expansion why) wrong.NoMatch h k free none = absurd (no_error arms 0 0 it.input (expansion.NoMatch k.0) why k.1 h.0 free)
-  one_input at place (wrong.Expansion why) (wrong.Ambiguous m) h k free none = absurd (no_error arms 0 0 it.input (expansion.Ambiguous m) why k.0 h.0 free)
+  one_input at place (wrong.Expansion why) wrong.NoMatch h k free none = absurd (unmatched k.0 why k.1 h.0 free)
+  one_input at place (wrong.Expansion why) (wrong.Ambiguous m) h k free none = absurd (read_twice m why k.0 h.0 free)
   one_input at place (wrong.Expansion why) (wrong.Expansion that) h k free none =
-      (h.2 ∙ sym k.2, ap wrong.Expansion (one_error arms 0 it.input why that h.0 k.0 free none))
-  one_input at place (wrong.Expansion why) wrong.OverMaxTokens h k free none = absurd (no_error arms 0 0 it.input (expansion.Tree k.0) why k.1 h.0 free)
+      (h.3 ∙ sym k.3, ap wrong.Expansion (one_error (Some allowed) it.input arms 0 why that h.0 k.0 free none))
+  one_input at place (wrong.Expansion why) wrong.OverMaxTokens h k free none = absurd (h.2 (over_only k.0 why k.1 h.0 free))
   one_input at place (wrong.Expansion why) other h k free none = absurd k
-  one_input at place wrong.OverMaxTokens wrong.OverMaxTokens h k free none = (h.3 ∙ sym k.3, refl)
-  one_input at place wrong.OverMaxTokens wrong.NoMatch h k free none =
-      absurd (cc (one_expansion arms 0 0 it.input (expansion.Tree h.0) (expansion.NoMatch k.0) h.1 k.1))
-  one_input at place wrong.OverMaxTokens (wrong.Ambiguous m) h k free none =
-      absurd (cc (one_expansion arms 0 0 it.input (expansion.Tree h.0) (expansion.Ambiguous m) h.1 k.0))
-  one_input at place wrong.OverMaxTokens (wrong.Expansion why) h k free none = absurd (no_error arms 0 0 it.input (expansion.Tree h.0) why h.1 k.0 none)
+  one_input at place wrong.OverMaxTokens wrong.OverMaxTokens h k free none = (h.2 ∙ sym k.2, refl)
+  one_input at place wrong.OverMaxTokens wrong.NoMatch h k free none = absurd (unmatched k.0 (over_limit h.0) k.1 h.1 refl)
+  one_input at place wrong.OverMaxTokens (wrong.Ambiguous m) h k free none = absurd (read_twice m (over_limit h.0) k.0 h.1 refl)
+  one_input at place wrong.OverMaxTokens (wrong.Expansion why) h k free none = absurd (k.2 (over_only h.0 why h.1 k.0 none))
   one_input at place wrong.OverMaxTokens other h k free none = absurd k
   one_input at place found other h k free none = absurd h
 

@@ -1,5 +1,5 @@
 -- Trees expand to one thing, if no finding names a limit of trees.
-use Rattle.std.proofs.Common.{◌≡◌, ◌⊎◌, ℕ, zero, suc, Bool, false, List, None, Some, inl, inr, ap, ap₂, sym, subst, subst₂, ◌∙◌}
+use Rattle.std.proofs.Common.{◌≡◌, ◌⊎◌, ℕ, zero, suc, Bool, false, List, Option, None, Some, inl, inr, ap, ap₂, sym, subst, subst₂, refl, ◌∙◌}
 use Rattle.tt.specs.Forest.{Forest, Root, leaf, node}
 use Rattle.tt.specs.Span.{start_of}
 use Rattle.expand_items.specs.declared.position.Position.{Position}
@@ -10,13 +10,15 @@ use Rattle.expand_text.specs.CallSites.{PutIn, IsKept}
 use Rattle.expand_text.specs.Capturing.{IsCaptureFound}
 use Rattle.expand_text.specs.Contexts.{Config, Context, outside_call, tokens_left, with_finding}
 use Rattle.expand_text.specs.Limits.{names_limit, KeepLimits}
-use Rattle.expand_text.specs.Macros.{IsCallFault, MayBePut, Writes, called_by, arms_of, found_of}
+use Rattle.expand_text.specs.Expecting.{IsExpectedFor}
+use Rattle.expand_text.specs.Macros.{IsCallFault, MayBePut, Writes, called_by, arms_of, found_expecting, found_of}
 use Rattle.expand_text.specs.Meaning.{ExpandsTo, ends, on_leaf, on_node, on_definition, on_inactive, on_other_call, into_other_call, into_attributes, on_faulty_call, on_call, on_kept_call, context_after, begun_by, site_in, entered_in, begin_in, becomes_in, stays_in, body_in}
 use Rattle.expand_text.specs.Outcomes.{Outcome, passes, enters, stays, trees_left}
 use Rattle.expand_text.specs.Scopes.{Macro}
 use Rattle.expand_text.proofs.Beginning.{plain_first, end_first, item_first, Leaves, IsWrong, Changes, Stays, Settles, Tries, goes_out, begins_by, begins_call}
 use Rattle.expand_text.proofs.KeptLimits.{keep_found, keep_inside, keep_before}
 use Rattle.expand_text.proofs.OneCapture.{one_capture}
+use Rattle.expand_text.proofs.OneExpected.{one_expected}
 use Rattle.expand_text.proofs.OneFault.{one_read, one_tree, no_fault, one_fault}
 use Rattle.expand_text.proofs.OneKept.{one_kept, never_kept}
 use Rattle.expand_text.proofs.OnePlacing.{one_shown}
@@ -53,10 +55,12 @@ same_held config left position it trees tree made noted known inside held filled
     (subst (λ t. ExpandsTo config false left (begun_by position it trees) 0 (entered_in config it trees made known) (body_in position it trees t) inside held) (sym filled) within)
 
 -- The same finding makes the same known.
-same_found : (it : Call) (context : Context) (a b : Macro) (at place : ℕ) (found wrong : MacroFault) → a ≡ b → (at ≡ place) × (found ≡ wrong)
-    → with_finding (found_of it a at found) context ≡ with_finding (found_of it b place wrong) context
-same_found it context a b at place found wrong macro same =
-    ap (λ m. with_finding (found_of it m at found) context) macro ∙ ap₂ (λ n f. with_finding (found_of it b n f) context) same.0 same.1
+same_found : (it : Call) (context : Context) (a b : Macro) (at place : ℕ) (found wrong : MacroFault) (first second : Option (List ℕ)) → a ≡ b → (at ≡ place) × (found ≡ wrong) → first ≡ second
+    → with_finding (found_expecting it a at found first) context ≡ with_finding (found_expecting it b place wrong second) context
+same_found it context a b at place found wrong first second macro same expected =
+    ap (λ m. with_finding (found_expecting it m at found first) context) macro
+    ∙ ap₂ (λ n f. with_finding (found_expecting it b n f first) context) same.0 same.1
+    ∙ ap (λ e. with_finding (found_expecting it b place wrong e) context) expected
 
 module _ (config : Config) (in_text : Bool) (position : Position) (context after : Context) (outcome : Outcome) (arms : List Arm) (it : Call) (trees : Forest) where
   -- If a call has a fault, it is not expanded.
@@ -72,7 +76,7 @@ module _ (config : Config) (in_text : Bool) (position : Position) (context after
       → IsWrong config in_text (suc left) position context after outcome arms it trees ⊎ Tries config in_text (suc left) position context after outcome (suc left) arms it trees
       → Tries config in_text (suc left) position context after outcome (suc left) arms it trees
   tries_only left tree makes keep (inl so) =
-      absurd (no_fault (tokens_left config context) arms it tree so.1 so.2 makes so.5 (keep_found (found_of it so.0 so.1 so.2) context (keep_before so.6 keep)).1)
+      absurd (no_fault (tokens_left config context) arms it tree so.1 so.2 makes so.5 (keep_found (found_expecting it so.0 so.1 so.2 so.6) context (keep_before so.8 keep)).1)
   tries_only left tree makes keep (inr so) = so
 
   module _ (limit left : ℕ) (tree : Root) (noted inside : Context) (held : Outcome) where
@@ -141,13 +145,15 @@ one_outcome {config = config} {in_text = in_text} {limit = limit} {again = again
 one_outcome {config = config} {in_text = in_text} {limit = limit} {again = again} {that = that} (into_attributes {position = position} {context = context} {it = it} {trees = trees} going is some none behind) second x y =
     let go = goes_out config in_text limit position context again that it.attributes config.everywhere it trees some (begins_call second it None going is none) in
     one_outcome behind go x y
-one_outcome {config = config} {in_text = in_text} {limit = limit} {again = again} {that = that} (on_faulty_call {position = position} {context = context} {it = it} {macro = macro} {arms = arms} {trees = trees} at fault going is called expands bad behind) second x y =
-    let free = (keep_found (found_of it macro at fault) context (keep_before behind x)).1 in
+one_outcome {config = config} {in_text = in_text} {limit = limit} {again = again} {that = that} (on_faulty_call {position = position} {context = context} {it = it} {macro = macro} {arms = arms} {trees = trees} at fault expected going is called expands bad wanted behind) second x y =
+    let free = (keep_found (found_expecting it macro at fault expected) context (keep_before behind x)).1 in
     let go = wrong_only config in_text position context again that arms it trees limit at fault bad free (begins_call second it (Some arms) going is (ap arms_of called ∙ expands)) in
-    let none = (keep_found (found_of it go.0 go.1 go.2) context (keep_before go.6 y)).1 in
-    let known = same_found it context macro go.0 at go.1 fault go.2 (one_called config context it macro go.0 called go.4) (one_fault (tokens_left config context) arms it limit at go.1 fault go.2 bad go.5 free none) in
-    let same = one_outcome behind (moved known go.6) x y in
-    (same.0, ap (stays (front_trees it.len trees)) same.1 ∙ sym go.7)
+    let none = (keep_found (found_expecting it go.0 go.1 go.2 go.6) context (keep_before go.8 y)).1 in
+    let one = one_fault (tokens_left config context) arms it limit at go.1 fault go.2 bad go.5 free none in
+    let same_expected = one_expected arms it go.2 expected go.6 (subst (λ f. IsExpectedFor arms it f expected) one.1 wanted) go.7 in
+    let known = same_found it context macro go.0 at go.1 fault go.2 expected go.6 (one_called config context it macro go.0 called go.4) one same_expected in
+    let same = one_outcome behind (moved known go.8) x y in
+    (same.0, ap (stays (front_trees it.len trees)) same.1 ∙ sym go.9)
 one_outcome {config = config} {in_text = in_text} {again = again} {that = that} (on_call {limit = left} {position = position} {context = context} {noted = noted} {inside = inside} {it = it} {macro = macro} {arms = arms} {trees = trees} {held = held} tree put going is called expands makes captures within fits may behind) second x y =
     let go = tries_only config in_text position context again that arms it trees left tree makes y (begins_call second it (Some arms) going is (ap arms_of called ∙ expands)) in
     let filled = one_tree (tokens_left config context) arms it tree go.0 makes.0 go.6.0 in
@@ -172,6 +178,6 @@ one_outcome {config = config} {in_text = in_text} {again = again} {that = that} 
     (same_settled config in_text position context again that arms it trees (suc left) left tree go.0 noted go.2 inside go.3 held go.4 filled same_there one.0 one.1 go.9) in
     let none = (keep_found (found_of it so.0 so.1 so.2) (outside_call noted inside) (keep_before so.6 y)).1 in
     let reason = one_kept (site_in position it trees tree) (trees_left held) in_text (start_of (begin_in it trees).range) at so.1 fault so.2 kept so.5 first.1 none in
-    let known = same_found it (outside_call noted inside) macro so.0 at so.1 fault so.2 (one_called config context it macro so.0 called so.4) reason in
+    let known = same_found it (outside_call noted inside) macro so.0 at so.1 fault so.2 None None (one_called config context it macro so.0 called so.4) reason refl in
     let same = one_outcome behind (moved known so.6) x y in
     (same.0, ap (stays_in position it trees) same.1 ∙ sym so.7)

@@ -126,7 +126,7 @@ comes_quiet {config = config} (into_other_call {context = context} {it = it} goi
     let behind = comes_quiet others are (bare_same _ context same none) lacks in
     (behind.0, behind.1 ∙ same)
 comes_quiet (into_attributes going is some unexpanded others) are none lacks = comes_quiet others are none lacks
-comes_quiet {config = config} (on_faulty_call {context = context} {it = it} at fault going is called some faulty others) are none lacks =
+comes_quiet {config = config} (on_faulty_call {context = context} {it = it} at fault expected going is called some faulty wanted others) are none lacks =
     absurd (cc (sym (called_none config context it none) ∙ called))
 comes_quiet {config = config} (on_call {context = context} {it = it} tree put going is called some expands noted held so may others) are none lacks =
     absurd (cc (sym (called_none config context it none) ∙ called))

@@ -306,7 +306,7 @@ module _ (config : Config) where
       comes_woven expands_to are before (record { begins = λ long. held.begins refl; point = λ follows at. omega (arith, held.point follows at) }) more others woven then
   comes_woven (into_attributes goes_on is some none expands_to) are before held more others woven then =
       comes_woven expands_to are before (record { begins = λ long. held.begins refl; point = λ follows at. omega (arith, held.point follows at) }) more others woven then
-  comes_woven (on_faulty_call {position = position} {it = it} {trees = trees} {others = behind} at fault goes_on is called some wrong expands_to) (stayed {splices = splices} are) before held more others woven then =
+  comes_woven (on_faulty_call {position = position} {it = it} {trees = trees} {others = behind} at fault expected goes_on is called some wrong wanted expands_to) (stayed {splices = splices} are) before held more others woven then =
       moved refl refl (sym (append_assoc (sorts (spelled (front_trees it.len trees))) (sorts_left behind) woven))
       (stays_woven trees (front_trees it.len trees) (after_trees it.len trees) (front_joined it.len trees) (ends_alone config.root position trees it (calls_at is)) before more (splices ++ others) (sorts_left behind ++ woven)
       (λ b h. comes_woven expands_to are b h more others woven then))

@@ -1,5 +1,5 @@
 -- What a call expands to.
-use Rattle.std.specs.Prelude.{◌≡◌, ◌<◌, ◌≤◌, ℕ, suc, List, None, Some}
+use Rattle.std.specs.Prelude.{◌≡◌, ◌<◌, ◌≤◌, ℕ, suc, List, Option, None, Some}
 use Rattle.tt.specs.Forest.{Root, size}
 use Rattle.expand_text.specs.declared.calling.Called.{Called}
 use Rattle.expand_text.specs.declared.calling.Called.TheVariants as called
@@ -8,19 +8,20 @@ use Rattle.expand_text.specs.declared.calling.Made.TheVariants as made
 use Rattle.expand_text.specs.declared.fault.MacroFault.{MacroFault}
 use Rattle.expand_items.specs.Items.{Call}
 use Rattle.expand_text.specs.Contexts.{Config, Context, with_finding, tokens_left}
-use Rattle.expand_text.specs.Macros.{IsCallFault, Writes, called_by, arms_of, found_of, context_behind}
+use Rattle.expand_text.specs.Expecting.{IsExpectedFor}
+use Rattle.expand_text.specs.Macros.{IsCallFault, Writes, called_by, arms_of, found_expecting, context_behind}
 use Rattle.expand_text.specs.Scopes.{Macro}
 use Rattle.mbe_rules.specs.Arms.{Arm}
 
--- what arms make of a call, with at most so many nested expansions and so many tokens: a tree, or a fault and its byte
+-- what arms make of a call, with at most so many nested expansions and so many tokens: a tree, or a fault, its byte and what is expected there
 abbrev pub IsMade : (limit allowed : ℕ) → List Arm → Call → Made → Type 0
 IsMade limit allowed arms it (made.Tree tree) = (left : ℕ) × (limit ≡ suc left) × Writes allowed arms it tree
-IsMade limit allowed arms it (made.Faulty at fault) = IsCallFault limit allowed arms it at fault
+IsMade limit allowed arms it (made.Faulty at fault expected) = IsCallFault limit allowed arms it at fault × IsExpectedFor arms it fault expected
 
 -- a tree is made only if one expansion more is allowed, and so many tokens
 abbrev pub IsMadeWithin : (limit allowed : ℕ) → Made → Type 0
 IsMadeWithin limit allowed (made.Tree tree) = (0 < limit) × (size tree.children ≤ allowed)
-IsMadeWithin limit allowed (made.Faulty at fault) = Unit {0}
+IsMadeWithin limit allowed (made.Faulty at fault expected) = Unit {0}
 
 abbrev pub IsCalledWithin : (limit allowed : ℕ) → Called → Type 0
 IsCalledWithin limit allowed called.Other = Unit {0}
@@ -33,10 +34,12 @@ pub record IsFaulty (config : Config) (limit : ℕ) (it : Call) (before after : 
   pub arms : List Arm
   pub at : ℕ
   pub fault : MacroFault
+  pub expected : Option (List ℕ)
   pub called : called_by config before it ≡ Some macro
   pub expands : macro.arms ≡ Some arms
   pub wrong : IsCallFault limit (tokens_left config before) arms it at fault
-  pub found : after ≡ with_finding (found_of it macro at fault) before
+  pub wanted : IsExpectedFor arms it fault expected
+  pub found : after ≡ with_finding (found_expecting it macro at fault expected) before
 
 -- a call of a macro whose name begins at that byte in its definition expands to a tree
 pub record IsExpanded (config : Config) (limit : ℕ) (it : Call) (tree : Root) (defined_at : ℕ) (before after : Context) : Type 0 where

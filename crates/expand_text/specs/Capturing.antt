@@ -23,7 +23,7 @@ expand_to siblings.Others = to.Expr
 -- the finding of a captured name, at that name
 abbrev pub capture_found : (defined_at : ℕ) → Call → Capture → Finding
 capture_found defined_at it found =
-    record { name = it.name.sym; at = start_of found.captured.range; fault = wrong.Captured (start_of found.binding.range); defined_at = Some defined_at; caller = None }
+    record { name = it.name.sym; at = start_of found.captured.range; fault = wrong.Captured (start_of found.binding.range); defined_at = Some defined_at; expected = None; caller = None }
 
 -- what is known after a name of the call is captured; or none is
 abbrev pub with_capture : (defined_at : ℕ) → Call → Option Capture → Context → Context

@@ -41,7 +41,7 @@ body_of it tree = body it.is_statement tree
 
 -- a finding in a call
 abbrev pub found_by : Invocation → (at : ℕ) → MacroFault → Finding
-found_by it at fault = record { name = it.name; at = at; fault = fault; defined_at = Some it.defined_at; caller = None }
+found_by it at fault = record { name = it.name; at = at; fault = fault; defined_at = Some it.defined_at; expected = None; caller = None }
 
 -- what is known inside its expansion
 abbrev pub entered_by : Config → Invocation → Root → Context → Context

@@ -21,6 +21,6 @@ NoneIsLeft {config = config} (on_other_call {context = context} {it = it} going 
 NoneIsLeft {config = config} (into_other_call {context = context} {it = it} going is bare unexpanded into others) =
     (called_by config context it ≡ None) × NoneIsLeft others
 NoneIsLeft (into_attributes going is some unexpanded others) = NoneIsLeft others
-NoneIsLeft (on_faulty_call at fault going is called some faulty others) = ⊥
+NoneIsLeft (on_faulty_call at fault expected going is called some faulty wanted others) = ⊥
 NoneIsLeft (on_call tree put going is called some expands noted held so may others) = NoneIsLeft held × NoneIsLeft others
 NoneIsLeft (on_kept_call tree at fault going is called some expands noted held kept others) = ⊥

@@ -8,6 +8,7 @@ pub mod Defining
 pub mod Events
 pub mod Expanding
 pub mod Expansion
+pub mod Expecting
 pub mod Exports
 pub mod Findings
 pub mod Invocations

@@ -10,6 +10,7 @@ use Rattle.mbe_rules.specs.declared.transcribe_error.TranscribeError.TheVariants
 abbrev pub is_limit : TranscribeError → Bool
 is_limit (error.LengthsDiffer at) = false
 is_limit (error.NoRound at) = false
+is_limit error.OverLimit = false
 is_limit (error.Tree why) = true
 
 -- a tree exceeds a limit: if it exceeds several, any one of them may be named

@@ -20,7 +20,8 @@ use Rattle.expand_text.specs.Places.{byte_at, definition_byte}
 use Rattle.expand_text.specs.Roots.{rooted}
 use Rattle.expand_text.specs.Scopes.{Macro, last_named}
 use Rattle.mbe_rules.specs.Arms.{Arm, Spell}
-use Rattle.mbe_rules.specs.Expansions.{IsExpansion, IsExpandError}
+use Rattle.mbe_rules.specs.Expansions.{IsExpansion, IsExpandErrorWithin}
+use Rattle.mbe_rules.specs.declared.rules_error.ExpandError.{ExpandError}
 use Rattle.mbe_rules.specs.ArmFaults.{IsRulesError}
 use Rattle.mbe_rules.specs.declared.rules_error.ArmFault.TheVariants as arm_fault
 use Rattle.mbe_rules.specs.declared.macro_rules.Expansion.TheVariants as expansion
@@ -64,7 +65,7 @@ IsDefinitionFault it trees at fault = ⊥
 
 -- a finding in the definition
 abbrev pub found_in : Definition → (at : ℕ) → MacroFault → Finding
-found_in it at fault = record { name = it.name.sym; at = at; fault = fault; defined_at = None; caller = None }
+found_in it at fault = record { name = it.name.sym; at = at; fault = fault; defined_at = None; expected = None; caller = None }
 
 -- what is known after a definition with these arms, which is under a condition if `is_open`: they spell arms; or the definition has a fault,
 -- and is left as it is
@@ -110,13 +111,21 @@ abbrev pub arms_of : Option Macro → Option (List Arm)
 arms_of None = None
 arms_of (Some macro) = macro.arms
 
--- a finding in a call of a macro
+-- a finding in a call of a macro, and what its arms expect there
+abbrev pub found_expecting : Call → Macro → (at : ℕ) → MacroFault → (expected : Option (List ℕ)) → Finding
+found_expecting it macro at fault expected =
+    record { name = it.name.sym; at = at; fault = fault; defined_at = Some macro.defined_at; expected = expected; caller = None }
+
 abbrev pub found_of : Call → Macro → (at : ℕ) → MacroFault → Finding
-found_of it macro at fault = record { name = it.name.sym; at = at; fault = fault; defined_at = Some macro.defined_at; caller = None }
+found_of it macro at fault = found_expecting it macro at fault None
 
 -- arms write that tree for a call, and it has at most so many tokens
 abbrev pub Writes : (allowed : ℕ) → List Arm → Call → Root → Type 0
 Writes allowed arms it tree = IsExpansion arms 0 0 it.input (expansion.Tree tree) × (size tree.children ≤ allowed)
+
+-- the arm of that number would write more tokens than it may
+abbrev pub over_limit : (arm : ℕ) → ExpandError
+over_limit arm = record { arm = arm; fault = transcribe_error.OverLimit }
 
 -- the fault of an input for which an arm may write so many tokens, and its byte: no arm matches it, which shows where the farthest arm stops;
 -- or an arm matches it in two ways, is not filled, or would write more tokens, which shows at the name of the call
@@ -125,9 +134,10 @@ IsInputFault allowed arms it at wrong.NoMatch =
     (place : ℕ) × IsExpansion arms 0 0 it.input (expansion.NoMatch place) × (at ≡ byte_at it.input place (start_of it.delimiter.close.range))
 IsInputFault allowed arms it at (wrong.Ambiguous arm) = IsExpansion arms 0 0 it.input (expansion.Ambiguous arm) × (at ≡ start_of it.name.span.range)
 IsInputFault allowed arms it at (wrong.Expansion why) =
-    IsExpandError arms 0 it.input why × (why.fault ≢ transcribe_error.Tree limit.Memory) × (at ≡ start_of it.name.span.range)
+    IsExpandErrorWithin (Some allowed) arms 0 it.input why × (why.fault ≢ transcribe_error.Tree limit.Memory) × (why.fault ≢ transcribe_error.OverLimit)
+    × (at ≡ start_of it.name.span.range)
 IsInputFault allowed arms it at wrong.OverMaxTokens =
-    (tree : Root) × IsExpansion arms 0 0 it.input (expansion.Tree tree) × (allowed < size tree.children) × (at ≡ start_of it.name.span.range)
+    (arm : ℕ) × IsExpandErrorWithin (Some allowed) arms 0 it.input (over_limit arm) × (at ≡ start_of it.name.span.range)
 IsInputFault allowed arms it at fault = ⊥
 
 -- the fault of a call that arms expand, with at most so many nested expansions and so many tokens

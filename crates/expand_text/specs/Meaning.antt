@@ -1,5 +1,5 @@
 -- What trees expand to in which macros are defined and called.
-use Rattle.std.specs.Prelude.{◌≡◌, ◌⊎◌, ◌<◌, ◌-◌, ℕ, suc, Bool, true, false, List, length, take, None, Some, codes, max, ◌==◌, if◌then◌else◌}
+use Rattle.std.specs.Prelude.{◌≡◌, ◌⊎◌, ◌<◌, ◌-◌, ℕ, suc, Bool, true, false, List, length, take, Option, None, Some, codes, max, ◌==◌, if◌then◌else◌}
 use Rattle.tt.specs.Forest.{Forest, Root, end, leaf, node, size}
 use Rattle.tt.specs.Gluing.{after_trees}
 use Rattle.tt.specs.Moves.{after_tree}
@@ -15,7 +15,8 @@ use Rattle.expand_items.specs.Conditions.{behind_leaf_under}
 use Rattle.expand_items.specs.Inactive.{IsItemAt}
 use Rattle.expand_items.specs.Items.{Definition, Call, defines, calls, inactive, other}
 use Rattle.expand_text.specs.Contexts.{Config, Context, with_finding, inside_call, outside_call, tokens_left}
-use Rattle.expand_text.specs.Macros.{IsRead, IsCallFault, MayBePut, Writes, called_by, arms_of, found_of, context_behind}
+use Rattle.expand_text.specs.Expecting.{IsExpectedFor}
+use Rattle.expand_text.specs.Macros.{IsRead, IsCallFault, MayBePut, Writes, called_by, arms_of, found_expecting, found_of, context_behind}
 use Rattle.expand_text.specs.Outcomes.{Outcome, nothing, passes, enters, stays, becomes, trees_left}
 use Rattle.expand_items.specs.Expressions.{without_semicolon}
 use Rattle.expand_items.specs.Positions.{enclosure, first_inside, first_of_call, behind, behind_subtree, keeps_macros, is_statement, takes_semicolon}
@@ -175,13 +176,14 @@ pub data ExpandsTo (config : Config) : (in_text : Bool) → (limit : ℕ) → Po
       → arms_of (called_by config context it) ≡ None
       → ExpandsTo config in_text limit position it.attributes context trees after others
       → ExpandsTo config in_text limit position 0 context trees after others
-  on_faulty_call : {in_text : Bool} {limit : ℕ} {position : Position} {context after : Context} {it : Call} {macro : Macro} {arms : List Arm} {trees : Forest} {others : Outcome} (at : ℕ) (fault : MacroFault)
+  on_faulty_call : {in_text : Bool} {limit : ℕ} {position : Position} {context after : Context} {it : Call} {macro : Macro} {arms : List Arm} {trees : Forest} {others : Outcome} (at : ℕ) (fault : MacroFault) (expected : Option (List ℕ))
       → context.is_over ≡ false
       → IsItemAt config.known config.root position trees (calls it)
       → called_by config context it ≡ Some macro
       → macro.arms ≡ Some arms
       → IsCallFault limit (tokens_left config context) arms it at fault
-      → ExpandsTo config in_text limit (behind (is_brace it.delimiter.kind) position) 0 (with_finding (found_of it macro at fault) context) (behind_call it trees) after others
+      → IsExpectedFor arms it fault expected
+      → ExpandsTo config in_text limit (behind (is_brace it.delimiter.kind) position) 0 (with_finding (found_expecting it macro at fault expected) context) (behind_call it trees) after others
       → ExpandsTo config in_text limit position 0 context trees after (stays (front_trees it.len trees) others)
   on_call : {in_text : Bool} {limit : ℕ} {position : Position} {context noted inside after : Context} {it : Call} {macro : Macro} {arms : List Arm} {trees : Forest} {held others : Outcome} (tree : Root) (put : Forest)
       → context.is_over ≡ false

@@ -13,6 +13,7 @@ ghost use Rattle.mbe_rules.specs.Expansions.{AreMade};
 
 use crate::config::Config;
 use crate::context::Context;
+use crate::expecting::expected_at;
 use crate::fault::MacroFault;
 use crate::memory::OutOfMemory;
 use crate::places::start_at;
@@ -21,13 +22,13 @@ use expand_items::{Call, MacroPath, without_semicolon};
 use mbe_rules::{Expansion, MacroRules, TranscribeError};
 use std::alloc::Global;
 use syntax_edit::start_of;
-use tt::{TokenTreesView, TopSubtree, TtFault};
+use tt::{Symbol, TokenTreesView, TopSubtree, TtFault};
 
-/// What rules make of a call: a tree, or a fault and the byte at which it shows.
+/// What rules make of a call: a tree, or a fault, the byte at which it shows, and what is expected there.
 #[derive(Drop)]
 pub(crate) enum Made {
     Tree(TopSubtree),
-    Faulty(u32, MacroFault),
+    Faulty(u32, MacroFault, Option<Symbol>),
 }
 
 /// What becomes of a call.
@@ -54,24 +55,22 @@ fn make(
 {
     let at = start_of(call.name.span);
     if limit == 0 {
-        return Ok(Made::Faulty(at, MacroFault::TooDeep));
+        return Ok(Made::Faulty(at, MacroFault::TooDeep, None));
     }
-    match rules.expand(alloc, call.input.remaining().iter()) {
-        Ok(Expansion::Tree(tree)) => {
-            if tree.token_trees().len() > allowed {
-                return Ok(Made::Faulty(at, MacroFault::OverMaxTokens));
-            }
-            Ok(Made::Tree(tree))
-        }
+    match rules.expand_within(alloc, call.input.remaining().iter(), allowed) {
+        Ok(Expansion::Tree(tree)) => Ok(Made::Tree(tree)),
         Ok(Expansion::NoMatch(place)) => {
             let behind = start_of(call.header.delimiter.close);
             let stop = start_at(call.input.remaining(), place, behind);
-            Ok(Made::Faulty(stop, MacroFault::NoMatch))
+            let input = call.input.remaining().iter();
+            let expected = expected_at(alloc, rules, input, place)?;
+            Ok(Made::Faulty(stop, MacroFault::NoMatch, Some(expected)))
         }
-        Ok(Expansion::Ambiguous(arm)) => Ok(Made::Faulty(at, MacroFault::Ambiguous(arm))),
+        Ok(Expansion::Ambiguous(arm)) => Ok(Made::Faulty(at, MacroFault::Ambiguous(arm), None)),
         Err(error) => match error.fault {
             TranscribeError::Tree(TtFault::Memory) => Err(OutOfMemory),
-            _ => Ok(Made::Faulty(at, MacroFault::Expansion(error))),
+            TranscribeError::OverLimit => Ok(Made::Faulty(at, MacroFault::OverMaxTokens, None)),
+            _ => Ok(Made::Faulty(at, MacroFault::Expansion(error), None)),
         },
     }
 }
@@ -167,8 +166,8 @@ pub(crate) fn expand_call(
     };
     match make(config.alloc, limit, allowed, rules, call)? {
         Made::Tree(tree) => Ok(Called::Tree(tree, defined_at)),
-        Made::Faulty(place, fault) => {
-            context.find(name, place, fault, Some(defined_at))?;
+        Made::Faulty(place, fault, expected) => {
+            context.find_expecting(name, place, fault, Some(defined_at), expected)?;
             Ok(Called::Faulty)
         }
     }

@@ -1,5 +1,5 @@
 //! The state of an expansion: the macros in scope and those that the crate exports, and the findings.
-ghost use Rattle.std.specs.Prelude.{◌≡◌, ◌-◌, List, IfOk, OnOk};
+ghost use Rattle.std.specs.Prelude.{◌≡◌, ◌-◌, List, None, IfOk, OnOk};
 ghost use Rattle.tt.specs.Iters.{rest_of};
 ghost use Rattle.expand_text.specs.Scopes.{Macro, AreReady};
 ghost use Rattle.expand_text.specs.Contexts.{Context as ContextOf, IsContext, IsOutside, IsSameBudget, HasCaller, new_context, with_finding, left_in_scope, tokens_by, tokens_left, inside_call, outside_call, config_of};
@@ -61,7 +61,22 @@ impl Context {
         fault: MacroFault,
         defined_at: Option<u32>,
     ) -> Result<(), AllocError>
-        ensures found { OnOk result ((context : ContextOf) → IsContext context self.old → IsContext (with_finding (record { name = name.now; at = at; fault = fault; defined_at = defined_at; caller = None }) context) self.new) }
+        ensures found { OnOk result ((context : ContextOf) → IsContext context self.old → IsContext (with_finding (record { name = name.now; at = at; fault = fault; defined_at = defined_at; expected = None; caller = None }) context) self.new) }
+        ensures kept { OnOk result (IsSameBudget self.old self.new) }
+    {
+        self.find_expecting(name, at, fault, defined_at, None)
+    }
+
+    /// Adds a finding about the macro of that name, which expects something else there.
+    pub(crate) fn find_expecting(
+        &mut self,
+        name: &Symbol,
+        at: u32,
+        fault: MacroFault,
+        defined_at: Option<u32>,
+        expected: Option<Symbol>,
+    ) -> Result<(), AllocError>
+        ensures found { OnOk result ((context : ContextOf) → IsContext context self.old → IsContext (with_finding (record { name = name.now; at = at; fault = fault; defined_at = defined_at; expected = expected; caller = None }) context) self.new) }
         ensures kept { OnOk result (IsSameBudget self.old self.new) }
     {
         let finding = Finding {
@@ -69,6 +84,7 @@ impl Context {
             at,
             fault,
             defined_at,
+            expected,
             caller: self.caller,
         };
         if self.findings.push(finding).is_err() {

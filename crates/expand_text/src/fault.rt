@@ -84,6 +84,10 @@ pub struct Finding {
     pub fault: MacroFault,
     /// The byte of the text at which the macro's name begins in its definition, if this is about a call.
     pub defined_at: Option<u32>,
+    /// What the macro's rules expect at that byte if none of them matches: up to three parts of their patterns, each with the number of its
+    /// rule, counted from 1, as a text: `` `,` (rule 1) or the end (rule 1) ``. A variable is named as in the pattern, `` `$e:expr` ``. None
+    /// for any other fault.
+    pub expected: Option<Symbol>,
     /// The number of the caller that wrote the definition or the call; none if it is in the text itself.
     pub caller: Option<usize>,
 }

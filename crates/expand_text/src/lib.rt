@@ -22,6 +22,7 @@ mod config;
 mod context;
 mod defining;
 mod expanding;
+mod expecting;
 mod exports;
 mod fault;
 mod invocation;

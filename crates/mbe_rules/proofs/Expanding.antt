@@ -1,6 +1,6 @@
 -- What the arms of a macro answer, one after the other.
 use Rattle.std.proofs.Common.{◌≡◌, ℕ, zero, suc, true, false, List, [], ◌∷◌, ◌++◌, drop, Some, None, inl, inr, refl, ap, sym, subst, ◌∙◌, append_assoc}
-use Rattle.std.specs.Prelude.{max, slice_get, Bool, not}
+use Rattle.std.specs.Prelude.{max, slice_get, Bool, not, Option}
 use Rattle.tt.specs.Forest.{Forest, Root, end, leaf, node}
 use Rattle.tt.specs.Siblings.{is_end}
 use Rattle.mbe_rules.specs.declared.transcribe_error.TranscribeError.{TranscribeError}
@@ -11,7 +11,7 @@ use Rattle.mbe_rules.specs.declared.rules_error.ExpandError.{ExpandError}
 use Rattle.mbe_rules.specs.declared.macro_rules.Expansion.{Expansion}
 use Rattle.mbe_rules.specs.declared.macro_rules.Expansion.TheVariants as expansion
 use Rattle.mbe_rules.specs.Arms.{Arm, IsArm, IsBehind, IsLast, Spell}
-use Rattle.mbe_rules.specs.Expansions.{IsMade, AreMade, IsAnswer, IsRefusal, IsExpansion, IsExpandError}
+use Rattle.mbe_rules.specs.Expansions.{IsMade, AreMade, IsAnswer, IsRefusalWithin, IsExpansion, IsExpandErrorWithin}
 use Rattle.mbe_rules.specs.ArmFaults.{IsFaultAt}
 use Rattle.mbe_rules.specs.ArmSpelling.{IsReadSoFar}
 use Rattle.mbe_rules.proofs.Reading.{arm_sound, left_behind}
@@ -90,11 +90,11 @@ module _ (arms : List Arm) (its : List rust.Arm) (n : ℕ) (it : rust.Arm) (are 
       subst (λ l. IsExpansion l n far input (expansion.Tree tree)) (sym split) (inr (says arm is))
 
   -- The arm gives an error.
-  pub refused_here : (fault : TranscribeError) → ((arm : Arm) → IsMade arm it → IsRefusal arm input fault)
-      → IsExpandError (drop n arms) n input (record { arm = n; fault = fault })
-  refused_here fault says =
+  pub refused_here : (most : Option ℕ) (fault : TranscribeError) → ((arm : Arm) → IsMade arm it → IsRefusalWithin most arm input fault)
+      → IsExpandErrorWithin most (drop n arms) n input (record { arm = n; fault = fault })
+  refused_here most fault says =
       let (arm, is, split) = made_at arms its n it are there in
-      subst (λ l. IsExpandError l n input (record { arm = n; fault = fault })) (sym split) (inr (refl, says arm is))
+      subst (λ l. IsExpandErrorWithin most l n input (record { arm = n; fault = fault })) (sym split) (inr (refl, says arm is))
 
   module _ (next at : ℕ) (more : next ≡ suc n) (says : (arm : Arm) → IsMade arm it → IsAnswer arm input (answer.NoMatch at)) where
     -- The arm does not match; the arms after it answer.
@@ -103,10 +103,11 @@ module _ (arms : List Arm) (its : List rust.Arm) (n : ℕ) (it : rust.Arm) (are 
         let (arm, is, split) = made_at arms its n it are there in
         subst (λ l. IsExpansion l n far input result) (sym split) (inl (at, says arm is, subst (λ m. IsExpansion (drop m arms) m (max far at) input result) more behind))
 
-    pub no_refusal_here : (error : ExpandError) → IsExpandError (drop next arms) next input error → IsExpandError (drop n arms) n input error
-    no_refusal_here error behind =
+    pub no_refusal_here : (most : Option ℕ) (error : ExpandError) → IsExpandErrorWithin most (drop next arms) next input error
+        → IsExpandErrorWithin most (drop n arms) n input error
+    no_refusal_here most error behind =
         let (arm, is, split) = made_at arms its n it are there in
-        subst (λ l. IsExpandError l n input error) (sym split) (inl ((says arm is).0, subst (λ m. IsExpandError (drop m arms) m input error) more behind))
+        subst (λ l. IsExpandErrorWithin most l n input error) (sym split) (inl ((says arm is).0, subst (λ m. IsExpandErrorWithin most (drop m arms) m input error) more behind))
 
 -- A fault of an arm that is left is its fault also when counted from the arm before.
 pub fault_behind : (until : ℕ) (trees : Forest) (arm : Arm) (rest others : Forest) → IsArm trees arm rest → IsBehind rest others → is_end others ≡ false

@@ -1,7 +1,9 @@
 -- A template is filled from its first part to its last.
-use Rattle.std.proofs.Common.{◌≡◌, List, [], ◌∷◌, map, reverse, None, refl, ap, ap₂, sym, subst, ◌∙◌, arith}
+use Rattle.std.proofs.Common.{◌≡◌, ℕ, suc, List, [], ◌∷◌, map, reverse, Option, None, refl, ap, ap₂, sym, subst, ◌∙◌, arith}
 use Rattle.tt.specs.Building.{lowest, bottom, built, empty_builder, tokens_held, IsAbove, IsOpen}
-use Rattle.tt.specs.TreeFault.{under}
+use Rattle.tt.specs.Forest.{size}
+use Rattle.tt.specs.Stored.{most_tokens}
+use Rattle.tt.specs.TreeFault.{IsTreeFault, under}
 use Rattle.tt.specs.Types.Delimiter.{Delimiter}
 use Rattle.tt.specs.Types.Span.{Span}
 use Rattle.tt.specs.Types.TtFault.{TtFault}
@@ -16,11 +18,13 @@ use Rattle.mbe_rules.specs.Transcribing.{Transcribed, transcribed, in_round}
 use Rattle.mbe_rules.specs.Parts.{Bit, bit_of, bits_of}
 use Rattle.mbe_rules.specs.Results.{IsLimitOf, IsTranscribeError}
 use Rattle.mbe_rules.specs.Rounds.{bound_in}
-use Rattle.mbe_rules.specs.Filling.{AreLevels, IsAt, IsStop}
+use Rattle.mbe_rules.specs.Limits.{IsWithin}
+use Rattle.mbe_rules.specs.Filling.{most_of, AreLevels, IsAt, IsStop}
 use Rattle.mbe_rules.specs.Templates.{Template, nothing, use_of, token, subtree, repetition}
 use Rattle.mbe_rules.specs.Wholes.{AreWhole, whole_of}
 use Rattle.mbe_rules.specs.Writing.{Closing, last, Level, end_of, Written, written_by, finished}
 use Rattle.mbe_rules.proofs.Going.{level_of}
+use Rattle.mbe_rules.proofs.Limits.{within_fewer, in_all, held_within, none_held}
 
 -- what is written if everything is filled
 abbrev pub written_of : Transcribed → Written
@@ -74,32 +78,45 @@ not_open it all is above = subst IsAbove (ap (λ w. w.stack) is) above
 pub built_is : (it : Transcriber) (all : Transcribed) (delimiter : Delimiter) → written_by it ≡ written_of all → it.builder.top ≡ delimiter → built it.builder ≡ under delimiter all.trees
 built_is it all delimiter is top = ap₂ (λ d w. under d (bottom w.stack)) top is
 
+-- At the beginning nothing is written.
+pub starts_within : (most : Option ℕ) (it : Transcriber) (delimiter : Delimiter) → it.builder ≡ empty_builder delimiter → it.left ≡ most → most_of it ≡ most
+starts_within most it delimiter builder left = ap₂ in_all (ap (λ b. tokens_held b.stack) builder) left ∙ none_held most
+
+-- At the end the limit is kept.
+pub ends_within : (most : Option ℕ) (it : Transcriber) (all : Transcribed) → written_by it ≡ written_of all → most_of it ≡ most → IsWithin most (size all.trees)
+ends_within most it all is kept =
+    subst (λ l. IsWithin l (size all.trees)) kept
+    (subst (IsWithin (most_of it)) (ap (λ w. tokens_held w.stack) is) (held_within (tokens_held it.builder.stack) it.left))
+
 -- Each limit is one of the whole filled template.
-pub limit_of_all : (it : Transcribed) (fault : TtFault) → None ≡ it.fault → IsLimitOf it fault
-limit_of_all it limit.Memory none = tt
-limit_of_all it limit.TooManyTokens none = tt
-limit_of_all it limit.NotOneSubtree none = sym none
-limit_of_all it limit.NoSuchPlace none = sym none
-limit_of_all it limit.NotALeaf none = sym none
-limit_of_all it limit.SuffixTooLong none = sym none
-limit_of_all it limit.BadScan none = sym none
-limit_of_all it limit.TooManySpanParts none = sym none
-limit_of_all it limit.TooManySymbols none = sym none
-limit_of_all it limit.TooManyBytes none = sym none
-limit_of_all it limit.PointsSpent none = sym none
+module _ (most : Option ℕ) (delimiter : Delimiter) (it : Transcribed) (none : None ≡ it.fault) (within : IsWithin most (size it.trees)) where
+  pub limit_of_all : (fault : TtFault) → IsTreeFault (under delimiter it.trees) fault → IsLimitOf most it fault
+  limit_of_all limit.Memory wrong = tt
+  limit_of_all limit.TooManyTokens wrong = within_fewer most (suc most_tokens) (size it.trees) (omega (arith, wrong)) within
+  limit_of_all limit.NotOneSubtree wrong = (sym none, within)
+  limit_of_all limit.NoSuchPlace wrong = (sym none, within)
+  limit_of_all limit.NotALeaf wrong = (sym none, within)
+  limit_of_all limit.SuffixTooLong wrong = (sym none, within)
+  limit_of_all limit.BadScan wrong = (sym none, within)
+  limit_of_all limit.TooManySpanParts wrong = (sym none, within)
+  limit_of_all limit.TooManySymbols wrong = (sym none, within)
+  limit_of_all limit.TooManyBytes wrong = (sym none, within)
+  limit_of_all limit.PointsSpent wrong = (sym none, within)
 
 -- The error that stops the filling is the right one.
-pub stop_is_error : (delimiter : Delimiter) (it : Transcribed) (error : TranscribeError) → IsStop (written_of it) error → IsTranscribeError delimiter it error
-stop_is_error delimiter it (refusal.LengthsDiffer at) stop = stop
-stop_is_error delimiter it (refusal.NoRound at) stop = stop
-stop_is_error delimiter it (refusal.Tree limit.Memory) stop = (tt, tt)
-stop_is_error delimiter it (refusal.Tree limit.TooManyTokens) stop = (tt, stop)
-stop_is_error delimiter it (refusal.Tree limit.NotOneSubtree) stop = absurd stop
-stop_is_error delimiter it (refusal.Tree limit.NoSuchPlace) stop = absurd stop
-stop_is_error delimiter it (refusal.Tree limit.NotALeaf) stop = absurd stop
-stop_is_error delimiter it (refusal.Tree limit.SuffixTooLong) stop = absurd stop
-stop_is_error delimiter it (refusal.Tree limit.BadScan) stop = absurd stop
-stop_is_error delimiter it (refusal.Tree limit.TooManySpanParts) stop = absurd stop
-stop_is_error delimiter it (refusal.Tree limit.TooManySymbols) stop = absurd stop
-stop_is_error delimiter it (refusal.Tree limit.TooManyBytes) stop = absurd stop
-stop_is_error delimiter it (refusal.Tree limit.PointsSpent) stop = absurd stop
+pub stop_is_error : (most : Option ℕ) (delimiter : Delimiter) (it : Transcribed) (error : TranscribeError) → IsStop most (written_of it) error
+    → IsTranscribeError most delimiter it error
+stop_is_error most delimiter it (refusal.LengthsDiffer at) stop = stop
+stop_is_error most delimiter it (refusal.NoRound at) stop = stop
+stop_is_error most delimiter it refusal.OverLimit stop = stop
+stop_is_error most delimiter it (refusal.Tree limit.Memory) stop = (tt, tt)
+stop_is_error most delimiter it (refusal.Tree limit.TooManyTokens) stop = (stop.1, stop.0)
+stop_is_error most delimiter it (refusal.Tree limit.NotOneSubtree) stop = absurd stop
+stop_is_error most delimiter it (refusal.Tree limit.NoSuchPlace) stop = absurd stop
+stop_is_error most delimiter it (refusal.Tree limit.NotALeaf) stop = absurd stop
+stop_is_error most delimiter it (refusal.Tree limit.SuffixTooLong) stop = absurd stop
+stop_is_error most delimiter it (refusal.Tree limit.BadScan) stop = absurd stop
+stop_is_error most delimiter it (refusal.Tree limit.TooManySpanParts) stop = absurd stop
+stop_is_error most delimiter it (refusal.Tree limit.TooManySymbols) stop = absurd stop
+stop_is_error most delimiter it (refusal.Tree limit.TooManyBytes) stop = absurd stop
+stop_is_error most delimiter it (refusal.Tree limit.PointsSpent) stop = absurd stop

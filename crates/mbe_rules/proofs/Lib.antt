@@ -4,6 +4,7 @@ pub mod Finishing
 pub mod FirstParts
 pub mod Going
 pub mod Growing
+pub mod Limits
 pub mod Measuring
 pub mod Naming
 pub mod Nesting

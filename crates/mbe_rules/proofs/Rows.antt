@@ -1,6 +1,7 @@
 -- Worked templates: each holds by computation.
 use Rattle.std.proofs.Common.{◌≡◌, ℕ, List, [], ◌∷◌, Option, None, Some, codes, refl, lit<, lit≤, not-le_of_lt}
-use Rattle.tt.specs.Forest.{Forest, end, leaf, node, join}
+use Rattle.tt.specs.Forest.{Forest, end, leaf, node, join, size}
+use Rattle.tt.specs.Types.Delimiter.{Delimiter}
 use Rattle.tt.specs.Types.DelimiterKind.TheVariants.{Parenthesis, Brace, InvisibleOpaque}
 use Rattle.tt.specs.Types.IdentIsRaw.TheVariants.{Yes}
 use Rattle.tt.specs.Types.Leaf.TheVariants as leaf_of
@@ -17,7 +18,10 @@ use Rattle.mbe_matcher.specs.Bindings.{Bound, one, none, first, Named, Binding}
 use Rattle.mbe_matcher.specs.Grouping.{Where}
 use Rattle.mbe_rules.specs.declared.error.TemplateError.{TemplateError}
 use Rattle.mbe_rules.specs.declared.error.TemplateError.TheVariants as error
+use Rattle.mbe_rules.specs.declared.transcribe_error.TranscribeError.TheVariants as refusal
 use Rattle.mbe_rules.specs.Faults.{template_fault}
+use Rattle.mbe_rules.specs.Limits.{IsWithin}
+use Rattle.mbe_rules.specs.Results.{IsTranscribeError}
 use Rattle.mbe_rules.specs.Transcribing.{Transcribed, all_transcribed, transcribed, lengths_differ, no_round}
 use Rattle.mbe_rules.specs.Parts.{all_bits, uses, same, begin, close, leave}
 use Rattle.mbe_rules.specs.Spelling.{template_of}
@@ -192,6 +196,41 @@ none_there = refl
 
 lengths_apart : becomes empty (rounds (alone 36 (word y (rounds (alone 36 (word z end)) (alone 42 end)))) (alone 42 end)) ≡ record { trees = end; fault = Some (lengths_differ 0) }
 lengths_apart = refl
+
+-- A limit of tokens: the three of `$($y),*` exceed two, and not three. Without a limit no number is too many.
+abbrev braces : Delimiter
+braces = delimiter Brace (span 0 1) (span 1 1)
+
+abbrev list_written : Transcribed
+list_written = becomes binding (rounds (alone 36 (word y end)) (alone 44 (alone 42 end)))
+
+over_two : IsTranscribeError (Some 2) braces list_written refusal.OverLimit
+over_two = lit< tt
+
+within_three : IsWithin (Some 3) (size list_written.trees)
+within_three = lit≤ tt
+
+not_over_three : IsTranscribeError (Some 3) braces list_written refusal.OverLimit → ⊥
+not_over_three over = not-le_of_lt over (lit≤ tt)
+
+never_over : IsTranscribeError None braces list_written refusal.OverLimit → ⊥
+never_over over = over
+
+nothing_within : IsWithin (Some 0) (size (becomes binding end).trees)
+nothing_within = lit≤ tt
+
+-- `$x $($y)+` writes a token before its fault: none may be written, or that one. `$($y)+ $x` writes none.
+abbrev fault_behind : Transcribed
+fault_behind = becomes empty (alone 36 (word x (rounds (alone 36 (word y end)) (alone 43 end))))
+
+fault_beyond : IsTranscribeError (Some 0) braces fault_behind refusal.OverLimit
+fault_beyond = lit< tt
+
+fault_within : IsTranscribeError (Some 1) braces fault_behind (refusal.NoRound 2)
+fault_within = (refl, lit≤ tt, lit≤ tt)
+
+fault_first : IsTranscribeError (Some 0) braces (becomes empty (rounds (alone 36 (word y end)) (alone 43 (alone 36 (word x end))))) (refusal.NoRound 0)
+fault_first = (refl, lit≤ tt, lit≤ tt)
 
 -- A punct before a `$` does not form one token with what follows, and neither does the last punct of a
 -- separator or of what is bound; other puncts do.

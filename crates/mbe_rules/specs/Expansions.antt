@@ -1,6 +1,6 @@
 -- What a macro expands an input to.
-use Rattle.std.specs.Prelude.{◌≡◌, ◌⊎◌, ℕ, suc, max, List, [], ◌∷◌}
-use Rattle.tt.specs.Forest.{Forest}
+use Rattle.std.specs.Prelude.{◌≡◌, ◌⊎◌, ℕ, suc, max, List, [], ◌∷◌, Option, None}
+use Rattle.tt.specs.Forest.{Forest, size}
 use Rattle.tt.specs.Types.TtFault.TheVariants.{Memory}
 use Rattle.mbe_matcher.specs.Bindings.{binding_of}
 use Rattle.mbe_matcher.specs.Fronts.{StopsAt}
@@ -8,6 +8,7 @@ use Rattle.mbe_matcher.specs.Matchers.{IsMatcherOf}
 use Rattle.mbe_matcher.specs.Readings.{Reading, IsNoInstance, IsReadBy, IsAmbiguous}
 use Rattle.mbe_rules.specs.declared.transcribe_error.TranscribeError.{TranscribeError}
 use Rattle.mbe_rules.specs.declared.transcribe_error.TranscribeError.TheVariants.{Tree}
+use Rattle.mbe_rules.specs.Limits.{IsWithin}
 use Rattle.mbe_rules.specs.Transcribing.{Transcribed, transcribed}
 use Rattle.mbe_rules.specs.Results.{IsTemplate, IsTranscribed, IsTranscribeError}
 use Rattle.mbe_rules.specs.declared.arm.Answer.{Answer}
@@ -41,10 +42,21 @@ IsAnswer arm input (answer.NoMatch at) = IsNoInstance arm.pattern input × Stops
 IsAnswer arm input answer.Ambiguous = IsAmbiguous arm.pattern input
 IsAnswer arm input (answer.Tree tree) = (reading : Reading) × IsReadBy arm.pattern input reading × IsTranscribed arm.delimiter (written arm reading) tree
 
--- why the arm makes nothing of it: memory ran out, or the template cannot be filled with what the one reading binds
+-- a tree has at most `most` tokens
+abbrev pub IsAnswerWithin : (most : Option ℕ) → Answer → Type 0
+IsAnswerWithin most (answer.NoMatch at) = Unit {0}
+IsAnswerWithin most answer.Ambiguous = Unit {0}
+IsAnswerWithin most (answer.Tree tree) = IsWithin most (size tree.children)
+
+-- why the arm makes nothing of it: memory ran out, or the template cannot be filled, within `most` tokens, with what the one reading binds
+abbrev pub IsRefusalWithin : (most : Option ℕ) → Arm → (input : Forest) → TranscribeError → Type 0
+IsRefusalWithin most arm input (Tree Memory) = Unit {0}
+IsRefusalWithin most arm input error =
+    (reading : Reading) × IsReadBy arm.pattern input reading × IsTranscribeError most arm.delimiter (written arm reading) error
+
+-- the same without such a limit
 abbrev pub IsRefusal : Arm → (input : Forest) → TranscribeError → Type 0
-IsRefusal arm input (Tree Memory) = Unit {0}
-IsRefusal arm input error = (reading : Reading) × IsReadBy arm.pattern input reading × IsTranscribeError arm.delimiter (written arm reading) error
+IsRefusal arm input error = IsRefusalWithin None arm input error
 
 -- the answer of the first arm that matches the input; the first of these arms has that number, and earlier arms came up to a flat
 -- place; if no arm matches, the farthest place
@@ -60,8 +72,19 @@ IsExpansion (arm ∷ others) number farthest input result =
     IsOf (expansion.Ambiguous which) = (which ≡ number) × IsAnswer arm input answer.Ambiguous
     IsOf (expansion.Tree tree) = IsAnswer arm input (answer.Tree tree)
 
--- why that arm gives an error
+-- a tree has at most `most` tokens
+abbrev pub IsExpansionWithin : (most : Option ℕ) → Expansion → Type 0
+IsExpansionWithin most (expansion.NoMatch at) = Unit {0}
+IsExpansionWithin most (expansion.Ambiguous arm) = Unit {0}
+IsExpansionWithin most (expansion.Tree tree) = IsWithin most (size tree.children)
+
+-- why that arm gives an error, if it may write at most `most` tokens
+abbrev pub IsExpandErrorWithin : (most : Option ℕ) → List Arm → (number : ℕ) → (input : Forest) → ExpandError → Type 0
+IsExpandErrorWithin most [] number input error = ⊥
+IsExpandErrorWithin most (arm ∷ others) number input error =
+    (IsNoInstance arm.pattern input × IsExpandErrorWithin most others (suc number) input error)
+    ⊎ ((error.arm ≡ number) × IsRefusalWithin most arm input error.fault)
+
+-- the same without such a limit
 abbrev pub IsExpandError : List Arm → (number : ℕ) → (input : Forest) → ExpandError → Type 0
-IsExpandError [] number input error = ⊥
-IsExpandError (arm ∷ others) number input error =
-    (IsNoInstance arm.pattern input × IsExpandError others (suc number) input error) ⊎ ((error.arm ≡ number) × IsRefusal arm input error.fault)
+IsExpandError arms number input error = IsExpandErrorWithin None arms number input error

@@ -1,12 +1,12 @@
 -- Where the filling of a template is, and how it goes on.
-use Rattle.std.specs.Prelude.{◌≡◌, ◌+◌, ◌<◌, ◌≤◌, ◌⊎◌, ℕ, zero, suc, List, [], ◌∷◌, ◌++◌, map, drop, reverse, Some}
+use Rattle.std.specs.Prelude.{◌≡◌, ◌+◌, ◌<◌, ◌≤◌, ◌⊎◌, ℕ, zero, suc, List, [], ◌∷◌, ◌++◌, map, drop, reverse, Option, Some, option_map}
 use Rattle.tt.specs.Building.{tokens_held, append, close_innermost, opened, HasRoom}
 use Rattle.tt.specs.Forest.{Forest}
 use Rattle.tt.specs.Stored.{most_tokens}
 use Rattle.tt.specs.Types.Delimiter.{Delimiter}
+use Rattle.tt.specs.Types.DelimiterKind.{DelimiterKind}
 use Rattle.tt.specs.Types.Leaf.{Leaf}
 use Rattle.tt.specs.Types.Span.{Span}
-use Rattle.tt.specs.Types.TtFault.{TtFault}
 use Rattle.tt.specs.Types.TtFault.TheVariants as limit
 use Rattle.mbe_pattern.specs.declared.pattern.RepeatKind.{RepeatKind}
 use Rattle.mbe_matcher.specs.Bindings.{Bound, Binding}
@@ -16,6 +16,7 @@ use Rattle.mbe_rules.specs.declared.transcribe.Transcriber.{Transcriber}
 use Rattle.mbe_rules.specs.declared.parts.Part.{Part}
 use Rattle.mbe_rules.specs.declared.taken.Round.{Round}
 use Rattle.mbe_rules.specs.declared.taken.Taken.{Taken}
+use Rattle.mbe_rules.specs.Limits.{IsOver, IsWithin}
 use Rattle.mbe_rules.specs.Transcribing.{lengths_differ, no_round, others_of, in_round}
 use Rattle.mbe_rules.specs.Parts.{Bit, close, bits_of, bit_of}
 use Rattle.mbe_rules.specs.Rounds.{AreTaken, binding_in, dones}
@@ -53,6 +54,10 @@ AreLevels bits whole (level ∷ outer) rounds closes left =
     (behind : List Bit) × (left ≡ bits_of level.rest (end_of level.closing ∷ behind)) × (level.binding ≡ bound_here whole rounds)
     × IsEnd bits whole (λ more others. AreLevels bits whole outer more others behind) level.closing rounds closes behind
 
+-- how many tokens may be written in all, if that is limited
+abbrev pub most_of : Transcriber → Option ℕ
+most_of it = option_map (λ left. left + tokens_held it.builder.stack) it.left
+
 -- the filling is before these parts, in those levels
 pub record IsAt (bits : List Bit) (whole : Binding) (levels : List Level) (it : Transcriber) (left : List Bit) : Type 0 where
   pub agree : AreLevels bits whole levels (reverse it.rounds.items) (reverse it.closes.items) left
@@ -65,42 +70,63 @@ pub record Goes (bits : List Bit) (whole : Binding) (levels : List Level) (old n
   pub same : finished news (written_by new) ≡ finished levels (written_by old)
   pub less : work_of news < work_of levels
   pub top : new.builder.top ≡ old.builder.top
+  pub most : most_of new ≡ most_of old
 
 -- the trees are written, and there is room for them
 pub record Grows (more : Forest) (old new : Transcriber) : Type 0 where
   pub stack : new.builder.stack ≡ append more old.builder.stack
   pub top : new.builder.top ≡ old.builder.top
   pub few : tokens_held old.builder.stack ≤ most_tokens → tokens_held new.builder.stack ≤ most_tokens
+  pub most : most_of new ≡ most_of old
   pub rounds : new.rounds ≡ old.rounds
   pub closes : new.closes ≡ old.closes
 
+-- that many tokens are too many for a tree, and a limit of them is higher; or they exceed the limit
+abbrev pub IsTooMany : ℕ → Transcriber → TranscribeError → Type 0
+IsTooMany more old fault =
+    ((fault ≡ error.Tree limit.TooManyTokens) × (most_tokens < tokens_held old.builder.stack + more) × IsWithin (most_of old) (suc most_tokens))
+    ⊎ ((fault ≡ error.OverLimit) × IsOver (most_of old) (tokens_held old.builder.stack + more))
+
 -- that many tokens cannot be written: memory ran out, or they are too many
-abbrev pub IsWant : ℕ → Transcriber → TtFault → Type 0
-IsWant more old fault = (fault ≡ limit.Memory) ⊎ ((fault ≡ limit.TooManyTokens) × (most_tokens < tokens_held old.builder.stack + more))
+abbrev pub IsWant : ℕ → Transcriber → TranscribeError → Type 0
+IsWant more old fault = (fault ≡ error.Tree limit.Memory) ⊎ IsTooMany more old fault
 
 -- a subtree is opened
+pub record Opens (kind : DelimiterKind) (open_span : Span) (old new : Transcriber) : Type 0 where
+  pub builder : new.builder ≡ opened kind open_span old.builder
+  pub room : HasRoom 1 old.builder
+  pub most : most_of new ≡ most_of old
+  pub rounds : new.rounds ≡ old.rounds
+  pub closes : new.closes ≡ old.closes
+
+-- and how it is closed is known
 pub record Enters (delimiter : Delimiter) (old new : Transcriber) : Type 0 where
   pub builder : new.builder ≡ opened delimiter.kind delimiter.open_span old.builder
   pub room : HasRoom 1 old.builder
+  pub most : most_of new ≡ most_of old
   pub rounds : new.rounds ≡ old.rounds
   pub closes : new.closes.items ≡ old.closes.items ++ delimiter.close ∷ []
 
 -- the innermost subtree is closed, if one is open
 abbrev pub AreClosed : List Span → (old new : Transcriber) → Type 0
-AreClosed [] old new = (new.builder ≡ old.builder) × (new.rounds ≡ old.rounds) × (new.closes.items ≡ [])
+AreClosed [] old new = (new.builder ≡ old.builder) × (new.left ≡ old.left) × (new.rounds ≡ old.rounds) × (new.closes.items ≡ [])
 AreClosed (span ∷ others) old new =
-    (new.builder.stack ≡ close_innermost span old.builder.stack) × (new.builder.top ≡ old.builder.top) × (new.rounds ≡ old.rounds) × (reverse new.closes.items ≡ others)
+    (new.builder.stack ≡ close_innermost span old.builder.stack) × (new.builder.top ≡ old.builder.top) × (new.left ≡ old.left) × (new.rounds ≡ old.rounds)
+    × (reverse new.closes.items ≡ others)
 
 abbrev pub Leaves : (old new : Transcriber) → Type 0
 Leaves old new = AreClosed (reverse old.closes.items) old new
 
 -- the final result has that fault, or is too large, or memory ran out
-abbrev pub IsStop : Written → TranscribeError → Type 0
-IsStop it (error.LengthsDiffer at) = (it.fault ≡ Some (lengths_differ at)) × (tokens_held it.stack ≤ most_tokens)
-IsStop it (error.NoRound at) = (it.fault ≡ Some (no_round at)) × (tokens_held it.stack ≤ most_tokens)
-IsStop it (error.Tree limit.Memory) = Unit {0}
-IsStop it (error.Tree limit.TooManyTokens) = most_tokens < tokens_held it.stack
-IsStop it (error.Tree other) = ⊥
+abbrev pub IsStop : (most : Option ℕ) → Written → TranscribeError → Type 0
+IsStop most it (error.LengthsDiffer at) =
+    (it.fault ≡ Some (lengths_differ at)) × (tokens_held it.stack ≤ most_tokens) × IsWithin most (tokens_held it.stack)
+IsStop most it (error.NoRound at) =
+    (it.fault ≡ Some (no_round at)) × (tokens_held it.stack ≤ most_tokens) × IsWithin most (tokens_held it.stack)
+IsStop most it error.OverLimit = IsOver most (tokens_held it.stack)
+IsStop most it (error.Tree limit.Memory) = Unit {0}
+IsStop most it (error.Tree limit.TooManyTokens) = (most_tokens < tokens_held it.stack) × IsWithin most (suc most_tokens)
+IsStop most it (error.Tree other) = ⊥
 
 -- the parts from that index on
 abbrev pub bits_from : List Part → ℕ → List Bit
@@ -116,4 +142,4 @@ StepsTo parts taken it behind old new next =
 abbrev pub StopsAt : List Part → List Taken → Bit → (behind : ℕ) → (old : Transcriber) → TranscribeError → Type 0
 StopsAt parts taken it behind old error =
     (whole : Binding) → (levels : List Level) → AreTaken whole taken → IsAt (map bit_of parts) whole levels old (it ∷ bits_from parts behind)
-    → IsStop (finished levels (written_by old)) error
+    → IsStop (most_of old) (finished levels (written_by old)) error

@@ -8,6 +8,7 @@ pub mod Expansions
 pub mod Counting
 pub mod Enclosing
 pub mod Faults
+pub mod Limits
 pub mod Marks
 pub mod Parts
 pub mod Results

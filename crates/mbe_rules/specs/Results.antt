@@ -1,5 +1,5 @@
 -- When trees are a template, and which one.
-use Rattle.std.specs.Prelude.{◌≡◌, ◌≤◌, List, None, Some}
+use Rattle.std.specs.Prelude.{◌≡◌, ◌≤◌, ℕ, suc, List, Option, None, Some}
 use Rattle.tt.specs.Forest.{Root, size}
 use Rattle.tt.specs.Stored.{most_tokens}
 use Rattle.tt.specs.TreeFault.{IsTreeFault, under}
@@ -13,6 +13,7 @@ use Rattle.mbe_rules.specs.declared.template.Template as rust
 use Rattle.mbe_rules.specs.declared.transcribe_error.TranscribeError.{TranscribeError}
 use Rattle.mbe_rules.specs.declared.transcribe_error.TranscribeError.TheVariants as refusal
 use Rattle.mbe_rules.specs.Faults.{template_fault}
+use Rattle.mbe_rules.specs.Limits.{IsOver, IsWithin}
 use Rattle.mbe_rules.specs.Transcribing.{Transcribed, lengths_differ, no_round}
 use Rattle.mbe_rules.specs.Templates.{Template}
 use Rattle.mbe_rules.specs.Wholes.{whole_of}
@@ -37,14 +38,19 @@ pub record IsTranscribed (delimiter : Delimiter) (it : Transcribed) (tree : Root
   pub sound : it.fault ≡ None
   pub is : tree ≡ under delimiter it.trees
 
--- a limit other than that of tokens is reported only if the whole template was filled; memory may run out at any time
-abbrev pub IsLimitOf : Transcribed → TtFault → Type 0
-IsLimitOf it limit.Memory = Unit {0}
-IsLimitOf it limit.TooManyTokens = Unit {0}
-IsLimitOf it other = it.fault ≡ None
+-- a limit of trees other than that of tokens is reported only if the whole template was filled, within `most`; that of tokens, only if
+-- `most` is higher; memory may run out at any time
+abbrev pub IsLimitOf : (most : Option ℕ) → Transcribed → TtFault → Type 0
+IsLimitOf most it limit.Memory = Unit {0}
+IsLimitOf most it limit.TooManyTokens = IsWithin most (suc most_tokens)
+IsLimitOf most it other = (it.fault ≡ None) × IsWithin most (size it.trees)
 
--- why there is no such tree: the first fault, or what was filled up to it exceeds a limit, or memory ran out
-abbrev pub IsTranscribeError : Delimiter → Transcribed → TranscribeError → Type 0
-IsTranscribeError delimiter it (refusal.LengthsDiffer at) = (it.fault ≡ Some (lengths_differ at)) × (size it.trees ≤ most_tokens)
-IsTranscribeError delimiter it (refusal.NoRound at) = (it.fault ≡ Some (no_round at)) × (size it.trees ≤ most_tokens)
-IsTranscribeError delimiter it (refusal.Tree fault) = IsLimitOf it fault × IsTreeFault (under delimiter it.trees) fault
+-- why there is no such tree: the first fault, or what was filled up to it has more tokens than `most`, or exceeds a limit of trees, or memory
+-- ran out
+abbrev pub IsTranscribeError : (most : Option ℕ) → Delimiter → Transcribed → TranscribeError → Type 0
+IsTranscribeError most delimiter it (refusal.LengthsDiffer at) =
+    (it.fault ≡ Some (lengths_differ at)) × (size it.trees ≤ most_tokens) × IsWithin most (size it.trees)
+IsTranscribeError most delimiter it (refusal.NoRound at) =
+    (it.fault ≡ Some (no_round at)) × (size it.trees ≤ most_tokens) × IsWithin most (size it.trees)
+IsTranscribeError most delimiter it refusal.OverLimit = IsOver most (size it.trees)
+IsTranscribeError most delimiter it (refusal.Tree fault) = IsLimitOf most it fault × IsTreeFault (under delimiter it.trees) fault

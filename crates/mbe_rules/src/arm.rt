@@ -6,7 +6,7 @@ ghost use Rattle.mbe_matcher.specs.Labels.{label_of};
 ghost use Rattle.mbe_matcher.specs.Parts.{part_of};
 ghost use Rattle.mbe_matcher.specs.Waiting.{AreWaiting};
 ghost use Rattle.mbe_rules.specs.Arms.{Arm as ArmOf, IsArm, IsBehind};
-ghost use Rattle.mbe_rules.specs.Expansions.{IsMade, IsAnswer, IsRefusal};
+ghost use Rattle.mbe_rules.specs.Expansions.{IsMade, IsAnswer, IsAnswerWithin, IsRefusalWithin};
 ghost use Rattle.mbe_rules.specs.ArmFaults.{place, body_fault, arm_fault, IsArmFault};
 
 use crate::arrow::{ARROW_LEN, is_arrow_in, is_punct_in};
@@ -90,21 +90,32 @@ impl Arm {
         Err(ArmFault::NoSemicolon(place(until, trees)))
     }
 
-    /// Returns what the arm makes of an input.
-    pub(crate) fn expand(&self, alloc: Global, input: TtIter<'_>) -> Result<Answer, TranscribeError>
+    /// Returns what the arm makes of an input, with at most so many tokens, if there is a limit.
+    pub(crate) fn expand(
+        &self,
+        alloc: Global,
+        input: TtIter<'_>,
+        limit: Option<usize>,
+    ) -> Result<Answer, TranscribeError>
         ensures ok { IfOk result (λ answer. (arm : ArmOf) → IsMade arm self.now → IsAnswer arm (rest_of input.entry) answer) }
-        ensures err { IfErr result (λ error. (arm : ArmOf) → IsMade arm self.now → IsRefusal arm (rest_of input.entry) error) }
+        ensures within { IfOk result (IsAnswerWithin limit) }
+        ensures err { IfErr result (λ error. (arm : ArmOf) → IsMade arm self.now → IsRefusalWithin limit arm (rest_of input.entry) error) }
     {
         let binding = match self.matcher.read(alloc, input)? {
             Found::Nothing(at) => return Ok(Answer::NoMatch(at)),
             Found::Many => return Ok(Answer::Ambiguous),
             Found::One(binding) => binding,
         };
-        let tree = self
-            .template
-            .transcribe(alloc, self.matcher.binders(), binding, self.delimiter)?;
+        let tree = self.template.transcribe_within(
+            alloc,
+            self.matcher.binders(),
+            binding,
+            self.delimiter,
+            limit,
+        )?;
         Ok(Answer::Tree(tree))
     }
+
     /// Returns the parts of the arm's pattern that wait at that flat place of an input. Fails only if memory runs out.
     pub(crate) fn waiting(
         &self,

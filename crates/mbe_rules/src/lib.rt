@@ -6,7 +6,8 @@
 //! expression, type, pattern or literal of several tokens goes into an opaque subtree (`enclose`).
 //!
 //! A `MacroRules` is a list of arms, each a `Matcher`, a `Template` and a delimiter. `expand` returns what the first arm
-//! that matches the input makes of it.
+//! that matches the input makes of it. `expand_within` does so with at most so many tokens: before each write, it takes them from those that
+//! may still be written (`limit`).
 //!
 //! The definitions that the contracts use are in `specs/` of this crate.
 #![tactic(auto)]
@@ -17,6 +18,7 @@ mod counting;
 mod enclose;
 mod error;
 mod first;
+mod limit;
 mod macro_rules;
 mod parse;
 mod parts;

@@ -49,7 +49,7 @@ fn add_parts(arm: usize, parts: &[usize], all: &mut Vec<ArmPart>) -> Result<(), 
 }
 
 impl MacroRules {
-    ghost use Rattle.mbe_rules.specs.Expansions.{AreMade, IsExpansion, IsExpandError};
+    ghost use Rattle.mbe_rules.specs.Expansions.{AreMade, IsExpansion, IsExpansionWithin, IsExpandError, IsExpandErrorWithin};
     ghost use Rattle.mbe_rules.specs.ArmFaults.{IsRulesError};
 
     /// Returns the macro whose arms the trees spell: `(pattern) => {template}`, in any brackets, with `;` between them, and optionally
@@ -92,10 +92,41 @@ impl MacroRules {
         ensures ok { IfOk result (λ expansion. (arms : List ArmOf) → AreMade arms self.now.arms.items → IsExpansion arms 0 0 (rest_of input.entry) expansion) }
         ensures err { IfErr result (λ error. (arms : List ArmOf) → AreMade arms self.now.arms.items → IsExpandError arms 0 (rest_of input.entry) error) }
     {
+        self.expand_with(alloc, input, None)
+    }
+
+    /// Does the same with at most `most` tokens below the template's delimiter. If what is filled up to the first fault has more, returns
+    /// `TranscribeError::OverLimit`, and stops before it would write more: so memory is also at most linear in the input and in `most`.
+    ///
+    /// A tree has at most 4,294,967,295 tokens (`TtFault::TooManyTokens`); only a lower `most` limits them further.
+    pub fn expand_within(
+        &self,
+        alloc: Global,
+        input: TtIter<'_>,
+        most: usize,
+    ) -> Result<Expansion, ExpandError>
+        ensures ok { IfOk result (λ expansion. (arms : List ArmOf) → AreMade arms self.now.arms.items → IsExpansion arms 0 0 (rest_of input.entry) expansion) }
+        ensures within { IfOk result (IsExpansionWithin (Some most)) }
+        ensures err { IfErr result (λ error. (arms : List ArmOf) → AreMade arms self.now.arms.items → IsExpandErrorWithin (Some most) arms 0 (rest_of input.entry) error) }
+    {
+        self.expand_with(alloc, input, Some(most))
+    }
+
+    // Expands an input, with at most so many tokens, if there is a limit.
+    fn expand_with(
+        &self,
+        alloc: Global,
+        input: TtIter<'_>,
+        limit: Option<usize>,
+    ) -> Result<Expansion, ExpandError>
+        ensures ok { IfOk result (λ expansion. (arms : List ArmOf) → AreMade arms self.now.arms.items → IsExpansion arms 0 0 (rest_of input.entry) expansion) }
+        ensures within { IfOk result (IsExpansionWithin limit) }
+        ensures err { IfErr result (λ error. (arms : List ArmOf) → AreMade arms self.now.arms.items → IsExpandErrorWithin limit arms 0 (rest_of input.entry) error) }
+    {
         let mut number = 0;
         let mut farthest = 0;
         while let Some(arm) = self.arms.get(number) {
-            match arm.expand(alloc, input.remaining().iter()) {
+            match arm.expand(alloc, input.remaining().iter(), limit) {
                 Ok(Answer::NoMatch(at)) => farthest = farthest.max(at),
                 Ok(Answer::Ambiguous) => return Ok(Expansion::Ambiguous(number)),
                 Ok(Answer::Tree(tree)) => return Ok(Expansion::Tree(tree)),

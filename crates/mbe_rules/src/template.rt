@@ -1,10 +1,12 @@
 //! Templates of macros.
-ghost use Rattle.std.specs.Prelude.{◌≡◌, map, IfOk, IfErr};
+ghost use Rattle.std.specs.Prelude.{◌≡◌, None, map, IfOk, IfErr};
+ghost use Rattle.tt.specs.Forest.{size};
 ghost use Rattle.tt.specs.Iters.{rest_of};
 ghost use Rattle.tt.specs.Stored.{IsWithinLimits};
 ghost use Rattle.mbe_matcher.specs.Grouping.{binding_by};
 ghost use Rattle.mbe_matcher.specs.Marks.{note_of};
 ghost use Rattle.mbe_matcher.specs.Stepping.{where_of};
+ghost use Rattle.mbe_rules.specs.Limits.{IsWithin};
 ghost use Rattle.mbe_rules.specs.Transcribing.{transcribed};
 ghost use Rattle.mbe_rules.specs.Spelling.{template_of};
 ghost use Rattle.mbe_rules.specs.Wholes.{AreWhole};
@@ -67,9 +69,26 @@ impl Template {
     ) -> Result<TopSubtree, TranscribeError>
         ensures ok { IfOk result (IsTranscribed delimiter (transcribed (meant self.now) (binding_by (map where_of binders.now) (map note_of binding.entry.marks.items)))) }
         ensures limits { IfOk result (λ tree. IsWithinLimits tree) }
-        ensures err { IfErr result (IsTranscribeError delimiter (transcribed (meant self.now) (binding_by (map where_of binders.now) (map note_of binding.entry.marks.items)))) }
+        ensures err { IfErr result (IsTranscribeError None delimiter (transcribed (meant self.now) (binding_by (map where_of binders.now) (map note_of binding.entry.marks.items)))) }
     {
-        transcribed(alloc, &self.parts, binders, binding, delimiter)
+        self.transcribe_within(alloc, binders, binding, delimiter, None)
+    }
+
+    /// Does the same with at most so many tokens below the delimiter, if there is a limit. Stops before it would write more.
+    pub(crate) fn transcribe_within(
+        &self,
+        alloc: Global,
+        binders: &[Binder],
+        binding: Binding<'_>,
+        delimiter: Delimiter,
+        limit: Option<usize>,
+    ) -> Result<TopSubtree, TranscribeError>
+        ensures ok { IfOk result (IsTranscribed delimiter (transcribed (meant self.now) (binding_by (map where_of binders.now) (map note_of binding.entry.marks.items)))) }
+        ensures limits { IfOk result (λ tree. IsWithinLimits tree) }
+        ensures within { IfOk result (λ tree. IsWithin limit (size tree.children)) }
+        ensures err { IfErr result (IsTranscribeError limit delimiter (transcribed (meant self.now) (binding_by (map where_of binders.now) (map note_of binding.entry.marks.items)))) }
+    {
+        transcribed(alloc, &self.parts, binders, binding, delimiter, limit)
     }
 
     /// Returns the parts of the template, in reading order, and the final end.

@@ -11,32 +11,35 @@ ghost use Rattle.mbe_matcher.specs.Grouping.{binding_by};
 ghost use Rattle.mbe_matcher.specs.Marks.{note_of};
 ghost use Rattle.mbe_matcher.specs.Stepping.{where_of};
 ghost use Rattle.mbe_rules.specs.declared.taken.Taken.{Taken};
+ghost use Rattle.mbe_rules.specs.declared.transcribe_error.TranscribeError.TheVariants.{Tree};
+ghost use Rattle.mbe_rules.specs.Limits.{IsWithin};
 ghost use Rattle.mbe_rules.specs.Transcribing.{transcribed, trees_used, trees_transcribed};
 ghost use Rattle.mbe_rules.specs.Parts.{bit_of, begin, close};
 ghost use Rattle.mbe_rules.specs.Enclosing.{enclosed_between, enclosed, as_piece};
 ghost use Rattle.mbe_rules.specs.Results.{IsTranscribed, IsTranscribeError};
 ghost use Rattle.mbe_rules.specs.Rounds.{AreTaken, binding_in, dones};
-ghost use Rattle.mbe_rules.specs.Filling.{bound_here, Grows, IsWant, Enters, Leaves, StepsTo, StopsAt};
+ghost use Rattle.mbe_rules.specs.Filling.{bound_here, Grows, IsWant, Opens, Enters, Leaves, StepsTo, StopsAt};
 ghost use Rattle.mbe_rules.specs.Wholes.{AreWhole, whole_of};
 
 use crate::counting::{rounds_by, scan};
 use crate::enclose::is_enclosed;
+use crate::limit::left_after;
 use crate::parts::Part;
 use crate::taken::{Round, Seen, Taken, fragment_of, seen_in, taken_by};
 use crate::transcribe_error::TranscribeError;
 use mbe_matcher::{Binder, Binding};
 use mbe_pattern::{Fragment, Tail};
 use std::alloc::Global;
-use tt::{
-    Delimiter, DelimiterKind, Leaf, Span, TokenTreesView, TopSubtree, TopSubtreeBuilder, TtFault,
-};
+use tt::{Delimiter, DelimiterKind, Leaf, Span, TokenTreesView, TopSubtree, TopSubtreeBuilder};
 
-/// The trees written so far, the rounds under way, and the close spans of the open subtrees, the innermost last.
+/// The trees written so far, the rounds under way, the close spans of the open subtrees, the innermost last, and how many more tokens may
+/// be written, if that is limited.
 #[derive(Drop)]
 pub(crate) struct Transcriber {
     pub(crate) builder: TopSubtreeBuilder,
     pub(crate) rounds: Vec<Round>,
     pub(crate) closes: Vec<Span>,
+    pub(crate) left: Option<usize>,
 }
 
 // Returns the trees that are bound to the variable of that index.
@@ -51,11 +54,23 @@ fn trees_of<'i>(taken: &[Taken<'i>], number: usize, rounds: &[Round]) -> TokenTr
 
 impl Transcriber {
     // Writes the trees. Their last token does not form one token with what follows.
-    fn append(&mut self, trees: TokenTreesView<'_>) -> Result<(), TtFault>
+    fn append(&mut self, trees: TokenTreesView<'_>) -> Result<(), TranscribeError>
         ensures ok { OnOk result (Grows (alone (trees_of trees.entry)) self.old self.new) }
         ensures err { IfErr result (IsWant (size (alone (trees_of trees.entry))) self.old) }
     {
-        self.builder.extend_with_tt_alone(trees)
+        self.left = left_after(self.left, trees.len())?;
+        self.builder.extend_with_tt_alone(trees)?;
+        Ok(())
+    }
+
+    // Opens a subtree.
+    fn open(&mut self, kind: DelimiterKind, open_span: Span) -> Result<(), TranscribeError>
+        ensures ok { OnOk result (Opens kind open_span self.old self.new) }
+        ensures err { IfErr result (IsWant 1 self.old) }
+    {
+        self.left = left_after(self.left, 1)?;
+        self.builder.open(kind, open_span)?;
+        Ok(())
     }
 
     // Writes the trees in an opaque subtree with these spans.
@@ -64,17 +79,18 @@ impl Transcriber {
         trees: TokenTreesView<'_>,
         first: Span,
         last: Span,
-    ) -> Result<(), TtFault>
+    ) -> Result<(), TranscribeError>
         ensures ok { OnOk result (Grows (enclosed_between first last (alone (trees_of trees.entry))) self.old self.new) }
         ensures err { IfErr result (IsWant (size (enclosed_between first last (alone (trees_of trees.entry)))) self.old) }
     {
-        self.builder.open(DelimiterKind::InvisibleOpaque, first)?;
-        self.builder.extend_with_tt_alone(trees)?;
-        self.builder.close(last)
+        self.open(DelimiterKind::InvisibleOpaque, first)?;
+        self.append(trees)?;
+        self.builder.close(last)?;
+        Ok(())
     }
 
     // Writes the trees in an opaque subtree with the spans of their first and last token.
-    fn enclose(&mut self, trees: TokenTreesView<'_>) -> Result<(), TtFault>
+    fn enclose(&mut self, trees: TokenTreesView<'_>) -> Result<(), TranscribeError>
         ensures ok { OnOk result (Grows (enclosed (trees_of trees.entry)) self.old self.new) }
         ensures err { IfErr result (IsWant (size (enclosed (trees_of trees.entry))) self.old) }
     {
@@ -89,7 +105,7 @@ impl Transcriber {
         &mut self,
         fragment: Option<Fragment>,
         trees: TokenTreesView<'_>,
-    ) -> Result<(), TtFault>
+    ) -> Result<(), TranscribeError>
         ensures ok { OnOk result (Grows (as_piece fragment (trees_of trees.entry)) self.old self.new) }
         ensures err { IfErr result (IsWant (size (as_piece fragment (trees_of trees.entry))) self.old) }
     {
@@ -101,37 +117,42 @@ impl Transcriber {
     }
 
     // Writes what is bound to the variable of that index.
-    fn transcribe_variable(&mut self, taken: &[Taken<'_>], number: usize) -> Result<(), TtFault>
+    fn transcribe_variable(
+        &mut self,
+        taken: &[Taken<'_>],
+        number: usize,
+    ) -> Result<(), TranscribeError>
         ensures ok { OnOk result ((binding : Bindings) → AreTaken binding taken.now → Grows (trees_transcribed (slice_get (bound_here binding (reverse self.old.rounds.items)) number)) self.old self.new) }
-        ensures err { IfErr result (λ fault. (binding : Bindings) → AreTaken binding taken.now → IsWant (size (trees_transcribed (slice_get (bound_here binding (reverse self.old.rounds.items)) number))) self.old fault) }
+        ensures err { IfErr result (λ error. (binding : Bindings) → AreTaken binding taken.now → IsWant (size (trees_transcribed (slice_get (bound_here binding (reverse self.old.rounds.items)) number))) self.old error) }
     {
         let trees = trees_of(taken, number, &self.rounds);
         self.write(fragment_of(taken, number), trees)
     }
 
     // Writes a token.
-    fn push(&mut self, leaf: &Leaf) -> Result<(), TtFault>
+    fn push(&mut self, leaf: &Leaf) -> Result<(), TranscribeError>
         ensures ok { OnOk result (Grows (leaf_of leaf.now end) self.old self.new) }
         ensures err { IfErr result (IsWant 1 self.old) }
     {
+        self.left = left_after(self.left, 1)?;
         let leaf = leaf.clone()?;
         self.builder.push(leaf)?;
         Ok(())
     }
 
-    // Opens a subtree.
-    fn enter(&mut self, delimiter: &Delimiter) -> Result<(), TtFault>
+    // Opens a subtree, and remembers how it is closed.
+    fn enter(&mut self, delimiter: &Delimiter) -> Result<(), TranscribeError>
         ensures ok { OnOk result (Enters delimiter.now self.old self.new) }
         ensures err { IfErr result (IsWant 1 self.old) }
     {
         self.closes.push(delimiter.close)?;
-        self.builder.open(delimiter.kind, delimiter.open_span)
+        self.open(delimiter.kind, delimiter.open_span)
     }
 
     // Closes a subtree, if one is open.
-    fn leave(&mut self) -> Result<(), TtFault>
+    fn leave(&mut self) -> Result<(), TranscribeError>
         ensures ok { OnOk result (Leaves self.old self.new) }
-        ensures err { IfErr result (λ fault. fault ≡ Memory) }
+        ensures err { IfErr result (λ error. error ≡ Tree Memory) }
     {
         let Some(close) = self.closes.pop() else {
             return Ok(());
@@ -167,7 +188,7 @@ impl Transcriber {
     }
 
     // Writes a separator.
-    fn separate(&mut self, separator: &[Leaf]) -> Result<(), TtFault>
+    fn separate(&mut self, separator: &[Leaf]) -> Result<(), TranscribeError>
         ensures ok { OnOk result (Grows (leaves separator.now) self.old self.new) }
         ensures err { IfErr result (IsWant (size (leaves separator.now)) self.old) }
     {
@@ -227,18 +248,21 @@ impl Transcriber {
 
 /// Returns the template of these parts under that delimiter, filled with what is bound to the variables.
 ///
-/// The binding is dropped as soon as it is no longer read, before the written trees are packed.
+/// With a limit, it stops before it would write more tokens. The binding is dropped as soon as it is no longer read, before the written
+/// trees are packed.
 pub(crate) fn transcribed(
     alloc: Global,
     parts: &[Part],
     binders: &[Binder],
     binding: Binding<'_>,
     delimiter: Delimiter,
+    limit: Option<usize>,
 ) -> Result<TopSubtree, TranscribeError>
     requires { AreWhole parts.now }
     ensures ok { IfOk result (IsTranscribed delimiter (transcribed (whole_of parts.now) (binding_by (map where_of binders.now) (map note_of binding.entry.marks.items)))) }
     ensures limits { IfOk result (λ tree. IsWithinLimits tree) }
-    ensures err { IfErr result (IsTranscribeError delimiter (transcribed (whole_of parts.now) (binding_by (map where_of binders.now) (map note_of binding.entry.marks.items)))) }
+    ensures within { IfOk result (λ tree. IsWithin limit (size tree.children)) }
+    ensures err { IfErr result (IsTranscribeError limit delimiter (transcribed (whole_of parts.now) (binding_by (map where_of binders.now) (map note_of binding.entry.marks.items)))) }
 {
     let taken = taken_by(alloc, binders, &binding)?;
     drop(binding);
@@ -246,6 +270,7 @@ pub(crate) fn transcribed(
         builder: TopSubtreeBuilder::new(alloc, delimiter)?,
         rounds: Vec::new(alloc),
         closes: Vec::new(alloc),
+        left: limit,
     };
     let mut next = 0;
     while let Some(part) = parts.get(next) {

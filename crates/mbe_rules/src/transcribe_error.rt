@@ -16,6 +16,9 @@ pub enum TranscribeError {
     /// A repetition that requires a round has none. The number is the flat place of its `$`.
     #[error("the repetition has no round")]
     NoRound(usize),
+    /// The filled template would have more tokens than the caller allows.
+    #[error("the filled template would have more tokens than allowed")]
+    OverLimit,
     /// The filled template is no tree: it exceeds a limit, or memory ran out.
     #[error("{0}")]
     Tree(TtFault),

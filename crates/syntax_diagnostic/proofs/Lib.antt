@@ -2,5 +2,6 @@
 pub mod CharFacts
 pub mod MarkFacts
 pub mod PlaceFacts
+mod ShownRows
 pub mod WidthFacts
 pub mod WindowFacts

@@ -1,8 +1,8 @@
 -- The part of a line that is shown.
-use Rattle.std.specs.Prelude.{ℕ, ◌-◌, nat_lt, Bool, true, false, List, [], ◌++◌, length, take, drop, codes, encode_utf8_all, if◌then◌else◌}
+use Rattle.std.specs.Prelude.{ℕ, ◌-◌, nat_lt, Bool, true, false, List, [], ◌++◌, length, map, take, drop, codes, encode_utf8_all, if◌then◌else◌}
 use Rattle.std.specs.List.{flat_map}
 use Rattle.std.specs.Str.{chars}
-use Rattle.syntax_diagnostic.specs.Mark.{indent_of}
+use Rattle.syntax_diagnostic.specs.Mark.{indent_of, shown_char}
 
 -- a line of more characters is cut
 abbrev pub most_chars : ℕ
@@ -32,10 +32,8 @@ dots false = []
 -- the part of a line that is shown, for a mark under a column
 unfoldable pub shown : (line : List ℕ) (column : ℕ) → List ℕ
 shown line column =
-    if is_long line
-    then dots (nat_lt 0 (cut_before line column))
-    ++ (encode_utf8_all (take most_chars (chars_after_cut line column)) ++ dots (nat_lt most_chars (length (chars_after_cut line column))))
-    else line
+    dots (nat_lt 0 (cut_before line column))
+    ++ (encode_utf8_all (map shown_char (take most_chars (chars_after_cut line column))) ++ dots (nat_lt most_chars (length (chars_after_cut line column))))
 
 -- as many columns as the points take that are left out before the mark
 abbrev pub indent_of_dots : (is_cut : Bool) → List ℕ

@@ -1,6 +1,6 @@
 //! The text before a mark under a line.
 ghost use Rattle.std.specs.Prelude.{◌≡◌, ◌≤◌, ◌++◌, OnOk, string_bytes, replicate};
-ghost use Rattle.syntax_diagnostic.specs.Mark.{indent, indent_of};
+ghost use Rattle.syntax_diagnostic.specs.Mark.{indent, indent_of, is_control, shown_char};
 
 use std::alloc::AllocError;
 use syntax_lex::split_first;
@@ -19,6 +19,24 @@ fn spaces(count: usize) -> &'static str
     }
 }
 
+// Returns whether a character controls a terminal, or the direction of what follows it; a tab does neither.
+fn is_control(c: char) -> bool
+    ensures { result ≡ is_control c }
+{
+    let code = c as u32;
+    (code < 32 && code != 9)
+        || (code > 126 && code < 160)
+        || (code > 8233 && code < 8239)
+        || (code > 8293 && code < 8298)
+}
+
+/// Returns a character as it is shown: U+FFFD for one that controls a terminal or the direction of what follows it.
+pub(crate) fn shown_char(c: char) -> char
+    ensures { result ≡ shown_char c }
+{
+    if is_control(c) { '\u{fffd}' } else { c }
+}
+
 // Returns a text that takes as many columns in a terminal as a character.
 fn indent_of(c: char) -> &'static str
     ensures { result.now ≡ indent_of c }
@@ -26,7 +44,7 @@ fn indent_of(c: char) -> &'static str
     if c == '\t' {
         return "\t";
     }
-    match c.width() {
+    match shown_char(c).width() {
         Some(columns) => spaces(columns),
         None => "",
     }
@@ -34,7 +52,7 @@ fn indent_of(c: char) -> &'static str
 
 #[tactic(auto, using(crate::proofs::MarkFacts::indent_step, crate::proofs::MarkFacts::indent_end))]
 /// Adds the text before the mark under a column of a line: a tab for a tab, and for another character as many
-/// spaces as it takes columns in a terminal.
+/// spaces as it takes columns in a terminal, as it is shown.
 pub fn add_indent(text: &mut String, line: &str, column: usize) -> Result<(), AllocError>
     ensures { OnOk result (string_bytes text.new ≡ string_bytes text.old ++ indent line.now column) }
 {

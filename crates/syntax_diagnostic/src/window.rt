@@ -1,9 +1,10 @@
 //! The part of a line that is shown.
-ghost use Rattle.std.specs.Prelude.{◌≡◌, ◌++◌, OnOk, nat_lt, length, take, drop, encode_utf8_all, string_bytes};
+ghost use Rattle.std.specs.Prelude.{◌≡◌, ◌++◌, OnOk, nat_lt, length, map, take, drop, encode_utf8_all, string_bytes};
 ghost use Rattle.std.specs.Str.{chars};
+ghost use Rattle.syntax_diagnostic.specs.Mark.{shown_char};
 ghost use Rattle.syntax_diagnostic.specs.Window.{dots, indent_of_dots, cut_before, shown, shown_indent};
 
-use crate::mark::add_indent;
+use crate::mark::{add_indent, shown_char};
 use std::alloc::AllocError;
 use syntax_lex::split_first;
 
@@ -40,16 +41,16 @@ fn has_more(text: &str, count: usize) -> bool
 }
 
 #[tactic(auto, using(crate::proofs::WindowFacts::add_step, crate::proofs::WindowFacts::add_end))]
-// Adds the first characters of a line, as many as that.
+// Adds the first characters of a line, as many as that, as they are shown.
 fn add_chars(text: &mut String, line: &str, count: usize) -> Result<(), AllocError>
-    ensures { OnOk result (string_bytes text.new ≡ string_bytes text.old ++ encode_utf8_all (take count (chars line.now))) }
+    ensures { OnOk result (string_bytes text.new ≡ string_bytes text.old ++ encode_utf8_all (map shown_char (take count (chars line.now)))) }
 {
     let mut rest = line;
     for _ in 0..count {
         let Some((c, more)) = split_first(rest) else {
             return Ok(());
         };
-        text.push(c)?;
+        text.push(shown_char(c))?;
         rest = more;
     }
     Ok(())
@@ -81,13 +82,11 @@ fn cut_before(line: &str, column: usize) -> usize
 }
 
 #[tactic(auto, unfolding(crate::specs::Window::shown))]
-/// Adds the part of a line that is shown, for a mark under a column: all of it, unless it has more than 160 characters.
+/// Adds the part of a line that is shown, for a mark under a column: all of it, unless it has more than 160 characters. Characters that
+/// control a terminal are shown as U+FFFD.
 pub(crate) fn add_shown(text: &mut String, line: &str, column: usize) -> Result<(), AllocError>
     ensures { OnOk result (string_bytes text.new ≡ string_bytes text.old ++ shown line.now column) }
 {
-    if !has_more(line, MOST_CHARS) {
-        return text.push_str(line);
-    }
     let cut = cut_before(line, column);
     let rest = skip_chars(line, cut);
     add_dots(text, cut > 0)?;

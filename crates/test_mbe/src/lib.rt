@@ -8,6 +8,8 @@ mod fragments;
 #[cfg(test)]
 mod handed_on;
 #[cfg(test)]
+mod limited;
+#[cfg(test)]
 mod macros;
 #[cfg(test)]
 mod pattern_faults;

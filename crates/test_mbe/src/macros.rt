@@ -2,23 +2,29 @@
 use crate::texts::{holds, tree_of};
 use crate::written::written;
 use mbe_pattern::PatternError;
-use mbe_rules::{ArmFault, Expansion, MacroRules, TemplateError, TranscribeError};
+use mbe_rules::{ArmFault, ExpandError, Expansion, MacroRules, TemplateError, TranscribeError};
 use std::alloc::Global;
 use std::test::Fail;
 
-// Returns the result for an input as a text: its tokens, or that no arm takes it and where the farthest stops, or the number of the arm
-// that takes it in two ways, or that the template is not filled.
+// Returns the result for an input as a text.
 fn told(alloc: Global, arms: &str, input: &str) -> Option<String> {
     let arms = tree_of(alloc, arms)?;
     let input = tree_of(alloc, input)?;
     let rules = MacroRules::new(alloc, arms.token_trees().iter()).ok()?;
-    match rules.expand(alloc, input.token_trees().iter()) {
+    text_of(alloc, rules.expand(alloc, input.token_trees().iter()))
+}
+
+/// Returns an answer as a text: its tokens, or that no arm takes the input and where the farthest stops, or the number of the arm
+/// that takes it in two ways, or that the template is not filled.
+pub(crate) fn text_of(alloc: Global, answer: Result<Expansion, ExpandError>) -> Option<String> {
+    match answer {
         Ok(Expansion::Tree(tree)) => written(alloc, &tree),
         Ok(Expansion::NoMatch(at)) => numbered(alloc, "no match ", at),
         Ok(Expansion::Ambiguous(arm)) => numbered(alloc, "ambiguous ", arm),
         Err(error) => match error.fault {
             TranscribeError::LengthsDiffer(_) => numbered(alloc, "lengths ", error.arm),
             TranscribeError::NoRound(_) => numbered(alloc, "no round ", error.arm),
+            TranscribeError::OverLimit => numbered(alloc, "over limit ", error.arm),
             TranscribeError::Tree(_) => None,
         },
     }

@@ -135,7 +135,7 @@ fn fault_of(error: TranscribeError) -> Option<(bool, usize)> {
     match error {
         TranscribeError::LengthsDiffer(at) => Some((true, at)),
         TranscribeError::NoRound(at) => Some((false, at)),
-        TranscribeError::Tree(_) => None,
+        TranscribeError::OverLimit | TranscribeError::Tree(_) => None,
     }
 }
 

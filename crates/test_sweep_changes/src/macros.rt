@@ -64,9 +64,9 @@ fn expanded(
         Ok(Expansion::NoMatch(_)) | Ok(Expansion::Ambiguous(_)) => Ok(None),
         Err(error) => match error.fault {
             TranscribeError::Tree(fault) => Err(fault),
-            TranscribeError::LengthsDiffer(_) | TranscribeError::NoRound(_) => Err(
-                TtFault::NotOneSubtree,
-            ),
+            TranscribeError::LengthsDiffer(_)
+            | TranscribeError::NoRound(_)
+            | TranscribeError::OverLimit => Err(TtFault::NotOneSubtree),
         },
     }
 }

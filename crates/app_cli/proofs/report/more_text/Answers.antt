@@ -2,7 +2,8 @@ use Rattle.std.proofs.Common.{rules, ◌≡◌, ◌++◌, ◌∷◌, [], sym, su
 use Rattle.std.specs.Prelude.{string_bytes}
 use Rattle.app_cli.proofs.MoreText.{more_written}
 use Rattle.app_cli.proofs.report.more_text.Goals as goal
-use Rattle.app_cli.specs.Reports.{more_message, IsMoreText, IsPlainText}
+use Rattle.app_files.specs.Plain.{IsPlainText}
+use Rattle.app_cli.specs.Reports.{more_message, IsMoreText}
 use Rattle.syntax_diagnostic.specs.declared.level.Level.TheVariants.{Warning}
 
 pub returns : goal.returns

@@ -54,8 +54,8 @@ returns-clause-defined c context is =
       | in-Faulty+in_ok-find-in-Faulty w ↦
           let fault = w.in-Faulty.fault in
           let wrong_there = subst (IsRules it trees) w.in-Faulty.is c.in_ok-rules.ensures in
-          let made_finding : Finding = record { name = c.in_ok-name.name; at = w.in-Faulty.at; fault = fault; defined_at = None; caller = None } in
-          let same : made_finding ≡ found_in it w.in-Faulty.at fault = ap (λ n. record { name = n; at = w.in-Faulty.at; fault = fault; defined_at = None; caller = None }) name in
+          let made_finding : Finding = record { name = c.in_ok-name.name; at = w.in-Faulty.at; fault = fault; defined_at = None; expected = None; caller = None } in
+          let same : made_finding ≡ found_in it w.in-Faulty.at fault = ap (λ n. record { name = n; at = w.in-Faulty.at; fault = fault; defined_at = None; expected = None; caller = None }) name in
           let then : Context = with_finding (found_in it w.in-Faulty.at fault) context in
           let found : IsContext then c.match-branch-3.context =
           subst (IsContext then) (sym w.context-is) (subst (λ f. IsContext (with_finding f context) w.find.new.self) same (w.in_ok-find-in-Faulty.ensures.found context is)) in

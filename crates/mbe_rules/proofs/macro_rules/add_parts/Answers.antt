@@ -1,4 +1,4 @@
-use Rattle.std.proofs.Common.{rules, ◌≡◌, ◌<◌, ◌≤◌, ◌∙◌, ◌++◌, ◌∷◌, ◌+◌, [], length, drop, map, get_or, ap, sym, arith, append-nil, append_assoc}
+use Rattle.std.proofs.Common.{rules, ◌≡◌, ◌<◌, ◌∙◌, ◌++◌, ◌∷◌, ◌+◌, [], length, drop, map, get_or, ap, sym, arith, append-nil, append_assoc}
 use Rattle.std.proofs.lemmas.List.{drop_more, drop_all}
 use Rattle.mbe_rules.specs.Waiting.{in_arm}
 use Rattle.mbe_rules.proofs.macro_rules.add_parts.Goals as goal

@@ -6,7 +6,7 @@ use Rattle.mbe_matcher.specs.Marks.{note_of}
 use Rattle.mbe_matcher.specs.Stepping.{where_of}
 use Rattle.mbe_rules.specs.Transcribing.{transcribed}
 use Rattle.mbe_rules.specs.Parts.{bit_of}
-use Rattle.mbe_rules.specs.Filling.{IsAt}
+use Rattle.mbe_rules.specs.Filling.{most_of, IsAt}
 use Rattle.mbe_rules.specs.Wholes.{whole_of, levels_in}
 use Rattle.mbe_rules.specs.Writing.{Level, written_by, finished}
 use Rattle.mbe_rules.proofs.Measuring.{work_at}
@@ -21,6 +21,7 @@ invariant-loop-part l =
       is_at : IsAt (map bit_of l.parts) binding levels l.transcriber (map bit_of (drop l.next l.parts));
       whole : finished levels (written_by l.transcriber) ≡ record { stack = lowest all.trees; fault = all.fault };
       top : l.transcriber.builder.top ≡ l.fn.delimiter;
+      most : most_of l.transcriber ≡ l.fn.limit;
     }
 
 abbrev pub decreases-loop-part : goal.decreases-loop-part

@@ -6,7 +6,7 @@ use Rattle.mbe_rules.specs.Counting.{counted_all, rounds_by, uses_before, kind_b
 use Rattle.mbe_rules.specs.Transcribing.{counts_of}
 use Rattle.mbe_rules.specs.Parts.{bit_of}
 use Rattle.mbe_rules.specs.Rounds.{binding_in, dones}
-use Rattle.mbe_rules.specs.Filling.{bound_here, bits_from, Goes, IsStop}
+use Rattle.mbe_rules.specs.Filling.{bound_here, bits_from, most_of, Goes, IsStop}
 use Rattle.mbe_rules.specs.Writing.{written_by, finished}
 use Rattle.mbe_rules.proofs.Repeating.{asked}
 use Rattle.mbe_rules.proofs.Stepping.{none_steps, begin_steps, begin_stops}
@@ -24,7 +24,7 @@ returns-in_err-count-clause-err c =
     let asks : asked c.args.at (bound_here whole (reverse old.rounds.items)) left ≡ rounds_by c.args.at c.scan-scanned.result.kind c.scan-scanned.result.count =
     ap (λ l. rounds_by c.args.at (kind_before 0 left) (counted_all (counts_of (binding_in (dones l) whole) (uses_before 0 left)) Unknown)) (reverse-reverse old.rounds.items ∙ sym c.deref.ensures.value)
     ∙ ap₂ (rounds_by c.args.at) (sym c.scan-scanned.ensures.kind) (sym (c.scan-scanned.ensures.count whole are)) in
-    subst (IsStop (finished levels (written_by old))) (sym answer) (begin_stops bits whole levels left old c.args.at fault is (asks ∙ is_fault)))
+    subst (IsStop (most_of old) (finished levels (written_by old))) (sym answer) (begin_stops bits whole levels left old c.args.at fault is (asks ∙ is_fault)))
 
 pub returns-then-count-eq0-clause-ok : goal.returns-then-count-eq0-clause-ok
 returns-then-count-eq0-clause-ok c whole levels are is =
@@ -51,4 +51,4 @@ returns-clause-ok c whole levels are is =
     let answer : rounds_by c.args.at c.scan-scanned.result.kind c.scan-scanned.result.count ≡ Ok (suc n) = c.in_ok-count.ensures.ok ∙ ap Ok some in
     let begun : Round = record { body = c.args.body; done = 0; last = n } in
     let pushed : c.push.new.self.items ≡ old.rounds.items ++ begun ∷ [] = search rules in
-    begin_steps bits whole levels left old _ c.args.at n c.args.body is (asks ∙ answer) (drop-map bit_of c.args.body c.args.parts.now) refl refl pushed
+    begin_steps bits whole levels left old _ c.args.at n c.args.body is (asks ∙ answer) (drop-map bit_of c.args.body c.args.parts.now) refl refl refl pushed

@@ -7,4 +7,4 @@ returns-in_default-clause-ok c =
     let old = c.args.self.now in
     let none : old.closes.items ≡ [] = search rules in
     let still : c.pop.new.self.items ≡ [] = search rules in
-    subst (λ l. AreClosed l old (record { builder = old.builder; rounds = old.rounds; closes = c.pop.new.self })) (sym (ap reverse none)) (refl, refl, still)
+    subst (λ l. AreClosed l old (record { builder = old.builder; rounds = old.rounds; closes = c.pop.new.self; left = old.left })) (sym (ap reverse none)) (refl, refl, refl, still)

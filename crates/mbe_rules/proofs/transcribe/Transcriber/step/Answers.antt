@@ -1,5 +1,4 @@
 use Rattle.std.proofs.Common.{rules, ◌≡◌, Err, ◌∷◌, map, subst}
-use Rattle.mbe_rules.specs.declared.transcribe_error.TranscribeError.TheVariants.{Tree}
 use Rattle.mbe_rules.specs.declared.parts.Part.TheVariants as part
 use Rattle.mbe_rules.specs.Parts.{bit_of}
 use Rattle.mbe_rules.specs.Filling.{IsAt, bits_from}
@@ -13,7 +12,7 @@ returns-in_err-transcribe_variable-in-Use-clause-err c =
     let left = bits_from c.args.parts.now c.args.behind in
     let fault = c.in_err-transcribe_variable-in-Use.field-0.0 in
     let part : c.args.part.now ≡ part.Use c.in-Use.field-0 c.in-Use.number = search rules in
-    let failed : c.from_residual.result ≡ Err (Tree fault) = search rules in
+    let failed : c.from_residual.result ≡ Err fault = search rules in
     rw failed
     (λ whole levels are is.
     use_stops bits whole levels left old c.in-Use.field-0 c.in-Use.number fault (subst (λ p. IsAt bits whole levels old (bit_of p ∷ left)) part is) (c.in_err-transcribe_variable-in-Use.ensures.err whole are))
@@ -25,7 +24,7 @@ returns-in_err-push-in-Token-clause-err c =
     let left = bits_from c.args.parts.now c.args.behind in
     let fault = c.in_err-push-in-Token.field-0.0 in
     let part : c.args.part.now ≡ part.Token c.in-Token.leaf = search rules in
-    let failed : c.from_residual-in_err-push-in-Token.result ≡ Err (Tree fault) = search rules in
+    let failed : c.from_residual-in_err-push-in-Token.result ≡ Err fault = search rules in
     rw failed
     (λ whole levels are is.
     token_stops bits whole levels left old c.in-Token.leaf fault (subst (λ p. IsAt bits whole levels old (bit_of p ∷ left)) part is) c.in_err-push-in-Token.ensures.err)
@@ -37,7 +36,7 @@ returns-in_err-enter-in-Enter-clause-err c =
     let left = bits_from c.args.parts.now c.args.behind in
     let fault = c.in_err-enter-in-Enter.field-0.0 in
     let part : c.args.part.now ≡ part.Enter c.in-Enter.delimiter = search rules in
-    let failed : c.from_residual-in_err-enter-in-Enter.result ≡ Err (Tree fault) = search rules in
+    let failed : c.from_residual-in_err-enter-in-Enter.result ≡ Err fault = search rules in
     rw failed
     (λ whole levels are is.
     enter_stops bits whole levels left old c.in-Enter.delimiter fault (subst (λ p. IsAt bits whole levels old (bit_of p ∷ left)) part is) c.in_err-enter-in-Enter.ensures.err)

@@ -1,0 +1,8 @@
+-- What is left is text.
+use denote.Text.{Utf8}
+use denote.Shadow.{shadow}
+use Rattle.app_files.proofs.mentions.Mentions.of.Given as goal
+
+abbrev pub invariant-loop-token : goal.invariant-loop-token
+invariant-loop-token l =
+    (goal.iterator-loop-token).can_next l.token-iterator × (goal.iterator-loop-token).is_finite l.token-iterator × shadow (Utf8 l.rest)

@@ -1,0 +1,114 @@
+-- What the arms of a macro expect where none of them matches an input.
+use Rattle.std.specs.Prelude.{◌≡◌, ◌+◌, ◌==◌, ◌||◌, ℕ, min, Bool, List, [], ◌∷◌, ◌++◌, length, Option, None, Some, codes, decimal, bytes_eq, nat_lt, if◌then◌else◌}
+use Rattle.std.specs.List.{join_by, list_any}
+use Rattle.tt.specs.Forest.{Forest}
+use Rattle.tt.specs.Types.DelimiterKind.{DelimiterKind}
+use Rattle.tt.specs.Types.DelimiterKind.TheVariants as delimited
+use Rattle.tt.specs.Types.Leaf.{Leaf}
+use Rattle.tt_base.specs.LeafText.{leaf_text}
+use Rattle.expand_items.specs.Items.{Call}
+use Rattle.expand_text.specs.declared.fault.MacroFault.{MacroFault}
+use Rattle.expand_text.specs.declared.fault.MacroFault.TheVariants as wrong
+use Rattle.mbe_pattern.specs.declared.pattern.Fragment.{Fragment}
+use Rattle.mbe_pattern.specs.declared.pattern.Fragment.TheVariants as fragment
+use Rattle.mbe_pattern.specs.declared.pattern.GrammarFragment.{GrammarFragment}
+use Rattle.mbe_pattern.specs.declared.pattern.GrammarFragment.TheVariants as grammar
+use Rattle.mbe_pattern.specs.declared.pattern.Variable.{Variable}
+use Rattle.mbe_matcher.specs.Labels.{Label, take, same, enter, leave}
+use Rattle.mbe_rules.specs.declared.macro_rules.ArmPart.{ArmPart}
+use Rattle.mbe_rules.specs.declared.macro_rules.Expansion.TheVariants as expansion
+use Rattle.mbe_rules.specs.Arms.{Arm}
+use Rattle.mbe_rules.specs.Expansions.{IsExpansion}
+use Rattle.mbe_rules.specs.Waiting.{AreWaitingIn, part_in}
+
+-- the name of a fragment of Rust's grammar
+abbrev pub grammar_name : GrammarFragment → List ℕ
+grammar_name grammar.Expr = codes "expr"
+grammar_name grammar.Expr2021 = codes "expr_2021"
+grammar_name grammar.Ty = codes "ty"
+grammar_name grammar.Pat = codes "pat"
+grammar_name grammar.PatParam = codes "pat_param"
+grammar_name grammar.Path = codes "path"
+grammar_name grammar.Stmt = codes "stmt"
+grammar_name grammar.Item = codes "item"
+grammar_name grammar.Meta = codes "meta"
+
+-- the name of a fragment
+abbrev pub fragment_name : Fragment → List ℕ
+fragment_name fragment.Ident = codes "ident"
+fragment_name fragment.Literal = codes "literal"
+fragment_name fragment.Lifetime = codes "lifetime"
+fragment_name fragment.Block = codes "block"
+fragment_name fragment.Vis = codes "vis"
+fragment_name fragment.Tt = codes "tt"
+fragment_name (fragment.Grammar it) = grammar_name it
+
+-- how a bracket opens
+abbrev pub opening : DelimiterKind → List ℕ
+opening delimited.Parenthesis = codes "("
+opening delimited.Brace = codes "{"
+opening delimited.Bracket = codes "["
+opening delimited.Invisible = []
+opening delimited.InvisibleOpaque = []
+
+-- a variable as it is in its pattern; one without a name is `_`
+abbrev pub name_text : Option (List ℕ) → List ℕ
+name_text None = codes "_"
+name_text (Some name) = name
+
+abbrev pub variable_text : Variable → List ℕ
+variable_text it = codes "$" ++ name_text it.name ++ codes ":" ++ fragment_name it.fragment
+
+-- the text of a token of these leaves
+abbrev pub token_text : List Leaf → List ℕ
+token_text [] = []
+token_text (it ∷ others) = leaf_text it ++ token_text others
+
+-- a byte of a control character, or the first of the two bytes of U+0080 to U+00BF, some of which are control characters
+abbrev pub is_control : (byte : ℕ) → Bool
+is_control byte = nat_lt byte 32 || (byte == 127 || byte == 194)
+
+-- a text in backquotes, or the other one if it has more than 40 bytes or one of those
+abbrev pub quoted : (text other : List ℕ) → List ℕ
+quoted text other = if nat_lt 40 (length text) || list_any is_control text then other else codes "`" ++ text ++ codes "`"
+
+-- how a message names what a part of a pattern requires
+abbrev pub label_text : Label → List ℕ
+label_text (take which) = quoted (variable_text which) (codes "a variable")
+label_text (same its) = quoted (token_text its) (codes "a token")
+label_text (enter kind) = quoted (opening kind) []
+label_text leave = codes "the end"
+
+-- the number of a rule, counted from 1, up to the largest 64-bit number
+abbrev pub rule_number : (arm : ℕ) → ℕ
+rule_number arm = min (arm + 1) 18446744073709551615
+
+abbrev pub rule_text : (arm : ℕ) → List ℕ
+rule_text arm = codes " (rule " ++ decimal (rule_number arm) ++ codes ")"
+
+-- one text more, unless it is there already: behind three of them only that there are others
+abbrev pub added : List (List ℕ) → List ℕ → List (List ℕ)
+added texts text =
+    if list_any (λ other. bytes_eq other text) texts || nat_lt 3 (length texts) then texts
+    else texts ++ (if length texts == 3 then codes "others" else text) ∷ []
+
+-- behind these texts, how a message names a part of that rule, if there is one
+abbrev pub part_added : List (List ℕ) → (arm : ℕ) → Option Label → List (List ℕ)
+part_added texts arm None = texts
+part_added texts arm (Some label) = added texts (label_text label ++ rule_text arm)
+
+-- behind these texts, how a message names these parts, each once
+abbrev pub parts_named : List Arm → List (List ℕ) → List ArmPart → List (List ℕ)
+parts_named arms texts [] = texts
+parts_named arms texts (part ∷ parts) = parts_named arms (part_added texts part.arm (part_in arms part.arm part.part)) parts
+
+-- what arms expect at a flat place of an input: the parts that wait there
+abbrev pub IsExpected : List Arm → (input : Forest) → (place : ℕ) → (expected : List ℕ) → Type 0
+IsExpected arms input place expected =
+    (parts : List ArmPart) × AreWaitingIn arms 0 input place parts × (expected ≡ join_by (λ text. text) (codes " or ") (parts_named arms [] parts))
+
+-- what a finding about a call says of it: something only if no arm matches the input
+abbrev pub IsExpectedFor : List Arm → Call → MacroFault → (expected : Option (List ℕ)) → Type 0
+IsExpectedFor arms it wrong.NoMatch expected =
+    (place : ℕ) × IsExpansion arms 0 0 it.input (expansion.NoMatch place) × (text : List ℕ) × IsExpected arms it.input place text × (expected ≡ Some text)
+IsExpectedFor arms it fault expected = expected ≡ None
