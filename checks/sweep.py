@@ -26,7 +26,7 @@ TAKE_MEMORY = {
         "lists": ("is_one_subtree pack of_list from_serialized from_tokens",),
         "counted": ("pack_counted of_list_counted",),
         "pieces": ("to_bytes from_bytes",),
-        "texts": ("parse_to_token_tree rust_text",),
+        "texts": ("parse_to_token_tree rust_text Sources::read rust_text_laid",),
         "levels": ("take",),
     },
     "test_sweep_changes": {

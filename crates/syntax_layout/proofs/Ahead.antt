@@ -1,9 +1,9 @@
 -- What loops over the tokens of a text keep: any tokens of what is left complete those of the text.
-use Rattle.std.proofs.Common.{◌≡◌, ℕ, ◌+◌, ◌<◌, Bool, true, false, ◌||◌, ◌&&◌, List, [], ◌∷◌, ◌++◌, length, take, drop, get_or, refl, sym, ap, ap₂, ◌∙◌, subst, arith, append_assoc, append-nil, if◌then◌else◌}
+use Rattle.std.proofs.Common.{◌≡◌, ℕ, ◌+◌, ◌<◌, Bool, true, false, not, ◌==◌, is_some, ◌||◌, ◌&&◌, List, [], ◌∷◌, ◌++◌, length, take, drop, get_or, refl, sym, ap, ap₂, ◌∙◌, subst, arith, append_assoc, append-nil, if◌then◌else◌}
 use Rattle.std.proofs.lemmas.Bool.{false≢true}
 use Rattle.std.specs.Str.{chars, IsUtf8}
 use Rattle.syntax_layout.specs.Gap.{IsGap, are_blank, is_blank}
-use Rattle.syntax_layout.specs.Layout.{HasOthers, IsLaidOut, ahead, are_plain, joins, laid, laid_out, put_before, touched, touches_surely}
+use Rattle.syntax_layout.specs.Layout.{HasOthers, IsLaidOut, ahead, are_plain, ends_before, joins, joins_before, laid, laid_out, put_before, touched, touches_surely}
 use Rattle.syntax_lex.proofs.FrontFacts.{chars-empty, empty_from_chars}
 use Rattle.syntax_lex.proofs.TokenFacts.{one_list}
 use Rattle.syntax_lex.specs.Reading.{AreTokensOf, first_token_of}
@@ -13,6 +13,7 @@ use Rattle.syntax_lex.specs.declared.token.TokenKind.TheVariants as kinds
 use Rattle.laws_round_trip.specs.Whole.{is_whole}
 use Rattle.laws_round_trip.specs.Kept.{ends_in_line, is_line}
 use Rattle.syntax_parse.proofs.TextFacts.{cut, tokens_exist}
+use Rattle.syntax_parse.specs.Pieces.{punct_char}
 
 -- a token before the tokens of what is left behind it
 pub one_before : (rest behind : List ℕ) (token : Token) (more : List Token) → IsUtf8 rest → 0 < length rest → token ≡ first_token_of (chars rest) → behind ≡ drop token.len rest
@@ -32,7 +33,7 @@ abbrev pub line_end : Bool → List Token → Bool
 line_end line [] = line
 line_end line (token ∷ tokens) = line_end (is_line token.kind) tokens
 
-ends_line : (tokens : List Token) → ends_in_line tokens ≡ line_end false tokens
+pub ends_line : (tokens : List Token) → ends_in_line tokens ≡ line_end false tokens
 ends_line [] = refl
 ends_line (a ∷ []) = refl
 ends_line (a ∷ b ∷ tokens) = ends_line (b ∷ tokens)
@@ -194,3 +195,23 @@ pub touch_end : (kind : TokenKind) (before gap text : List ℕ) (touching : Bool
 touch_end kind before gap text touching rest none far tokens are =
     let all = far [] (chars-empty rest none) in
     all.same ∙ ap (touched true kind before gap text) (one_list all.tokens tokens (chars text) all.read are)
+
+apart_by : (touching joining empty ends : Bool) → joining ≡ false → empty ≡ false → (touching && joining) || (empty && (not joining && ends)) ≡ false
+apart_by false joining empty ends apart some = ap (λ e. e && (not joining && ends)) some
+apart_by true joining empty ends apart some = ap₂ (λ j e. j || (e && (not j && ends))) apart some
+
+-- nothing is touched for sure by a token that is no punct, if a gap is after it
+pub touch_none : (touching : Bool) (kind : TokenKind) (before gap text : List ℕ) (tokens : List Token) → is_some (punct_char kind) ≡ false → (length gap == 0) ≡ false → touched touching kind before gap text tokens ≡ []
+touch_none touching kind before gap text [] alone some = refl
+touch_none touching kind before gap text (token ∷ tokens) alone some = go (is_blank token.kind) (touch_none false kind before gap (drop token.len text) tokens alone some)
+  where
+    word : List ℕ
+    word = take token.len text
+
+    apart : touches_surely touching (joins kind token.kind) before gap word ≡ false
+    apart = apart_by touching (joins kind token.kind) (length gap == 0) (ends_before before word) (ap (λ p. p && joins_before token.kind) alone) some
+
+    go : (blank : Bool) → touched false kind before gap (drop token.len text) tokens ≡ []
+        → (if blank then touched false kind before gap (drop token.len text) tokens else (if touches_surely touching (joins kind token.kind) before gap word then word else [])) ≡ []
+    go true rest = rest
+    go false rest = ap (λ b. if b then word else []) apart

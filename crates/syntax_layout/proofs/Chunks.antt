@@ -1,6 +1,6 @@
 -- Chunks with a space before them.
-use Rattle.std.proofs.Common.{◌≡◌, ◌≢◌, ℕ, Bool, true, false, List, [], ◌∷◌, ◌++◌, Some, refl, sym, ap, ◌∙◌, arith}
-use Rattle.std.proofs.lemmas.Str.{IsUtf8-append, chars-append, chars-nil}
+use Rattle.std.proofs.Common.{◌≡◌, ◌≢◌, ℕ, ◌<◌, Bool, true, false, List, [], ◌∷◌, ◌++◌, Some, refl, sym, ap, ◌∙◌, arith}
+use Rattle.std.proofs.lemmas.Str.{IsUtf8-append, IsUtf8-from_ascii, chars-append, chars-nil}
 use Rattle.std.specs.Str.{chars}
 use Rattle.laws_round_trip.proofs.KindFacts.{blank_read}
 use Rattle.laws_round_trip.proofs.Seams.{match_cons, space_blank, space_chunk}
@@ -14,7 +14,8 @@ use Rattle.syntax_parse.specs.Parsed.{next_kind}
 use Rattle.syntax_parse.specs.declared.bracket.Bracket.{Bracket}
 use Rattle.syntax_parse.specs.declared.role.Role.TheVariants.{Nothing}
 use Rattle.syntax_unparse.proofs.Chunks.{AreChunks, Chunk, IsChunk, joined, match, match_as, means_of, tokens_of}
-use Rattle.syntax_unparse.proofs.Fronts.{ascii_first, text}
+use Rattle.syntax_unparse.proofs.Fronts.{ascii_first, not_nil, text}
+use Rattle.syntax_unparse.proofs.KindFacts.{ascii_one}
 
 -- a chunk that means nothing does not change the open brackets
 pub blank_match : (before : List Bracket) (x : Chunk) (xs : List Chunk) → x.role ≡ Nothing → match before (x ∷ xs) ≡ match before xs
@@ -52,21 +53,21 @@ space_is chunks none = record {
   means = λ part at. refl;
 }
 
--- a space before white space
-merged_is : (n : Chunk) (ns : List Chunk) → IsChunk n ns → behind is_whitespace (text (n ∷ ns)) ≡ text ns → IsChunk (white (32 ∷ n.text)) ns
-merged_is n ns it all =
-    let letters : chars (32 ∷ n.text) ≡ 32 ∷ chars n.text = ascii_first 32 n.text (omega arith) in
+-- white space of ASCII before white space
+pub merged_is : (b : ℕ) (n : Chunk) (ns : List Chunk) → b < 128 → is_whitespace b ≡ true → IsChunk n ns → behind is_whitespace (text (n ∷ ns)) ≡ text ns → IsChunk (white (b ∷ n.text)) ns
+merged_is b n ns low blank it all =
+    let letters : chars (b ∷ n.text) ≡ b ∷ chars n.text = ascii_first b n.text low in
     record {
-      utf8 = IsUtf8-append (32 ∷ []) n.text space_blank.utf8 it.utf8;
-      some = some_space n.text;
+      utf8 = IsUtf8-append (b ∷ []) n.text (IsUtf8-from_ascii (b ∷ []) (ascii_one b low)) it.utf8;
+      some = λ e. not_nil b (chars n.text) (sym letters ∙ e);
       reads =
-          ap (λ t. reading (t ++ text ns)) letters ∙ blank_read 32 (chars n.text ++ text ns) refl
+          ap (λ t. reading (t ++ text ns)) letters ∙ blank_read b (chars n.text ++ text ns) blank
           ∙ ap (λ t. (kinds.Whitespace, t)) (ap (behind is_whitespace) (sym (chars-append n.text (joined ns) it.utf8)) ∙ all);
       role = refl;
       means = λ part at. refl;
     }
 
-first_letter : (letters more : List ℕ) → letters ≢ [] → first (letters ++ more) ≡ first letters
+pub first_letter : (letters more : List ℕ) → letters ≢ [] → first (letters ++ more) ≡ first letters
 first_letter [] more some = absurd (some refl)
 first_letter (c ∷ cs) more some = refl
 
@@ -91,7 +92,7 @@ put_space (n ∷ ns) are = go (is_whitespace (first (chars n.text))) refl
         let merged = white (32 ∷ n.text) in (
           record {
             new = merged ∷ ns;
-            are = (merged_is n ns are.0 known.all, are.1);
+            are = (merged_is 32 n ns (omega arith) refl are.0 known.all, are.1);
             text_is = refl;
             means = ap (λ t. t ++ means_of ns) (sym known.means);
             matches = λ before. blank_match before merged ns refl ∙ sym (blank_match before n ns known.role);

@@ -82,7 +82,7 @@ behind_all p (x ∷ xs) r e = go (p x) refl (λ h. behind_all p xs r h)
         by h = cc
 
 -- a blank token that is all of a text, and no comment to the end of a line, is the same before what begins with no white space
-blank_before : (letters : List ℕ) (kind : TokenKind) (r : List ℕ) → letters ≢ [] → reading letters ≡ (kind, []) → is_blank kind ≡ true → is_line kind ≡ false → is_whitespace (first r) ≡ false
+pub blank_before : (letters : List ℕ) (kind : TokenKind) (r : List ℕ) → letters ≢ [] → reading letters ≡ (kind, []) → is_blank kind ≡ true → is_line kind ≡ false → is_whitespace (first r) ≡ false
     → reading (letters ++ r) ≡ (kind, r)
 blank_before [] kind r some read is line apart = absurd (some refl)
 blank_before (c ∷ cs) kind r some read is line apart = go (is_whitespace c) refl
@@ -196,3 +196,7 @@ fit_more [] [] a u fit it = (it, tt)
 fit_more [] (v ∷ used) a u fit it = absurd fit
 fit_more (b ∷ asked) [] a u fit it = absurd fit
 fit_more (b ∷ asked) (v ∷ used) a u fit it = (fit.0, fit_more asked used a u fit.1 it)
+
+pub gaps_more : (gaps : List (List ℕ)) (gap : List ℕ) → AreGaps gaps → IsGap gap → length gap < 2 ^ 31 → AreGaps (gaps ++ gap ∷ [])
+gaps_more [] gap are it short = (it, short, tt)
+gaps_more (g ∷ gaps) gap are it short = (are.0, are.1, gaps_more gaps gap are.2 it short)

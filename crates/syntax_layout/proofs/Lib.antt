@@ -7,5 +7,14 @@ pub mod Ahead
 pub mod Plain
 pub mod Returns
 pub mod SpaceGaps
+pub mod AttributeChunks
+pub mod CommentChunks
+pub mod DocumentedChunks
+pub mod Becomes
+pub mod Documents
+pub mod WrittenAhead
+pub mod Recognized
+pub mod Undocumented
 pub mod Rows
+pub mod DocumentedRows
 pub mod SpacingRows

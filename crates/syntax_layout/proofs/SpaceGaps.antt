@@ -21,7 +21,7 @@ use Rattle.syntax_lex.specs.declared.token.Token.{Token}
 use Rattle.syntax_unparse.proofs.Chunks.{tokens_are, tokens_of}
 
 -- a space is a gap
-space_gap : IsGap (32 ∷ [])
+pub space_gap : IsGap (32 ∷ [])
 space_gap = record {
   utf8 = space_blank.utf8;
   tokens = tokens_of (white (32 ∷ []) ∷ []);

@@ -4,6 +4,7 @@ use Rattle.std.specs.List.{slice_index_or}
 use Rattle.std.specs.Str.{chars}
 use Rattle.laws_round_trip.specs.Kept.{is_parting}
 use Rattle.laws_round_trip.specs.Whole.{is_whole}
+use Rattle.syntax_layout.specs.Documented.{IsDocumented}
 use Rattle.syntax_layout.specs.Gap.{AreGaps, IsGap, is_blank}
 use Rattle.syntax_lex.specs.Reading.{AreTokensOf, first_token_of}
 use Rattle.syntax_lex.specs.declared.token.Token.{Token}
@@ -121,7 +122,8 @@ abbrev pub IsTreeText : (trees : Forest) → (asked : List (List ℕ)) → (text
 IsTreeText trees asked text =
     ((text ≡ text_of trees) × (2 ^ 31 ≤ length (text_of trees))) ⊎ ((used : List (List ℕ)) × AreFit asked used × IsLaidTree trees used text)
 
--- what is written of trees with some gaps: the plain text if it is too long to be laid out
+-- what is written of trees with some gaps: the plain text if it is too long to be laid out, and else the laid text with documenting comments
 abbrev pub IsLaidText : (trees : Forest) → (text : List ℕ) → Type 0
 IsLaidText trees text =
-    ((text ≡ text_of trees) × (2 ^ 31 ≤ length (text_of trees))) ⊎ ((gaps : List (List ℕ)) × AreGaps gaps × IsLaidTree trees gaps text)
+    ((text ≡ text_of trees) × (2 ^ 31 ≤ length (text_of trees)))
+    ⊎ ((gaps : List (List ℕ)) × (written : List ℕ) × AreGaps gaps × IsLaidTree trees gaps written × IsDocumented true written text)

@@ -43,21 +43,41 @@ fn behind(source: &str, at: usize) -> &str {
     ""
 }
 
-// Returns the text before a place, as far as a gap may go.
-fn before(source: &str, at: usize) -> &str {
-    let least = at.saturating_sub(MOST_GAP);
-    for more in 0..4 {
-        if let Some(text) = source.get(least.saturating_add(more)..at) {
-            return text;
+// Returns whether a byte is white space of ASCII.
+fn is_white_byte(byte: u8) -> bool {
+    matches!(byte, b' ' | b'\n' | b'\t' | b'\r')
+}
+
+/// Returns whether a text is white space of ASCII.
+pub fn is_white(text: &str) -> bool {
+    for byte in text.as_bytes() {
+        if !is_white_byte(*byte) {
+            return false;
         }
     }
-    ""
+    true
+}
+
+/// Returns the end of the white space behind a place, as far as it is a gap.
+pub fn space_end(source: &str, at: usize) -> usize {
+    let mut end = at;
+    for byte in behind(source, at).as_bytes() {
+        if !is_white_byte(*byte) {
+            return end;
+        }
+        end = end.saturating_add(1);
+    }
+    end
 }
 
 /// Returns the end of the white space and comments behind a place, as far as these are a gap.
 pub fn blank_end(source: &str, at: usize) -> usize {
-    let mut end = at;
-    for token in tokens(behind(source, at)) {
+    let mut end = space_end(source, at);
+    match byte_at(source, end) {
+        Some(byte) if byte != b'/' && byte.is_ascii_graphic() => return end,
+        _ => {}
+    }
+    for token in tokens(behind(source, end)) {
         if !is_blank(token.kind) {
             return end;
         }
@@ -68,14 +88,33 @@ pub fn blank_end(source: &str, at: usize) -> usize {
 
 /// Returns the start of the white space before a place, as far as it is a gap.
 pub fn space_start(source: &str, at: usize) -> usize {
-    let before = before(source, at);
-    let white = before.len().saturating_sub(before.trim_end().len());
-    at.saturating_sub(white)
+    let Some(before) = source.as_bytes().get(at.saturating_sub(MOST_GAP)..at) else {
+        return at;
+    };
+    let mut start = at;
+    for byte in before.iter().rev() {
+        if !is_white_byte(*byte) {
+            return start;
+        }
+        start = start.saturating_sub(1);
+    }
+    start
 }
 
 /// Returns whether a text has a line break.
 pub fn breaks(text: &str) -> bool {
     text.as_bytes().contains(&b'\n')
+}
+
+/// Returns how many line breaks a text has.
+pub fn line_breaks(text: &str) -> usize {
+    let mut count: usize = 0;
+    for byte in text.as_bytes() {
+        if *byte == b'\n' {
+            count = count.saturating_add(1);
+        }
+    }
+    count
 }
 
 /// Returns how many bytes of white space the line begins with that a place is in; 0 if the line begins too far before it.
@@ -102,8 +141,8 @@ pub fn begins_line(source: &str, at: usize) -> bool {
         && (start == 0 || byte_before(source, start) == Some(b'\n'))
 }
 
-// Returns whether a byte is one of a name.
-fn is_of_name(byte: u8) -> bool {
+/// Returns whether a byte is one of a name.
+pub fn is_of_name(byte: u8) -> bool {
     byte.is_ascii_alphanumeric() || byte == b'_' || byte >= 128
 }
 
@@ -132,4 +171,14 @@ pub fn name_start(source: &str, at: usize) -> usize {
         start = start.saturating_sub(1);
     }
     start
+}
+
+/// Returns whether a byte opens a bracket.
+pub fn opens(byte: u8) -> bool {
+    matches!(byte, b'(' | b'[' | b'{')
+}
+
+/// Returns whether a byte closes a bracket.
+pub fn closes(byte: u8) -> bool {
+    matches!(byte, b')' | b']' | b'}')
 }

@@ -3,11 +3,15 @@
 //! A token comes from a template, or from the input of a call. Two neighbours that are side by side in the source have the gap that is there.
 //! Elsewhere a variable, a round of a repetition, or what a call becomes begins or ends. The gap is then that of the template: behind the
 //! first token, if a variable, a repetition or a call is there, or before the second. Otherwise it is the space that rustfmt would choose.
-use crate::beside::{MOST_GAP, breaks, indentation, part, space_start};
+use crate::beside::{
+    MOST_GAP, begins_line, breaks, byte_at, byte_before, indentation, is_of_name, is_white, part,
+    space_start,
+};
 use crate::gap::is_gap;
 use crate::indenting::{Gaps, Shift};
-use crate::places::Place;
-use crate::templates::Templates;
+use crate::places::{Place, Written};
+use crate::spacer::Spacer;
+use crate::templates::{Template, Templates};
 use std::alloc::{AllocError, Global};
 use std::collections::HashMap;
 
@@ -46,6 +50,8 @@ pub struct Part {
 pub enum Choice {
     /// The gap is this part.
     Source(Part),
+    /// The gap is a line break, and this indentation.
+    Line(usize),
     /// The gap is the space of rustfmt.
     Spaced,
     /// Nothing is known.
@@ -57,33 +63,45 @@ pub enum Choice {
 pub(crate) struct Chooser<'c, 's> {
     pub(crate) sources: &'c Sources<'s>,
     pub(crate) gaps: Gaps,
+    spacer: Spacer<'c>,
     last: Option<Place>,
     /// How lines of the input move.
     pub(crate) input: Shift,
     // The indentation to which the lines of each template move.
     moved: HashMap<usize, usize>,
+    // The template that was entered last, and that indentation.
+    here: (usize, usize),
     most: usize,
+    // Whether the call begins its line.
+    begins_line: bool,
 }
 
 impl<'c, 's> Chooser<'c, 's> {
-    /// Returns a chooser for what replaces a call that begins at a byte, and is written as a plain text of so many bytes.
+    /// Returns a chooser for what replaces a call that begins at a byte, and is written as a plain text of so many tokens.
     pub(crate) fn new(
         alloc: Global,
         sources: &'c Sources<'s>,
         begin: usize,
-        len: usize,
-    ) -> Chooser<'c, 's> {
+        plain: &'c str,
+        count: usize,
+    ) -> Result<Chooser<'c, 's>, AllocError> {
         let line = indentation(sources.text, begin);
         let start = space_start(sources.text, begin);
         let has_tabs = part(sources.text, start, begin).as_bytes().contains(&b'\t');
-        Chooser {
+        Ok(Chooser {
             sources,
-            gaps: Gaps::new(alloc, line, has_tabs),
+            gaps: Gaps::new(alloc, line, has_tabs, count)?,
+            spacer: Spacer::new(plain),
             last: None,
             input: Shift { from: 0, to: line },
             moved: HashMap::new(alloc),
-            most: len.saturating_mul(GAPS_FOR_BYTE).saturating_add(MOST_GAPS),
-        }
+            here: (usize::MAX, 0),
+            most: plain
+                .len()
+                .saturating_mul(GAPS_FOR_BYTE)
+                .saturating_add(MOST_GAPS),
+            begins_line: begins_line(sources.text, begin),
+        })
     }
 
     /// Returns a part of the source as a gap, whose last line moves as that of a place in a template does.
@@ -99,6 +117,13 @@ impl<'c, 's> Chooser<'c, 's> {
         })
     }
 
+    /// Returns a line break in front of a place in a template.
+    pub(crate) fn line_at(&self, target: usize) -> Choice {
+        let shift = self.shift_at(target);
+        let line = indentation(self.sources.text, target);
+        Choice::Line(shift.to.saturating_add(line).saturating_sub(shift.from))
+    }
+
     // Returns how the line of a place moves.
     fn shift_at(&self, target: usize) -> Shift {
         let templates = &self.sources.templates;
@@ -109,9 +134,13 @@ impl<'c, 's> Chooser<'c, 's> {
             Some(template) => template.indent,
             None => 0,
         };
-        let to = match self.moved.get(&number) {
-            Some(to) => *to,
-            None => self.gaps.line,
+        let to = if self.here.0 == number {
+            self.here.1
+        } else {
+            match self.moved.get(&number) {
+                Some(to) => *to,
+                None => self.gaps.line,
+            }
         };
         Shift {
             from: indent.saturating_add(templates.deeper_at(target)),
@@ -119,85 +148,174 @@ impl<'c, 's> Chooser<'c, 's> {
         }
     }
 
-    // Returns whether two tokens are side by side in the source.
-    fn are_beside(&self, last: Option<Place>, next: Option<Place>) -> bool {
-        let (Some(last), Some(next)) = (last, next) else {
-            return false;
+    // Adds the comments at the beginning of a template to the gap before its first token.
+    fn open(&mut self, template: Template) -> Result<(), AllocError> {
+        let gap = part(self.sources.text, template.comment, template.first);
+        let shift = Shift {
+            from: template.indent,
+            to: self.gaps.line,
         };
-        if last == next {
-            return false;
-        }
-        let (end, start) = (last.end as usize, next.start as usize);
-        end == start
-            || (end < start
-                && start.saturating_sub(end) <= MOST_GAP
-                && is_gap(part(self.sources.text, end, start)))
+        self.gaps.extend(gap, shift)
     }
 
-    // Chooses the gap between two tokens that are side by side in the source.
-    fn beside(&self, last: Option<Place>, next: Option<Place>) -> Choice {
-        let (Some(last), Some(next)) = (last, next) else {
-            return Choice::Spaced;
-        };
-        let end = next.start as usize;
-        self.moved_part(last.end as usize, end, end)
+    // Returns whether the second token is the first of a template, which may begin with a repetition.
+    fn begins(&self, last: Option<Place>, next: Place, number: usize, template: Template) -> bool {
+        let at = next.start as usize;
+        if template.first == at {
+            return true;
+        }
+        match self.sources.templates.begun_before(at) {
+            Some(repetition) => repetition.start == template.first
+                && repetition.first == at
+                && (self.moved.get(&number).is_none() || self.begins_other(last, next)),
+            None => false,
+        }
     }
 
     // Remembers to which indentation the lines move that follow a token, which is not beside the one before it in the source. `before` is
-    // the indentation of the line before the gap.
-    fn follow(&mut self, next: Place, before: usize) -> Result<(), AllocError> {
+    // the indentation of the line before the gap. Adds to the gap the comments at the beginning of a template, if the token is its first.
+    fn follow(
+        &mut self,
+        last: Option<Place>,
+        next: Place,
+        before: usize,
+        begins_line: bool,
+    ) -> Result<(), AllocError> {
         let at = next.start as usize;
-        let line = self.gaps.line;
         let Some(number) = self.sources.templates.template_at(at) else {
             self.input = Shift {
                 from: indentation(self.sources.text, at),
-                to: line,
+                to: self.gaps.line,
             };
             return Ok(());
         };
-        let is_first = match self.sources.templates.templates.get(number) {
-            Some(template) => template.first == at,
-            None => false,
-        };
-        if is_first {
-            self.moved.insert(number, line)?;
-        } else if self.moved.get(&number).is_none() {
-            self.moved.insert(number, before)?;
+        match self.sources.templates.templates.get(number).copied() {
+            Some(template) if self.begins(last, next, number, template) => {
+                if begins_line && template.comment < template.first {
+                    self.open(template)?;
+                }
+                self.here = (number, self.gaps.line);
+                self.moved.insert(number, self.gaps.line)?;
+            }
+            _ if self.here.0 == number => {}
+            _ => match self.moved.get(&number) {
+                Some(to) => self.here = (number, *to),
+                None => {
+                    self.here = (number, before);
+                    self.moved.insert(number, before)?;
+                }
+            },
         }
         Ok(())
     }
 
-    /// Chooses the gap before the next token: `spaced` if the source has none.
-    pub(crate) fn pass(
-        &mut self,
-        next: Option<Place>,
-        is_first: bool,
-        spaced: &str,
-    ) -> Result<(), AllocError> {
+    // Adds the part of the source between two places as a gap, whose lines move. Returns whether it has line breaks.
+    fn push_part(&mut self, found: Part) -> Result<bool, AllocError> {
+        let gap = part(self.sources.text, found.start, found.end);
+        if breaks(gap) {
+            self.gaps.push_text(gap, found.shift)?;
+            return Ok(true);
+        }
+        match gap.as_bytes() {
+            [] => self.gaps.push_space(false)?,
+            [b' '] => self.gaps.push_space(true)?,
+            _ => self.gaps.push_part(found.start, found.end)?,
+        }
+        Ok(false)
+    }
+
+    // Chooses the gap before a token that is not beside the one before it.
+    fn pass_apart(&mut self, last: Option<Place>, next: Option<Place>) -> Result<(), AllocError> {
         let before = self.gaps.line;
-        let are_beside = self.are_beside(self.last, next);
-        let choice = if is_first || self.gaps.len() > self.most {
+        let number = self.gaps.pieces.len();
+        let choice = if number == 0 || self.gaps.len() > self.most {
             Choice::Spaced
-        } else if are_beside {
-            self.beside(self.last, next)
         } else {
-            self.between(self.last, next)
+            self.between(last, next)
         };
-        match choice {
-            Choice::Source(found) => {
-                let gap = part(self.sources.text, found.start, found.end);
-                self.gaps.push(gap, found.shift)?;
+        let begins_line = match choice {
+            Choice::Source(found) => self.push_part(found)?,
+            Choice::Line(indentation) => {
+                self.gaps.push_line(indentation)?;
+                true
             }
-            _ => self
-                .gaps
-                .push(if is_first { "" } else { spaced }, self.input)?,
+            _ => if number == 0 {
+                self.gaps.push_space(false)?;
+                self.begins_line
+            } else {
+                let space = self.spacer.space_before(number);
+                self.gaps.push_space(!space.is_empty())?;
+                false
+            },
+        };
+        match next {
+            Some(next) => self.follow(last, next, before, begins_line),
+            None => Ok(()),
         }
-        if let Some(place) = next {
-            if !are_beside {
-                self.follow(place, before)?;
+    }
+
+    // Adds the part of the source between two tokens as the gap, if it is one. Returns whether it is.
+    fn pass_beside(&mut self, end: usize, start: usize) -> Result<bool, AllocError> {
+        let gap = part(self.sources.text, end, start);
+        match gap.as_bytes() {
+            [] => {
+                if end < start {
+                    return Ok(false);
+                }
+                self.gaps.push_space(false)?;
+            }
+            [b' '] => self.gaps.push_space(true)?,
+            _ => {
+                if gap.len() > MOST_GAP || !(is_white(gap) || is_gap(gap)) {
+                    return Ok(false);
+                }
+                if breaks(gap) {
+                    let shift = self.shift_at(start);
+                    self.gaps.push_text(gap, shift)?;
+                } else {
+                    self.gaps.push_part(end, start)?;
+                }
             }
         }
+        Ok(true)
+    }
+
+    // Returns whether a block begins with a token, whatever was written before.
+    fn begins_block(&self, last: Place, next: Place) -> bool {
+        let source = self.sources.text;
+        if byte_at(source, next.start as usize) != Some(b'{') {
+            return false;
+        }
+        match byte_before(source, last.end as usize) {
+            Some(b')') => true,
+            Some(byte) => is_of_name(byte)
+                && part(source, last.start as usize, last.end as usize) != "use",
+            None => false,
+        }
+    }
+
+    // Adds the gap before the next token.
+    fn push(&mut self, last: Option<Place>, next: Option<Place>) -> Result<(), AllocError> {
+        if let (Some(last), Some(next)) = (last, next) {
+            let (end, start) = (last.end as usize, next.start as usize);
+            if end <= start && self.gaps.len() <= self.most && self.pass_beside(end, start)? {
+                return Ok(());
+            }
+        }
+        self.pass_apart(last, next)
+    }
+
+    /// Chooses the gap before the next token.
+    pub(crate) fn pass(&mut self, token: Written) -> Result<(), AllocError> {
+        let number = self.gaps.pieces.len();
+        let (last, next) = (self.last, token.place);
         self.last = next;
+        self.push(last, next)?;
+        let begins_block = match (last, next) {
+            (Some(last), Some(next)) => self.begins_block(last, next),
+            _ => false,
+        };
+        self.spacer.go_over(token.len, number, begins_block);
         Ok(())
     }
 }

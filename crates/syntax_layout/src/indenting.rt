@@ -1,9 +1,20 @@
 //! Gaps with line breaks, moved to another indentation.
-use crate::beside::breaks;
+use crate::beside::part;
+use crate::pieces::Piece;
 use std::alloc::{AllocError, Global};
 
 // Lines are not moved further to the right.
 const MOST_INDENTATION: usize = 256;
+
+// White space of so many bytes.
+const FILLED: usize = 32;
+
+const SPACES: &str = "                                ";
+
+// A line break, and white space of so many bytes.
+const LINE: &str = "\n                                ";
+
+const TABS: &str = "\t\t\t\t\t\t\t\t\t\t\t\t\t\t\t\t\t\t\t\t\t\t\t\t\t\t\t\t\t\t\t\t";
 
 /// How lines move: from one indentation, in bytes of white space, to another.
 #[derive(Clone, Copy)]
@@ -12,13 +23,17 @@ pub struct Shift {
     pub to: usize,
 }
 
-/// Gaps, one behind the other, and where each ends.
+/// The gaps that were chosen.
 #[derive(Drop)]
 pub struct Gaps {
-    text: String,
-    ends: Vec<usize>,
-    // The character of an indentation.
-    fill: char,
+    pub pieces: Vec<Piece>,
+    /// The gaps whose lines moved, one behind the other.
+    pub moved: String,
+    // What indents a line, and whether that is spaces.
+    fill: &'static str,
+    has_spaces: bool,
+    // How many bytes the gaps have.
+    len: usize,
     /// The indentation of the line that is written.
     pub line: usize,
 }
@@ -30,20 +45,41 @@ fn indentation_of(line: &str) -> (&str, &str) {
     (white.unwrap_or(""), body)
 }
 
-impl Gaps {
-    /// Returns no gaps, of a text whose first line has this white space in front.
-    pub fn new(alloc: Global, line: usize, has_tabs: bool) -> Gaps {
-        Gaps {
-            text: String::new(alloc),
-            ends: Vec::new(alloc),
-            fill: if has_tabs { '\t' } else { ' ' },
-            line,
+// Returns how many line breaks a text begins with, if only spaces follow them.
+fn breaks_before_spaces(text: &str) -> Option<usize> {
+    let mut breaks: usize = 0;
+    let mut is_behind = false;
+    for byte in text.as_bytes() {
+        match *byte {
+            b'\n' if !is_behind => breaks = breaks.saturating_add(1),
+            b' ' => is_behind = true,
+            _ => return None,
         }
+    }
+    Some(breaks)
+}
+
+impl Gaps {
+    /// Returns no gaps, of a text whose first line has this white space in front. There will be about so many.
+    pub fn new(
+        alloc: Global,
+        line: usize,
+        has_tabs: bool,
+        count: usize,
+    ) -> Result<Gaps, AllocError> {
+        Ok(Gaps {
+            pieces: Vec::with_capacity(alloc, count)?,
+            moved: String::new(alloc),
+            fill: if has_tabs { TABS } else { SPACES },
+            has_spaces: !has_tabs,
+            len: 0,
+            line,
+        })
     }
 
     /// Returns how many bytes the gaps have.
     pub fn len(&self) -> usize {
-        self.text.len()
+        self.len
     }
 
     // Adds white space in front of a line that had this one.
@@ -51,57 +87,128 @@ impl Gaps {
         let beyond = white.get(shift.from..).unwrap_or("");
         let missing = shift.from.saturating_sub(white.len());
         let moved = shift.to.saturating_sub(missing).min(MOST_INDENTATION);
-        for _ in 0..moved {
-            self.text.push(self.fill)?;
+        if moved == 0 && beyond.starts_with('\t') {
+            self.fill = TABS;
+            self.has_spaces = false;
         }
-        self.text.push_str(beyond)?;
+        self.begin_line(moved)?;
+        self.moved.push_str(beyond)?;
         self.line = moved.saturating_add(beyond.len());
         Ok(())
     }
 
-    // Adds a gap with line breaks. A line that is empty stays empty.
-    fn push_lines(&mut self, gap: &str, shift: Shift) -> Result<(), AllocError> {
-        let (front, last) = match gap.rsplit_once('\n') {
-            Some(parts) => parts,
-            None => (gap, ""),
-        };
+    // Adds so many bytes of white space.
+    fn push_fill(&mut self, fill: &str, count: usize) -> Result<(), AllocError> {
+        for _ in 0..count / FILLED {
+            self.moved.push_str(fill)?;
+        }
+        self.moved.push_str(part(fill, 0, count % FILLED))
+    }
+
+    // Adds so much white space in front of a line.
+    fn begin_line(&mut self, count: usize) -> Result<(), AllocError> {
+        self.push_fill(self.fill, count)
+    }
+
+    // Adds the lines before the last one. A line that is empty stays empty.
+    fn push_front(&mut self, front: &str, shift: Shift) -> Result<(), AllocError> {
         for (number, line) in front.split('\n').enumerate() {
             let (white, body) = indentation_of(line);
             if number > 0 {
-                self.text.push('\n')?;
+                self.moved.push('\n')?;
             }
             if number > 0 && !body.trim_start().is_empty() {
                 self.indent(white, shift)?;
             } else if !body.trim_start().is_empty() {
-                self.text.push_str(white)?;
+                self.moved.push_str(white)?;
             }
-            self.text.push_str(body)?;
+            self.moved.push_str(body)?;
         }
-        self.text.push('\n')?;
-        let (white, body) = indentation_of(last);
-        self.indent(white, shift)?;
-        self.text.push_str(body)
-    }
-
-    /// Adds a gap; if it has line breaks, its lines move.
-    pub fn push(&mut self, gap: &str, shift: Shift) -> Result<(), AllocError> {
-        if breaks(gap) {
-            self.push_lines(gap, shift)?;
-        } else {
-            self.text.push_str(gap)?;
-        }
-        self.ends.push(self.text.len())?;
         Ok(())
     }
 
-    /// Returns the gaps.
-    pub fn all(&self, alloc: Global) -> Result<Vec<&str>, AllocError> {
-        let mut all = Vec::new(alloc);
-        let mut start = 0;
-        for end in self.ends.as_slice() {
-            all.push(self.text.as_str().get(start..*end).unwrap_or(""))?;
-            start = *end;
+    // Adds so many line breaks, and the indentation of a line that had so many spaces.
+    fn push_white(&mut self, breaks: usize, spaces: usize, shift: Shift) -> Result<(), AllocError> {
+        let missing = shift.from.saturating_sub(spaces);
+        let moved = shift.to.saturating_sub(missing).min(MOST_INDENTATION);
+        let beyond = spaces.saturating_sub(shift.from);
+        let line = moved.saturating_add(beyond);
+        self.line = line;
+        if breaks == 1 && self.has_spaces && line <= FILLED {
+            return self.moved.push_str(part(LINE, 0, line.saturating_add(1)));
         }
-        Ok(all)
+        for _ in 0..breaks {
+            self.moved.push('\n')?;
+        }
+        self.begin_line(moved)?;
+        self.push_fill(SPACES, beyond)
+    }
+
+    // Adds lines.
+    fn push_lines(&mut self, text: &str, shift: Shift) -> Result<(), AllocError> {
+        if let Some(breaks) = breaks_before_spaces(text) {
+            return self.push_white(breaks, text.len().saturating_sub(breaks), shift);
+        }
+        let Some((front, last)) = text.rsplit_once('\n') else {
+            return self.moved.push_str(text);
+        };
+        self.push_front(front, shift)?;
+        self.moved.push('\n')?;
+        let (white, body) = indentation_of(last);
+        self.indent(white, shift)?;
+        self.moved.push_str(body)
+    }
+
+    // Adds a gap that has so many bytes.
+    fn push(&mut self, piece: Piece, len: usize) -> Result<(), AllocError> {
+        self.len = self.len.saturating_add(len);
+        self.pieces.push(piece)?;
+        Ok(())
+    }
+
+    // Adds the gap that begins at a byte of those that moved.
+    fn push_moved(&mut self, start: usize) -> Result<(), AllocError> {
+        let end = self.moved.len();
+        self.push(Piece::Moved(start, end), end.saturating_sub(start))
+    }
+
+    /// Adds a space, or nothing.
+    pub fn push_space(&mut self, is_space: bool) -> Result<(), AllocError> {
+        if is_space {
+            self.push(Piece::Space, 1)
+        } else {
+            self.push(Piece::Empty, 0)
+        }
+    }
+
+    /// Adds a part of the source without line breaks.
+    pub fn push_part(&mut self, start: usize, end: usize) -> Result<(), AllocError> {
+        self.push(Piece::Source(start, end), end.saturating_sub(start))
+    }
+
+    /// Adds a gap with line breaks, whose lines move.
+    pub fn push_text(&mut self, text: &str, shift: Shift) -> Result<(), AllocError> {
+        let start = self.moved.len();
+        self.push_lines(text, shift)?;
+        self.push_moved(start)
+    }
+
+    /// Adds a line break and an indentation.
+    pub fn push_line(&mut self, indentation: usize) -> Result<(), AllocError> {
+        let start = self.moved.len();
+        self.moved.push('\n')?;
+        self.line = indentation.min(MOST_INDENTATION);
+        self.begin_line(self.line)?;
+        self.push_moved(start)
+    }
+
+    /// Adds a text to the last gap, which is empty or has line breaks.
+    pub fn extend(&mut self, text: &str, shift: Shift) -> Result<(), AllocError> {
+        let start = match self.pieces.pop() {
+            Some(Piece::Moved(start, _)) => start,
+            _ => self.moved.len(),
+        };
+        self.push_lines(text, shift)?;
+        self.push_moved(start)
     }
 }

@@ -6,68 +6,35 @@ ghost use Rattle.syntax_unparse.specs.Text.{text_of};
 ghost use Rattle.syntax_unparse.specs.Writable.{IsWritable, IsWriteFault};
 ghost use Rattle.tt_view.specs.Views.{trees_of};
 
-use crate::beside::{byte_at, part, tokens};
 use crate::choosing::{Chooser, Sources};
+use crate::documenting::with_comments;
 use crate::gap::MOST_BYTES;
 use crate::indenting::Gaps;
-use crate::kinds::is_blank;
-use crate::passed::{part_of, passed_after, start};
-use crate::places::{Place, places_of};
-use crate::spacing::space_between;
-use crate::trees::{fit, lay_out_trees};
+use crate::pieces::gaps_of;
+use crate::places::{Written, written_of};
+use crate::trees::lay_out_trees;
 use std::alloc::{AllocError, Global};
 use syntax_unparse::{WriteFault, rust_text};
 use tt_view::TokenTreesView;
 
-// Returns the place of the token of this number, if the source has the same token there, or a comment that the token comes from.
-fn place_at(source: &str, places: &[Option<Place>], number: usize, word: &str) -> Option<Place> {
-    match places.get(number) {
-        Some(Some(place)) => {
-            let found = part(source, place.start as usize, place.end as usize);
-            if found == word || found.starts_with("//") || found.starts_with("/*") {
-                Some(*place)
-            } else {
-                None
-            }
-        }
-        _ => None,
-    }
-}
-
-// Chooses the gaps before the tokens of a plain text, which have these places.
+// Chooses the gaps before the tokens that a plain text has.
 fn choose_gaps(
     alloc: Global,
     plain: &str,
-    places: &[Option<Place>],
+    written: &[Written],
     sources: &Sources<'_>,
     begin: usize,
 ) -> Result<Gaps, AllocError> {
-    let mut chooser = Chooser::new(alloc, sources, begin, plain.len());
-    let mut passed = start();
-    let mut touching = false;
-    let mut number: usize = 0;
-    let mut at: usize = 0;
-    for token in tokens(plain) {
-        let start = at;
-        at = at.saturating_add(token.len as usize);
-        if is_blank(token.kind) {
-            touching = false;
-        } else {
-            let word = part(plain, start, at);
-            let next = part_of(passed, touching, byte_at(plain, at), token.kind, word);
-            let spaced = space_between(passed.part, next);
-            let place = place_at(sources.text, places, number, word);
-            chooser.pass(place, number == 0, spaced)?;
-            passed = passed_after(passed, token.kind, word, next);
-            touching = true;
-            number = number.saturating_add(1);
-        }
+    let mut chooser = Chooser::new(alloc, sources, begin, plain, written.len())?;
+    for token in written {
+        chooser.pass(*token)?;
     }
     Ok(chooser.gaps)
 }
 
 /// Returns the Rust text of trees that replace a call, laid out as their tokens are in a source. `begin` is the byte at which the call begins
 /// there. Between two tokens that are not side by side in the source, the gap is that of a template, or the space of `rust_text_spaced`.
+/// Comments replace documenting attributes, as in `documented`.
 ///
 /// If the text has more than `MOST_BYTES` bytes, or the laid text would be too long, it is that of `rust_text`.
 pub fn rust_text_laid(
@@ -87,9 +54,10 @@ pub fn rust_text_laid(
     if plain.len() > MOST_BYTES {
         return Ok(plain);
     }
-    let places = places_of(alloc, trees)?;
-    let chosen = choose_gaps(alloc, plain.as_str(), places.as_slice(), sources, begin)?;
-    let all = chosen.all(alloc)?;
-    let gaps = fit(alloc, all.as_slice())?;
-    Ok(lay_out_trees(alloc, trees, plain, gaps.as_slice())?)
+    let written = written_of(alloc, sources.text, trees)?;
+    let chosen = choose_gaps(alloc, plain.as_str(), written.as_slice(), sources, begin)?;
+    let moved = chosen.moved.as_str();
+    let gaps = gaps_of(alloc, sources.text, moved, chosen.pieces.as_slice())?;
+    let laid = lay_out_trees(alloc, trees, plain, gaps.as_slice())?;
+    Ok(with_comments(alloc, laid)?)
 }

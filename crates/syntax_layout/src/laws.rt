@@ -1,8 +1,9 @@
-//! Laws: no layout changes how a text is read. Each law is the contract of a function that does nothing.
-ghost use Rattle.std.specs.Prelude.{◌≡◌, List, ℕ};
+//! Laws: no layout, and no comment in place of an attribute, changes how a text is read. Each law is the contract of a function that does nothing.
+ghost use Rattle.std.specs.Prelude.{◌≡◌, List, ℕ, true};
 ghost use Rattle.std.specs.Str.{IsUtf8};
 ghost use Rattle.tt_base.specs.Forest.{Forest, Root};
 ghost use Rattle.tt_base.specs.declared.span.SpanPart.{SpanPart};
+ghost use Rattle.syntax_layout.specs.Documented.{IsDocumented};
 ghost use Rattle.syntax_layout.specs.Gap.{AreGaps};
 ghost use Rattle.syntax_layout.specs.Layout.{IsLaidOut};
 ghost use Rattle.laws_round_trip.specs.Splices.{IsSpelling};
@@ -35,4 +36,9 @@ pub fn laid_out_spells()
 /// So the Rust text of trees that can be written reads back as them with any gaps.
 pub fn tree_text_spells()
     ensures { (trees : Forest) → (written : List ℕ) → (gaps : List (List ℕ)) → AreGaps gaps → IsWritable trees → IsLaidOut (text_of trees) gaps written → IsSpelling trees written }
+{}
+
+/// A text that reads back as trees also does so if its documenting attributes are written as comments.
+pub fn documented_spells()
+    ensures { (trees : Forest) → (text written : List ℕ) → IsSpelling trees text → IsDocumented true text written → IsSpelling trees written }
 {}

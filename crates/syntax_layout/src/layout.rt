@@ -10,6 +10,7 @@ ghost use Rattle.syntax_lex.specs.declared.token.Token.{Token};
 use crate::kinds::{is_blank, is_parting, is_whole, joins};
 use std::alloc::{AllocError, Global};
 use syntax_lex::{TokenKind, first_token};
+use syntax_parse::punct_char;
 
 // Returns whether a token stays the same before two texts. `room` is for all three.
 fn stays_before(room: &mut String, word: &str, behind: &str, more: &str) -> Result<bool, AllocError>
@@ -71,8 +72,8 @@ fn touches_surely(
     ends_before(room, before, word, "")
 }
 
-// Returns the first token of a text that is not blank, if the token before the text certainly touches it.
-fn touched<'t>(
+// Returns what `touched` returns, by what stands in the text.
+fn touched_within<'t>(
     room: &mut String,
     kind: TokenKind,
     before: &str,
@@ -100,6 +101,26 @@ fn touched<'t>(
         rest = behind;
     }
     Ok("")
+}
+
+// Returns the first token of a text that is not blank, if the token before the text certainly touches it.
+fn touched<'t>(
+    room: &mut String,
+    kind: TokenKind,
+    before: &str,
+    gap: &str,
+    text: &'t str,
+) -> Result<&'t str, AllocError>
+    requires some { 0 < length before.now }
+    requires fits { length before.now + length text.now < 2 ^ 32 }
+    ensures value { IfOk result (λ found. (tokens : List Token) → AreTokensOf tokens (chars text.now) → found.now ≡ touched true kind before.now gap.now text.now tokens) }
+    ensures within { IfOk result (λ found. length found.now ≤ length text.now) }
+{
+    // before a gap only a punct touches
+    if !gap.is_empty() && punct_char(kind).is_none() {
+        return Ok("");
+    }
+    touched_within(room, kind, before, gap, text)
 }
 
 /// Returns the gap before the token of this number, or an empty one.

@@ -8,12 +8,16 @@
 //! and whether generic arguments, the parameters of a closure or a `use` are open; a table over two parts (`touches`) says whether they touch.
 //!
 //! `rust_text_laid` lays out what replaces a call of a macro. It takes the gaps from the source: `places` says where each token is in it,
-//! `Templates` where its templates and repetitions are, and `Chooser` which gap is before each token. No contract fixes that choice: it
-//! changes nothing but the looks, since each gap that is none is left out.
+//! `Templates` where its templates and repetitions are, and `Chooser` which gap is before each token; where the source has none, `Spacer`
+//! finds the space. No contract fixes that choice: it changes nothing but the looks, since `pieces` leaves out each gap that is none. Then
+//! `documented` writes attributes that document something as comments: `replacement` finds those that a comment of one line can replace.
 #![tactic(auto)]
 
+mod attribute;
 mod beside;
+mod braces;
 mod choosing;
+mod documenting;
 mod gap;
 mod indenting;
 mod kinds;
@@ -23,12 +27,15 @@ mod layout;
 mod neighbours;
 mod part;
 mod passed;
+mod pieces;
 mod places;
+mod spacer;
 mod spacing;
 mod templates;
 mod trees;
 
 pub use choosing::Sources;
+pub use documenting::documented;
 pub use gap::{MOST_BYTES, is_gap};
 pub use laid::rust_text_laid;
 pub use layout::laid_out;

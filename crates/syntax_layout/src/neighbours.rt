@@ -1,9 +1,9 @@
 //! What the source says of the gap between two tokens that are not side by side in it.
 use crate::beside::{
-    blank_end, breaks, byte_at, byte_before, indentation, name_end, name_start, part, space_start,
+    blank_end, breaks, byte_at, byte_before, closes, line_breaks, name_start, opens, part,
+    space_start,
 };
-use crate::choosing::{Choice, Chooser, Part};
-use crate::indenting::Shift;
+use crate::choosing::{Choice, Chooser};
 use crate::places::Place;
 use crate::templates::Repetition;
 
@@ -17,16 +17,6 @@ fn ends_call(byte: u8) -> bool {
     closes(byte) || byte == b';'
 }
 
-// Returns whether a byte opens a bracket.
-fn opens(byte: u8) -> bool {
-    matches!(byte, b'(' | b'[' | b'{')
-}
-
-// Returns whether a byte closes a bracket.
-fn closes(byte: u8) -> bool {
-    matches!(byte, b')' | b']' | b'}')
-}
-
 impl<'c, 's> Chooser<'c, 's> {
     // Returns the gap before a round of a repetition. `before` is where the gap before the repetition begins.
     fn round(&self, repetition: Repetition, before: usize, is_first: bool) -> Choice {
@@ -35,10 +25,22 @@ impl<'c, 's> Chooser<'c, 's> {
         if repetition.breaks && !(breaks(outside) && inside.trim().is_empty()) {
             return self.moved_part(repetition.inner, repetition.first, repetition.first);
         }
-        if is_first || breaks(outside) {
+        if breaks(outside) {
             self.moved_part(before, repetition.start, repetition.start)
+        } else if is_first {
+            self.first_round(repetition, before)
+        } else if repetition.has_lines {
+            self.line_at(repetition.start)
         } else {
             Choice::Spaced
+        }
+    }
+
+    // Returns the gap before the first round, in the line of what is before the repetition.
+    fn first_round(&self, repetition: Repetition, before: usize) -> Choice {
+        match byte_at(self.sources.text, repetition.first) {
+            Some(b',' | b';') => Choice::Spaced,
+            _ => self.moved_part(before, repetition.start, repetition.start),
         }
     }
 
@@ -49,21 +51,26 @@ impl<'c, 's> Chooser<'c, 's> {
     }
 
     // Returns whether a place is behind a repetition, in its template.
-    fn is_behind(&self, repetition: Repetition, next: Option<Place>) -> bool {
+    fn is_behind(&self, repetition: Repetition, next: Place) -> bool {
         let templates = &self.sources.templates;
-        match next {
-            None => false,
-            Some(place) => {
-                let at = place.start as usize;
-                repetition.end <= at
-                    && templates.template_at(at) == templates.template_at(repetition.start)
-            }
-        }
+        let at = next.start as usize;
+        repetition.end <= at && templates.template_at(at) == templates.template_at(repetition.start)
+    }
+
+    // Returns whether a token is behind a call in another template than that of a repetition.
+    fn is_behind_call(&self, repetition: Repetition, next: Place) -> bool {
+        let source = self.sources.text;
+        let templates = &self.sources.templates;
+        let at = next.start as usize;
+        let number = templates.template_at(at);
+        number.is_some()
+            && number != templates.template_at(repetition.start)
+            && byte_before(source, space_start(source, at)).is_some_and(ends_call)
     }
 
     // Chooses by the end of a round, whose last token is followed by the closing bracket of a repetition.
     fn behind_round(&self, repetition: Repetition, next: Option<Place>) -> Choice {
-        if self.is_behind(repetition, next) {
+        if next.is_some_and(|it| self.is_behind(repetition, it)) {
             let end = blank_end(self.sources.text, repetition.end);
             if breaks(part(self.sources.text, repetition.end, end)) {
                 return self.moved_part(repetition.end, end, end);
@@ -74,7 +81,43 @@ impl<'c, 's> Chooser<'c, 's> {
             Some(place)
                 if repetition.close < place.start as usize
                     && (place.start as usize) < repetition.end => { Choice::Spaced }
+            Some(place) if self.is_behind_call(repetition, place) => Choice::Open,
             _ => self.again(repetition),
+        }
+    }
+
+    // Chooses the gap in place of a repetition without rounds, which has a gap from a place to another before it: that gap or the one behind
+    // the repetition, as far as it stands before the second token.
+    fn over(&self, start: usize, end: usize, next: Place) -> Choice {
+        let source = self.sources.text;
+        let stop = next.start as usize;
+        let from = space_start(source, stop);
+        let ahead = part(source, start, end);
+        let behind = part(source, from, stop);
+        let is_closed = byte_at(source, stop).is_some_and(closes);
+        if is_closed && byte_before(source, start).is_some_and(opens) {
+            return Choice::Spaced;
+        }
+        let takes_behind = if breaks(behind) {
+            is_closed || line_breaks(ahead) <= line_breaks(behind)
+        } else {
+            !breaks(ahead) && behind.len() < ahead.len()
+        };
+        if takes_behind {
+            self.moved_part(from, stop, stop)
+        } else {
+            self.moved_part(start, end, end)
+        }
+    }
+
+    // Chooses by the repetition that follows the first token, from one place to another behind it.
+    fn before_repetition(&self, start: usize, end: usize, next: Option<Place>) -> Choice {
+        let Some(repetition) = self.sources.templates.begun_before(end.saturating_add(1)) else {
+            return Choice::Open;
+        };
+        match next {
+            Some(next) if self.is_behind(repetition, next) => self.over(start, end, next),
+            _ => self.round(repetition, start, true),
         }
     }
 
@@ -89,13 +132,7 @@ impl<'c, 's> Chooser<'c, 's> {
         let end = blank_end(source, start);
         let follows = byte_at(source, end.saturating_add(1));
         match byte_at(source, end) {
-            Some(b'$') if follows == Some(b'(') => match templates.begun_before(end.saturating_add(
-                1,
-            )) {
-                Some(repetition) if self.is_behind(repetition, next) => Choice::Open,
-                Some(repetition) => self.round(repetition, start, true),
-                None => Choice::Open,
-            },
+            Some(b'$') if follows == Some(b'(') => self.before_repetition(start, end, next),
             Some(b'$') => self.moved_part(start, end, end),
             Some(b')') => match templates.closed_before(end.saturating_add(1)) {
                 Some(repetition) if repetition.close == end => self.behind_round(repetition, next),
@@ -108,8 +145,21 @@ impl<'c, 's> Chooser<'c, 's> {
         }
     }
 
+    /// Returns whether what a call becomes begins with the second token, and the first is before that call in another template.
+    pub(crate) fn begins_other(&self, last: Option<Place>, next: Place) -> bool {
+        let Some(last) = last else {
+            return false;
+        };
+        let source = self.sources.text;
+        let templates = &self.sources.templates;
+        let number = templates.template_at(last.start as usize);
+        number.is_some()
+            && number != templates.template_at(next.start as usize)
+            && byte_at(source, blank_end(source, last.end as usize)).is_some_and(begins_call)
+    }
+
     // Chooses by what is before the second token in its template.
-    fn before(&self, next: Place) -> Choice {
+    fn before(&self, last: Option<Place>, next: Place) -> Choice {
         let source = self.sources.text;
         let templates = &self.sources.templates;
         let end = next.start as usize;
@@ -121,8 +171,8 @@ impl<'c, 's> Chooser<'c, 's> {
         match byte_before(source, start) {
             Some(b'(') if byte_before(source, start.saturating_sub(1)) == Some(b'$') =>
                 match templates.begun_before(start) {
-                    Some(repetition) => self.again(repetition),
-                    None => Choice::Open,
+                    Some(repetition) if !self.begins_other(last, next) => self.again(repetition),
+                    _ => Choice::Open,
                 },
             Some(b'*' | b'+' | b'?') if closed.is_some_and(|it| it.end == start) => self.moved_part(
                 start, end, end,
@@ -159,118 +209,50 @@ impl<'c, 's> Chooser<'c, 's> {
                 return self.moved_part(start, end, end);
             }
         }
+        if self.is_behind_item(last, next) {
+            return Choice::Line(self.gaps.line);
+        }
         Choice::Spaced
     }
 
-    // Returns whether a token is this brace of a template, and another one comes from the input of a call.
-    fn are_brace_and_input(&self, brace: Place, sign: u8, input: Place) -> bool {
+    // Returns whether an item of a template ends with the first of two tokens, and the second begins an attribute of the input or a template.
+    fn is_behind_item(&self, last: Option<Place>, next: Option<Place>) -> bool {
+        let (Some(last), Some(next)) = (last, next) else {
+            return false;
+        };
         let source = self.sources.text;
         let templates = &self.sources.templates;
-        let start = brace.start as usize;
-        byte_at(source, start) == Some(sign)
-            && templates.template_at(start).is_some()
-            && templates.template_at(input.start as usize).is_none()
-    }
-
-    // Returns where a variable or a repetition of one ends that begins at a place.
-    fn variable_end(&self, at: usize) -> Option<usize> {
-        let source = self.sources.text;
-        if byte_at(source, at) != Some(b'$') {
-            return None;
-        }
-        let inside = at.saturating_add(1);
-        if byte_at(source, inside) != Some(b'(') {
-            return Some(name_end(source, inside));
-        }
-        let repetition = self.sources.templates.begun_before(inside)?;
-        let name = repetition.first.saturating_add(1);
-        let is_variable = byte_at(source, repetition.first) == Some(b'$')
-            && byte_at(source, name) != Some(b'(')
-            && blank_end(source, name_end(source, name)) == repetition.close
-            && repetition.end == repetition.close.saturating_add(2);
-        if is_variable {
-            Some(repetition.end)
-        } else {
-            None
-        }
-    }
-
-    // Returns where a variable or a repetition of one begins that ends at a place.
-    fn variable_start(&self, at: usize) -> Option<usize> {
-        let source = self.sources.text;
-        let start = match self.sources.templates.closed_before(at) {
-            Some(repetition) if repetition.end == at => repetition.start,
-            _ => name_start(source, at).checked_sub(1)?,
-        };
-        if self.variable_end(start) == Some(at) {
-            Some(start)
-        } else {
-            None
-        }
-    }
-
-    // Chooses the line break of the input behind a `{` of a template, if the input has one behind a bracket.
-    fn behind_brace(&self, last: Place, next: Place) -> Option<Part> {
-        let source = self.sources.text;
-        if !self.are_brace_and_input(last, b'{', next) {
-            return None;
-        }
-        let variable = self.variable_end(blank_end(source, last.end as usize))?;
-        let end = next.start as usize;
-        let start = space_start(source, end);
-        if byte_at(source, blank_end(source, variable)) != Some(b'}')
-            || !breaks(part(source, start, end))
-            || !byte_before(source, start).is_some_and(opens)
+        let (end, start) = (last.start as usize, next.start as usize);
+        if !matches!(byte_at(source, end), Some(b'}' | b';'))
+            || templates.template_at(end).is_none()
         {
-            return None;
+            return false;
         }
-        Some(Part {
-            start,
-            end,
-            shift: Shift {
-                from: indentation(source, start),
-                to: self.gaps.line,
-            },
-        })
+        match templates.template_at(start) {
+            None => byte_at(source, start) == Some(b'#'),
+            Some(number) => {
+                byte_at(source, start).is_some_and(begins_call)
+                    && templates
+                        .templates
+                        .get(number)
+                        .is_some_and(|it| it.first == start)
+            }
+        }
     }
 
-    // Chooses the line break of the input before a `}` of a template, if the input has one before a bracket.
-    fn before_brace(&self, last: Place, next: Place) -> Option<Part> {
-        let source = self.sources.text;
-        if !self.are_brace_and_input(next, b'}', last) {
-            return None;
-        }
-        let variable = self.variable_start(space_start(source, next.start as usize))?;
-        let start = last.end as usize;
-        let end = blank_end(source, start);
-        if byte_before(source, space_start(source, variable)) != Some(b'{')
-            || !breaks(part(source, start, end))
-            || !byte_at(source, end).is_some_and(closes)
-        {
-            return None;
-        }
-        Some(Part {
-            start,
-            end,
-            shift: self.input,
-        })
-    }
-
-    // Chooses by line breaks of the input beside a brace of a template, between which the template has only a variable.
-    fn beside_brace(&self, last: Option<Place>, next: Option<Place>) -> Choice {
+    // Returns whether an attribute before a call ends with the first of two tokens, and the second begins what the call becomes.
+    fn is_item_behind_attribute(&self, last: Option<Place>, next: Option<Place>) -> bool {
         let (Some(last), Some(next)) = (last, next) else {
-            return Choice::Open;
+            return false;
         };
-        if last == next {
-            return Choice::Spaced;
-        }
-        match self.behind_brace(last, next) {
-            Some(found) => Choice::Source(found),
-            None => match self.before_brace(last, next) {
-                Some(found) => Choice::Source(found),
-                None => Choice::Open,
-            },
-        }
+        let source = self.sources.text;
+        let templates = &self.sources.templates;
+        let (end, start) = (last.start as usize, next.start as usize);
+        byte_at(source, end) == Some(b']')
+            && byte_at(source, start).is_some_and(begins_call)
+            && byte_at(source, blank_end(source, last.end as usize)).is_some_and(begins_call)
+            && templates.template_at(end).is_none()
+            && templates.template_at(start).is_some()
     }
 
     /// Chooses the gap between two tokens that are not side by side in the source.
@@ -279,6 +261,9 @@ impl<'c, 's> Chooser<'c, 's> {
             Choice::Open => {}
             choice => return choice,
         }
+        if self.is_item_behind_attribute(last, next) {
+            return Choice::Line(self.gaps.line);
+        }
         if let Some(last) = last {
             match self.behind(last, next) {
                 Choice::Open => {}
@@ -286,7 +271,7 @@ impl<'c, 's> Chooser<'c, 's> {
             }
         }
         if let Some(next) = next {
-            match self.before(next) {
+            match self.before(last, next) {
                 Choice::Open => {}
                 choice => return choice,
             }

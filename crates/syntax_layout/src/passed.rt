@@ -66,8 +66,8 @@ fn is_type(text: &str) -> bool
         && (is_small(bytes.get(1).copied()) || is_small(bytes.get(bytes.len() - 1).copied()))
 }
 
-// Returns the part of a name that is no keyword: what follows `fn` takes generic parameters.
-fn name_part(before: Part, text: &str) -> Part
+/// Returns the part of a name that is no keyword: what follows `fn` takes generic parameters.
+pub fn name_part(before: Part, text: &str) -> Part
     ensures { result ≡ name_part before text.now }
 {
     if matches!(before, Part::Fn) || is_type(text) {

@@ -1,7 +1,8 @@
 //! Where the tokens of trees are in the source that they were read from.
+use crate::beside::{byte_at, part};
 use std::alloc::{AllocError, Global};
 use syntax_edit::{end_of, start_of};
-use tt_base::{DelimiterKind, Leaf, Span, Subtree, TokenTree};
+use tt_base::{DelimiterKind, Ident, IdentIsRaw, Leaf, Span, Subtree, TokenTree};
 use tt_view::TokenTreesView;
 
 /// Where a token is in a source: the bytes from a place to another.
@@ -11,6 +12,15 @@ pub struct Place {
     pub start: u32,
     /// The byte after its last.
     pub end: u32,
+}
+
+/// A token that is written.
+#[derive(Clone, Copy)]
+pub struct Written {
+    /// Where it is in the source.
+    pub place: Option<Place>,
+    /// How many bytes it has; 0 if that is not known.
+    pub len: usize,
 }
 
 // A subtree that was entered.
@@ -25,15 +35,18 @@ struct Level {
 
 // A walk through trees, with the places so far.
 #[derive(Drop)]
-struct Walk {
-    all: Vec<Option<Place>>,
+struct Walk<'s> {
+    source: &'s str,
+    all: Vec<Written>,
     levels: Vec<Level>,
+    // The end of the innermost level.
+    end: usize,
     // How many tokens were passed.
     passed: usize,
     // The first byte of the `'` of a lifetime.
     quote: Option<u32>,
-    // Whether the next token is the first in an opaque subtree, which has brackets only if it holds several trees.
-    is_first: bool,
+    // The level of an opaque subtree of which no tree was passed. It has brackets only if it holds several trees.
+    undecided: Option<usize>,
 }
 
 // Returns the place of a span.
@@ -52,37 +65,121 @@ fn tokens_of(token: &TokenTree) -> usize {
     }
 }
 
-impl Walk {
-    // Leaves the subtrees that hold no further token.
-    fn leave(&mut self) -> Result<(), AllocError> {
-        for _ in 0..self.levels.len() {
-            let Some(level) = self.levels.pop() else {
-                return Ok(());
-            };
-            if self.passed < level.end {
-                self.levels.push(level)?;
-                return Ok(());
-            }
-            if level.is_shown {
-                self.all.push(level.close)?;
-            }
+// Returns whether a source has a byte at a place.
+fn is_sign(source: &str, place: Place, sign: u8) -> bool {
+    byte_at(source, place.start as usize) == Some(sign)
+}
+
+// Returns whether a source has a punct at a place.
+fn is_punct(source: &str, place: Place, punct: char) -> bool {
+    byte_at(source, place.start as usize).is_some_and(|byte| char::from(byte) == punct)
+}
+
+// Returns whether a source has an ident at a place.
+fn is_ident(source: &str, place: Place, ident: &Ident) -> bool {
+    let found = part(source, place.start as usize, place.end as usize);
+    match ident.is_raw {
+        IdentIsRaw::No => found == ident.sym.as_str(),
+        IdentIsRaw::Yes => found.strip_prefix("r#") == Some(ident.sym.as_str()),
+    }
+}
+
+// Returns how many bytes an ident has.
+fn len_of(ident: &Ident) -> usize {
+    ident
+        .is_raw
+        .as_str()
+        .len()
+        .saturating_add(ident.sym.as_str().len())
+}
+
+// Returns the signs of brackets.
+fn signs_of(kind: DelimiterKind) -> Option<(u8, u8)> {
+    match kind {
+        DelimiterKind::Parenthesis => Some((b'(', b')')),
+        DelimiterKind::Brace => Some((b'{', b'}')),
+        DelimiterKind::Bracket => Some((b'[', b']')),
+        DelimiterKind::Invisible | DelimiterKind::InvisibleOpaque => None,
+    }
+}
+
+// Returns whether a token begins a subtree that counts as the trees in it.
+fn is_invisible(token: &TokenTree) -> bool {
+    match token {
+        TokenTree::Leaf(_leaf) => false,
+        TokenTree::Subtree(subtree) => matches!(subtree.delimiter.kind, DelimiterKind::Invisible),
+    }
+}
+
+impl<'s> Walk<'s> {
+    // Returns a place, if the source has the token there, or a comment that the token comes from. A carriage return at the end of a comment
+    // belongs to the end of its line.
+    fn checked(&self, place: Place, is_there: bool) -> Option<Place> {
+        if is_there {
+            return Some(place);
         }
+        let found = part(self.source, place.start as usize, place.end as usize);
+        if found.starts_with("/*") {
+            return Some(place);
+        }
+        if !found.starts_with("//") {
+            return None;
+        }
+        let returns = if found.ends_with('\r') { 1 } else { 0 };
+        Some(Place {
+            start: place.start,
+            end: place.end.saturating_sub(returns),
+        })
+    }
+
+    // Adds a bracket.
+    fn push_bracket(&mut self, place: Option<Place>) -> Result<(), AllocError> {
+        self.all.push(Written { place, len: 1 })?;
         Ok(())
     }
 
-    // Decides whether the opaque subtree that was entered last has brackets, by its first token.
-    fn decide(&mut self, token: &TokenTree) -> Result<(), AllocError> {
-        if !self.is_first {
+    // Leaves the subtrees that hold no further token.
+    fn leave(&mut self) -> Result<(), AllocError> {
+        if self.passed < self.end {
             return Ok(());
         }
-        self.is_first = false;
+        for _ in 0..self.levels.len() {
+            let Some(level) = self.levels.last() else {
+                return Ok(());
+            };
+            let (end, is_shown, close) = (level.end, level.is_shown, level.close);
+            self.end = end;
+            if self.passed < end {
+                return Ok(());
+            }
+            if is_shown {
+                self.push_bracket(close)?;
+            }
+            let _level = self.levels.pop();
+            if self.undecided == Some(self.levels.len()) {
+                self.undecided = None;
+            }
+        }
+        self.end = usize::MAX;
+        Ok(())
+    }
+
+    // Decides whether the undecided subtree has brackets, by its first token that is not invisible.
+    fn decide(&mut self, token: &TokenTree) -> Result<(), AllocError> {
+        let Some(number) = self.undecided else {
+            return Ok(());
+        };
+        if is_invisible(token) {
+            return Ok(());
+        }
+        self.undecided = None;
         let first_end = self.passed.saturating_add(tokens_of(token));
-        let Some(level) = self.levels.last_mut() else {
+        let Some(level) = self.levels.get_mut(number) else {
             return Ok(());
         };
         if first_end < level.end {
             level.is_shown = true;
-            self.all.push(None)?;
+            self.push_bracket(None)?;
         }
         Ok(())
     }
@@ -90,41 +187,67 @@ impl Walk {
     // Enters a subtree.
     fn enter(&mut self, subtree: &Subtree) -> Result<(), AllocError> {
         let kind = subtree.delimiter.kind;
-        let is_shown = !matches!(
-            kind,
-            DelimiterKind::Invisible | DelimiterKind::InvisibleOpaque
-        );
-        if is_shown {
-            self.all.push(Some(place_of(subtree.delimiter.open_span)))?;
+        let mut close = None;
+        let signs = signs_of(kind);
+        if let Some((opening, closing)) = signs {
+            let place = place_of(subtree.delimiter.open_span);
+            let open = self.checked(place, is_sign(self.source, place, opening));
+            self.push_bracket(open)?;
+            let place = place_of(subtree.delimiter.close);
+            close = self.checked(place, is_sign(self.source, place, closing));
         }
-        self.is_first = matches!(kind, DelimiterKind::InvisibleOpaque) && subtree.len > 0;
+        if matches!(kind, DelimiterKind::InvisibleOpaque) {
+            self.undecided = Some(self.levels.len());
+        }
+        self.end = self.passed.saturating_add(subtree.usize_len());
         self.levels.push(Level {
-            end: self.passed.saturating_add(subtree.usize_len()),
-            is_shown,
-            close: if is_shown {
-                Some(place_of(subtree.delimiter.close))
-            } else {
-                None
-            },
+            end: self.end,
+            is_shown: signs.is_some(),
+            close,
         })?;
         Ok(())
     }
 
-    // Adds the place of a leaf; a `'` waits for the name of its lifetime.
+    // Adds a leaf; a `'` waits for the name of its lifetime.
     fn add(&mut self, leaf: &Leaf) -> Result<(), AllocError> {
         let place = place_of(*leaf.span());
-        if let Leaf::Punct(punct) = leaf {
-            if punct.char == '\'' {
-                self.quote = Some(place.start);
-                return Ok(());
+        let (is_there, len) = match leaf {
+            Leaf::Punct(punct) => {
+                if punct.char == '\'' {
+                    self.quote = Some(place.start);
+                    return Ok(());
+                }
+                (
+                    is_punct(self.source, place, punct.char),
+                    punct.char.len_utf8(),
+                )
             }
-        }
-        let start = self.quote.unwrap_or(place.start);
+            Leaf::Ident(ident) => (is_ident(self.source, place, ident), len_of(ident)),
+            // (a literal that begins with `/` comes from a comment)
+            Leaf::Literal(_literal) => (
+                byte_at(self.source, place.start as usize).is_some_and(|byte| byte != b'/'),
+                0,
+            ),
+        };
+        let checked = self.checked(place, is_there);
+        let Some(start) = self.quote else {
+            self.all.push(Written {
+                place: checked,
+                len,
+            })?;
+            return Ok(());
+        };
         self.quote = None;
-        self.all.push(Some(Place {
-            start,
-            end: place.end,
-        }))?;
+        self.all.push(Written {
+            place: match checked {
+                Some(place) => Some(Place {
+                    start,
+                    end: place.end,
+                }),
+                None => None,
+            },
+            len: len.saturating_add(1),
+        })?;
         Ok(())
     }
 
@@ -140,18 +263,21 @@ impl Walk {
     }
 }
 
-/// Returns the place of each token that `rust_text` writes of trees, as their spans say; parentheses that it adds around an opaque subtree
-/// have none.
-pub fn places_of(
+/// Returns each token that `rust_text` writes of trees, with its place as the spans say. Parentheses that it adds around an opaque subtree
+/// have none, nor has a bracket, a punct or an ident if the source has another token there.
+pub fn written_of(
     alloc: Global,
+    source: &str,
     trees: TokenTreesView<'_>,
-) -> Result<Vec<Option<Place>>, AllocError> {
+) -> Result<Vec<Written>, AllocError> {
     let mut walk = Walk {
-        all: Vec::new(alloc),
+        source,
+        all: Vec::with_capacity(alloc, trees.len())?,
         levels: Vec::new(alloc),
+        end: usize::MAX,
         passed: 0,
         quote: None,
-        is_first: false,
+        undecided: None,
     };
     for token in trees.iter_flat_tokens() {
         walk.pass(&token)?;

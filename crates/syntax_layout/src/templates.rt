@@ -1,5 +1,7 @@
 //! The templates in a source, and the repetitions in them.
-use crate::beside::{begins_line, blank_end, breaks, indentation, part, tokens};
+use crate::beside::{
+    begins_line, blank_end, breaks, byte_before, indentation, part, space_end, space_start, tokens,
+};
 use crate::kinds::is_blank;
 use memchr::memmem;
 use std::alloc::{AllocError, Global};
@@ -15,6 +17,8 @@ pub struct Template {
     pub start: usize,
     /// Its closing bracket.
     pub end: usize,
+    /// Its first comment that documents nothing, if one is before its first token, or else that token.
+    pub comment: usize,
     /// Its first token.
     pub first: usize,
     /// How many bytes of white space the line of its first token begins with.
@@ -36,6 +40,8 @@ pub struct Repetition {
     pub end: usize,
     /// Whether it begins with a line break.
     pub breaks: bool,
+    /// Whether each round has several lines, of which the last ends with a `}` or a `;`.
+    pub has_lines: bool,
     /// How many bytes its lines are further indented than that of the outermost repetition around it, as far as these begin their lines.
     pub deeper: usize,
     /// The repetition around it.
@@ -110,6 +116,14 @@ fn latest_behind(latest: Latest, kind: TokenKind, word: &str) -> Latest {
 }
 
 impl<'s> Reader<'s> {
+    // Returns whether the open template begins at a place.
+    fn begins_template(&self, at: usize) -> bool {
+        match self.found.templates.last() {
+            Some(template) => self.is_inside && template.first == at,
+            None => false,
+        }
+    }
+
     // Returns how many bytes the lines of a repetition are further indented that begins with this `$` and token.
     fn deeper(&self, start: usize, first: usize, outer: Option<usize>) -> usize {
         let around = match outer {
@@ -119,7 +133,7 @@ impl<'s> Reader<'s> {
             },
             None => 0,
         };
-        if !begins_line(self.source, start) {
+        if !begins_line(self.source, start) && !self.begins_template(start) {
             return around;
         }
         let line = indentation(self.source, start);
@@ -146,6 +160,7 @@ impl<'s> Reader<'s> {
             close: self.source.len(),
             end: self.source.len(),
             breaks,
+            has_lines: false,
             deeper,
             outer,
         })?;
@@ -161,6 +176,7 @@ impl<'s> Reader<'s> {
         self.found.templates.push(Template {
             start,
             end: self.source.len(),
+            comment: space_end(self.source, start),
             first,
             indent: indentation(self.source, first),
         })?;
@@ -182,14 +198,27 @@ impl<'s> Reader<'s> {
         Ok(())
     }
 
+    // Returns whether the rounds of a repetition have several lines, if it begins and ends at these places.
+    fn has_lines(&self, first: usize, close: usize) -> bool {
+        let end = space_start(self.source, close);
+        breaks(part(self.source, first, end))
+            && matches!(byte_before(self.source, end), Some(b'}' | b';'))
+    }
+
     // Closes a bracket.
     fn close(&mut self, at: usize) -> Result<(), AllocError> {
         self.closed = None;
         match self.opened.pop() {
             Some(Opened::Repetition(number)) => {
+                let first = match self.found.repetitions.get(number) {
+                    Some(repetition) => repetition.first,
+                    None => at,
+                };
+                let has_lines = self.has_lines(first, at);
                 if let Some(repetition) = self.found.repetitions.get_mut(number) {
                     repetition.close = at;
                     repetition.end = at.saturating_add(1);
+                    repetition.has_lines = has_lines;
                     self.innermost = repetition.outer;
                 }
                 self.closed = Some(number);

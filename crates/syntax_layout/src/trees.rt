@@ -14,8 +14,8 @@ use syntax_lex::MOST_TEXT_BYTES;
 use syntax_unparse::{WriteFault, rust_text};
 use tt_view::TokenTreesView;
 
-// Returns the text if it is a gap, and else an empty one.
-fn or_empty<'g>(gap: &'g str) -> &'g str
+/// Returns the text if it is a gap, and else an empty one.
+pub(crate) fn or_empty<'g>(gap: &'g str) -> &'g str
     ensures { IsFit gap.now result.now }
 {
     if is_gap(gap) { gap } else { "" }

@@ -1,4 +1,4 @@
-// Comments that document something are attributes.
+// Comments that document something stay comments.
 macro_rules! made {
     ($name:ident) => {
         /// The first line.

@@ -1,4 +1,4 @@
-// Comments at the beginning of a template and at its end are in no gap.
+// Comments at the beginning of a template come along before a call that begins its line. Those at its end do not.
 macro_rules! m {
     ($name:ident) => {
         // what it is
