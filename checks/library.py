@@ -109,26 +109,29 @@ def try_python(_room):
             yield f"{'ok' if told[2] == 'ok' else 'FAILED'} Python: {told[1].replace('_', ' ')}"
 
 
+# Where the faults are listed: the sentence of each, its name and its number. The first table is the source of the others.
+FAULT_TABLES = {
+    "crates/app_c/src/fault.rt": r"^    /// (?P<sentence>.+)\n    (?P<name>\w+) = (?P<number>\d+),",
+    "include/cuvolemin.h": r"^    /\* (?P<sentence>.+) \*/\n    CUVOLEMIN_(?P<name>\w+) = (?P<number>[1-9]\d*),",
+    "rust/src/fault.rs": r'^    (?P<name>\w+) = (?P<number>\d+), "(?P<sentence>.+)";',
+    "python/cuvolemin.py": r"^    (?P<number>\d+): \('(?P<name>\w+)', (?:'|\")(?P<sentence>.+)(?:'|\")\),",
+}
+
+
 def table(file, pattern):
-    """The names and numbers of faults in a file, without marks between words."""
-    return {int(number): name.replace("_", "").lower() for name, number in re.findall(pattern, (ROOT / file).read_text(), re.MULTILINE)}
+    """The faults of a file by number: the name without marks between words, and the sentence without spaces and backslashes."""
+    rows = re.finditer(pattern, (ROOT / file).read_text(), re.MULTILINE)
+    return {int(row["number"]): (row["name"].replace("_", "").lower(), re.sub(r"[ \\]", "", row["sentence"])) for row in rows}
 
 
 def try_tables(_room):
-    """The tables of faults have the same names and numbers everywhere."""
-    import cuvolemin
-
-    wanted = table("crates/app_c/src/fault.rt", r"^    (\w+) = (\d+),")
+    """The tables of faults have the same names, numbers and sentences everywhere."""
+    wanted, *others = (table(file, pattern) for file, pattern in FAULT_TABLES.items())
     if len(wanted) < 60:
         raise Wrong("fault.rt has no table")
-    for file, pattern in {
-        "include/cuvolemin.h": r"CUVOLEMIN_(\w+) = ([1-9]\d*),",
-        "rust/src/fault.rs": r"^    (\w+) = (\d+), \"",
-    }.items():
-        if table(file, pattern) != wanted:
-            raise Wrong(f"{file} has another table")
-    if {number: name.lower() for number, (name, _) in cuvolemin.FAULTS.items()} != wanted:
-        raise Wrong("cuvolemin.py has another table")
+    for file, found in zip(list(FAULT_TABLES)[1:], others):
+        if found != wanted:
+            raise Wrong(f"{file} has another table: {sorted(set(found.items()) ^ set(wanted.items()))}")
 
 
 def judge_tokens(tree):

@@ -2,7 +2,7 @@
 use Rattle.std.proofs.Common.{◌≡◌, ℕ, List, subst}
 use Rattle.tt_base.specs.Forest.{Forest, Root}
 use Rattle.app_c.specs.Texts.{IsTextOf}
-use Rattle.laws_round_trip.specs.Splices.{IsSpelling}
+use Rattle.syntax_edit.specs.Splices.{IsSpelling}
 use Rattle.syntax_layout.specs.Spaces.{IsSpacedText}
 use Rattle.syntax_unparse.specs.Writable.{IsWritable}
 

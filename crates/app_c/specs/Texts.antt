@@ -9,7 +9,7 @@ use Rattle.app_c.specs.Bytes.{AreOfNoTree}
 use Rattle.app_c.specs.Failures.{at_place, limit_fault, placeless, text_failure, write_failure}
 use Rattle.app_c.specs.declared.failure.Failure.{Failure}
 use Rattle.app_c.specs.declared.fault.Fault.TheVariants.{NotUtf8}
-use Rattle.laws_round_trip.specs.Splices.{IsSpelling}
+use Rattle.syntax_edit.specs.Splices.{IsSpelling}
 use Rattle.syntax_layout.specs.Spaces.{IsSpacedText}
 use Rattle.syntax_parse.specs.Parsed.{IsParse}
 use Rattle.syntax_parse.specs.Refusal.{IsRefusal}

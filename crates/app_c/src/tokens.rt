@@ -1,7 +1,6 @@
 //! The tokens of a tree: their texts, and words about them.
 ghost use Rattle.std.specs.Prelude.{◌≡◌, ◌∷◌, false, IfOk, IfErr, List, OnOk, length};
 ghost use Rattle.tt_base.specs.Walk.{Event, events_ahead, is_at_close, is_over, one_on};
-ghost use Rattle.tt_codec.specs.Kinds.{kind_number};
 ghost use Rattle.tt_view.specs.Views.{trees_of};
 ghost use Rattle.app_c.specs.Failures.{placeless};
 ghost use Rattle.app_c.specs.Tokens.{closing, opening, seen_at, seen_first, seen_leaf, span_words, AreTokensIn, AreTokensOf, HaveNoTokens, IsPut};
@@ -11,7 +10,8 @@ use crate::failure::{Failure, limit_failure};
 use crate::fault::Fault;
 use crate::listing::Listing;
 use std::alloc::{AllocError, Global};
-use tt::{Delimiter, Leaf, LitKind, Span, TokenTree, TokenTreesView};
+use tt::{Delimiter, Leaf, Span, TokenTree, TokenTreesView};
+use tt_codec::kind_number;
 use tt_view::{Cursor, text};
 
 // What a token is.
@@ -24,25 +24,6 @@ const IDENT: usize = 3;
 const PUNCT: usize = 4;
 
 const LITERAL: usize = 5;
-
-// Returns the number of a kind of literal.
-fn kind_number(kind: LitKind) -> usize
-    ensures { result ≡ kind_number kind }
-{
-    match kind {
-        LitKind::Byte => 0,
-        LitKind::Char => 1,
-        LitKind::Integer => 2,
-        LitKind::Float => 3,
-        LitKind::Str => 4,
-        LitKind::StrRaw(_) => 5,
-        LitKind::ByteStr => 6,
-        LitKind::ByteStrRaw(_) => 7,
-        LitKind::CStr => 8,
-        LitKind::CStrRaw(_) => 9,
-        LitKind::Err(()) => 10,
-    }
-}
 
 // Goes one place on, at no end of a subtree.
 fn pass(cursor: &mut Cursor<'_>) -> Result<(), Failure>
@@ -97,7 +78,7 @@ impl Listing {
             }
             Leaf::Literal(literal) => {
                 let text = format!(in alloc; "{literal}")?;
-                let kind = kind_number(literal.kind());
+                let kind = kind_number(literal.kind()) as usize;
                 self.put_token(LITERAL, kind, text.as_str(), *literal.span())
             }
         }

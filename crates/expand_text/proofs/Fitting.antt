@@ -13,7 +13,7 @@ use Rattle.expand_text.specs.Outcomes.{Outcome}
 use Rattle.syntax_edit.specs.Texts.{begun, FitAll}
 use Rattle.expand_text.proofs.CallPlaces.{call_laid}
 use Rattle.expand_text.proofs.Splicing.{replacements_append}
-use Rattle.laws_round_trip.specs.Splices.{Splice, replacements_of}
+use Rattle.syntax_edit.specs.Splices.{Splice, replacements_of}
 use Rattle.syntax_edit.proofs.Following.{Follow, none, next, follow_from, follow_both, follow_fit}
 use Rattle.syntax_edit.proofs.LaidFacts.{laid_behind, laid_order, starts_before}
 use Rattle.syntax_edit.proofs.ParsedOrder.{parsed_laid}

@@ -13,7 +13,7 @@ use Rattle.expand_text.specs.Contexts.{Config, Context, outside_call, with_findi
 use Rattle.expand_text.specs.Outcomes.{Outcome, nothing, enters, trees_left}
 use Rattle.expand_items.specs.Positions.{begun as begun_among}
 use Rattle.expand_items.specs.declared.position.Siblings.TheVariants.{Items}
-use Rattle.laws_round_trip.specs.Splices.{Splice, replacement_of, replacements_of}
+use Rattle.syntax_edit.specs.Splices.{Splice, replacement_of, replacements_of}
 use Rattle.syntax_edit.specs.Texts.{Replacement, Writing, finished, with_all, FitAll, IsReplaced, AreReplaced}
 use Rattle.expand_text.specs.Events.{GoesPast, IsExpandedAt}
 use Rattle.expand_text.specs.Invocations.{body_of, entered_by, found_by, site_of}

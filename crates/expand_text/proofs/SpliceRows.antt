@@ -8,7 +8,7 @@ use Rattle.tt_base.proofs.Samples.{ident, span}
 use Rattle.expand_text.specs.Outcomes.{Outcome, nothing, passes, enters, stays, becomes}
 use Rattle.expand_text.specs.Reading.{AreSplices, Spells, ended, passed, entered, stayed, became}
 use Rattle.expand_text.proofs.Splicing.{one_line_list}
-use Rattle.laws_round_trip.specs.Splices.{Splice, replacements_of}
+use Rattle.syntax_edit.specs.Splices.{Splice, replacements_of}
 use Rattle.mbe_pattern.proofs.Rows.{word, alone}
 use Rattle.syntax_edit.specs.Texts.{begun, with_all}
 

@@ -3,8 +3,8 @@ use Rattle.std.proofs.Common.{◌≡◌, ◌++◌, ℕ, Bool, true, false, List,
 use Rattle.tt.specs.Forest.{Forest}
 use Rattle.expand_text.specs.Outcomes.{Outcome}
 use Rattle.expand_text.specs.Reading.{AreSplices, Spells, ended, passed, entered, stayed, became, splice}
-use Rattle.laws_round_trip.proofs.Spelling.{plain_spelling}
-use Rattle.laws_round_trip.specs.Splices.{IsSpelling, Splice, replacement_of, replacements_of}
+use Rattle.syntax_edit.proofs.Spelling.{plain_spelling}
+use Rattle.syntax_edit.specs.Splices.{IsSpelling, Splice, replacement_of, replacements_of}
 use Rattle.syntax_unparse.specs.Writable.{IsWritable}
 
 -- The texts of splices and of others after them.

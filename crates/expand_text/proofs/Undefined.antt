@@ -26,7 +26,7 @@ use Rattle.expand_text.specs.Macros.{called_by, context_behind, left_behind, nam
 use Rattle.expand_text.specs.Outcomes.{Outcome}
 use Rattle.expand_text.proofs.Mentioned.{lacks_word}
 use Rattle.expand_text.specs.Scopes.{Macro, last_named}
-use Rattle.laws_round_trip.specs.Splices.{Splice}
+use Rattle.syntax_edit.specs.Splices.{Splice}
 
 -- The trees after some lack it too.
 lacks_behind : (word : List ℕ) (n : ℕ) (trees : Forest) → Lacks word trees → Lacks word (after_trees n trees)

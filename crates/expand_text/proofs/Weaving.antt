@@ -32,9 +32,9 @@ use Rattle.expand_items.specs.Positions.{is_items}
 use Rattle.expand_items.specs.declared.position.Position.{Position}
 use Rattle.mbe_pattern.proofs.Passing.{front_joined}
 use Rattle.mbe_pattern.specs.Units.{front_trees, is_brace, is_at_punct}
-use Rattle.laws_round_trip.proofs.CallCuts.{behind_pieces}
-use Rattle.laws_round_trip.specs.Calls.{BeginsCall, EndsCall, IsTaken, IsWoven, ends as woven_end, keeps, gives_way, follows_value, may_begin}
-use Rattle.laws_round_trip.specs.Splices.{Splice}
+use Rattle.syntax_edit.proofs.CallCuts.{behind_pieces}
+use Rattle.syntax_edit.specs.Calls.{BeginsCall, EndsCall, IsTaken, IsWoven, ends as woven_end, keeps, gives_way, follows_value, may_begin}
+use Rattle.syntax_edit.specs.Splices.{Splice}
 use Rattle.syntax_parse.proofs.StackFacts.{spelled-join}
 use Rattle.syntax_parse.specs.Spelled.{Piece, Sort, sign, opening, closing, at_span, piece_of, sort_of, spelled}
 use Rattle.syntax_unparse.specs.Marks.{marks}

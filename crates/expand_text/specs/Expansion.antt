@@ -23,7 +23,7 @@ use Rattle.expand_items.specs.Cfg.{known_of}
 use Rattle.expand_items.specs.Positions.{begun as begun_among}
 use Rattle.expand_items.specs.declared.position.Siblings.TheVariants.{Items}
 use Rattle.syntax_edit.specs.Places.{text_part}
-use Rattle.laws_round_trip.specs.Splices.{Splice, replacement_of, replacements_of}
+use Rattle.syntax_edit.specs.Splices.{Splice, replacement_of, replacements_of}
 use Rattle.syntax_edit.specs.Texts.{Writing, begun, finished, with_all, IsReplaced, AreReplaced, FitAll}
 use Rattle.expand_text.specs.Reading.{AreSplices, Spells, sorts_left, splice}
 use Rattle.expand_text.specs.Scopes.{Macro}

@@ -6,7 +6,7 @@ use Rattle.tt.specs.Types.Delimiter.{Delimiter}
 use Rattle.tt.specs.Types.Leaf.{Leaf}
 use Rattle.tt.specs.Types.Span.{Span}
 use Rattle.expand_text.specs.Outcomes.{Outcome, nothing, passes, enters, stays, becomes}
-use Rattle.laws_round_trip.specs.Splices.{IsSpelling, Splice}
+use Rattle.syntax_edit.specs.Splices.{IsSpelling, Splice}
 use Rattle.syntax_parse.specs.Spelled.{Sort, opening, closing, sort_of, spelled}
 use Rattle.syntax_unparse.specs.Marks.{marks}
 use Rattle.syntax_unparse.specs.Settled.{settled, sorts}

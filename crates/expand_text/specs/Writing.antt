@@ -5,7 +5,7 @@ use Rattle.expand_text.specs.Contexts.{Config, Context}
 use Rattle.expand_text.specs.Outcomes.{Outcome, nothing}
 use Rattle.expand_text.specs.Reading.{AreSplices}
 use Rattle.expand_text.specs.Walks.{Level, Ends, Leads}
-use Rattle.laws_round_trip.specs.Splices.{Splice, replacements_of}
+use Rattle.syntax_edit.specs.Splices.{Splice, replacements_of}
 
 -- the trees that replace calls of what levels expand to, in order, each with a text that spells them
 pub data AllSplices (one_line : Bool) : List Outcome → List Splice → Type 0 where

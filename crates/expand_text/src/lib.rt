@@ -12,7 +12,7 @@
 //! would not end in any reasonable time. The walk goes on behind that call.
 //!
 //! The proofs go level by level (`Ends`, `Leads`), and `Weaving` places the expansions among the pieces of the text, so that the laws of
-//! `laws_round_trip` say how the written text reads.
+//! `syntax_edit` say how the written text reads.
 #![tactic(auto)]
 
 mod caller;

@@ -10,8 +10,8 @@ use Rattle.syntax_lex.specs.Reading.{AreTokensOf, first_token_of}
 use Rattle.syntax_lex.specs.declared.token.Token.{Token}
 use Rattle.syntax_lex.specs.declared.token.TokenKind.{TokenKind}
 use Rattle.syntax_lex.specs.declared.token.TokenKind.TheVariants as kinds
-use Rattle.laws_round_trip.specs.Whole.{is_whole}
-use Rattle.laws_round_trip.specs.Kept.{ends_in_line, is_line}
+use Rattle.syntax_edit.specs.Whole.{is_whole}
+use Rattle.syntax_edit.specs.Kept.{ends_in_line, is_line}
 use Rattle.syntax_parse.proofs.TextFacts.{cut, tokens_exist}
 use Rattle.syntax_parse.specs.Pieces.{punct_char}
 

@@ -4,7 +4,7 @@ use Rattle.std.proofs.Math.Seq.{drop-length, take-length}
 use Rattle.std.proofs.lemmas.Str.{IsCharBoundary-end, IsUtf8-from_ascii, chars-IsAscii}
 use Rattle.std.specs.Str.{IsAscii, IsCharBoundary, IsUtf8, chars}
 use Rattle.unicode_ident.proofs.Computing.{unicode_ident}
-use Rattle.laws_round_trip.proofs.DocTexts.{IsDocText, doc_alone}
+use Rattle.syntax_edit.proofs.DocTexts.{IsDocText, doc_alone}
 use Rattle.syntax_layout.proofs.Ahead.{line_end}
 use Rattle.syntax_layout.specs.Documented.{attribute_opening, raw_string}
 use Rattle.syntax_lex.specs.Class.{is_whitespace}
@@ -14,9 +14,9 @@ use Rattle.syntax_lex.specs.Reading.{reading}
 use Rattle.syntax_lex.specs.declared.token.DocStyle.{DocStyle}
 use Rattle.syntax_lex.specs.declared.token.DocStyle.TheVariants.{Outer, Inner}
 use Rattle.syntax_lex.specs.declared.token.TokenKind.TheVariants as kinds
-use Rattle.laws_round_trip.proofs.LifeFacts.{name_read}
-use Rattle.laws_round_trip.proofs.Tokens.{token_parted}
-use Rattle.laws_tokens.specs.Stops.{Stops, is_glued}
+use Rattle.syntax_edit.proofs.LifeFacts.{name_read}
+use Rattle.syntax_edit.proofs.Tokens.{token_parted}
+use Rattle.syntax_lex.specs.Stops.{Stops, is_glued}
 use Rattle.syntax_parse.specs.Doc.{hashes_wanted}
 use Rattle.syntax_parse.specs.Pieces.{doc as doc_sorts}
 use Rattle.syntax_parse.specs.Spelled.{name, sign}

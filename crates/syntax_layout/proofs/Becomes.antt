@@ -6,9 +6,9 @@ use Rattle.std.proofs.lemmas.List.{append_cancel_left}
 use Rattle.std.proofs.lemmas.Str.{IsUtf8-from_ascii, IsUtf8-nil, chars-append, encodes-append, encodes-chars, scalars-chars}
 use Rattle.std.specs.Prelude.{nat_lt, unwrap_or}
 use Rattle.std.specs.Str.{IsUtf8, chars}
-use Rattle.laws_round_trip.proofs.Seams.{IsSpace, match_cons, space_chunk}
-use Rattle.laws_round_trip.proofs.Words.{scalars-back}
-use Rattle.laws_round_trip.specs.Kept.{is_line}
+use Rattle.syntax_edit.proofs.Seams.{IsSpace, match_cons, space_chunk}
+use Rattle.syntax_edit.proofs.Words.{scalars-back}
+use Rattle.syntax_edit.specs.Kept.{is_line}
 use Rattle.syntax_layout.proofs.Ahead.{line_end}
 use Rattle.syntax_layout.proofs.AttributeChunks.{attribute_are, attribute_chunks, attribute_line, attribute_match, attribute_means, attribute_text, string_utf8}
 use Rattle.syntax_layout.proofs.Chunks.{blank_match, merged_is, white}

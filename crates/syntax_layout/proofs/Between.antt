@@ -3,10 +3,10 @@ use Rattle.std.proofs.Common.{◌≡◌, ◌≢◌, ◌⊎◌, inl, inr, ℕ, Bo
 use Rattle.std.proofs.lemmas.Bool.{false≢true, and_parts, or_parts}
 use Rattle.std.proofs.lemmas.Str.{chars-append}
 use Rattle.std.specs.Str.{chars, IsUtf8}
-use Rattle.laws_round_trip.proofs.KindFacts.{SameBefore}
-use Rattle.laws_round_trip.proofs.Sources.{joined-append}
-use Rattle.laws_round_trip.proofs.Tokens.{token_kept}
-use Rattle.laws_round_trip.specs.Kept.{ends_in_line, is_number}
+use Rattle.syntax_edit.proofs.KindFacts.{SameBefore}
+use Rattle.syntax_edit.proofs.Sources.{joined-append}
+use Rattle.syntax_edit.proofs.Tokens.{token_kept}
+use Rattle.syntax_edit.specs.Kept.{ends_in_line, is_number}
 use Rattle.syntax_layout.proofs.Chunks.{Put, put_space}
 use Rattle.syntax_layout.proofs.GapChunks.{AllBlank, GapChunks, blank_kind, gap_are, gap_chunks, gap_match, gap_means, text_append, word_front}
 use Rattle.syntax_layout.proofs.Words.{IsWord, before_space, ends_more, whole_sound}

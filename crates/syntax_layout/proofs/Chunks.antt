@@ -2,10 +2,10 @@
 use Rattle.std.proofs.Common.{◌≡◌, ◌≢◌, ℕ, ◌<◌, Bool, true, false, List, [], ◌∷◌, ◌++◌, Some, refl, sym, ap, ◌∙◌, arith}
 use Rattle.std.proofs.lemmas.Str.{IsUtf8-append, IsUtf8-from_ascii, chars-append, chars-nil}
 use Rattle.std.specs.Str.{chars}
-use Rattle.laws_round_trip.proofs.KindFacts.{blank_read}
-use Rattle.laws_round_trip.proofs.Seams.{match_cons, space_blank, space_chunk}
-use Rattle.laws_round_trip.specs.Kept.{ends_in_line}
-use Rattle.laws_tokens.proofs.Twins.{behind_none}
+use Rattle.syntax_edit.proofs.KindFacts.{blank_read}
+use Rattle.syntax_edit.proofs.Seams.{match_cons, space_blank, space_chunk}
+use Rattle.syntax_edit.specs.Kept.{ends_in_line}
+use Rattle.syntax_lex.proofs.Twins.{behind_none}
 use Rattle.syntax_lex.specs.Class.{is_whitespace}
 use Rattle.syntax_lex.specs.Front.{behind, first}
 use Rattle.syntax_lex.specs.Reading.{reading}

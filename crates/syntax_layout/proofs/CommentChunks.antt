@@ -11,8 +11,8 @@ use Rattle.std.proofs.lemmas.Str.{IsUtf8-append, IsUtf8-from_ascii, IsUtf8-nil, 
 use Rattle.std.specs.List.{ends_with, list_any}
 use Rattle.std.specs.Prelude.{nat_eq, nat_lt, encode_utf8}
 use Rattle.std.specs.Str.{IsUtf8, chars}
-use Rattle.laws_round_trip.proofs.DocTexts.{IsDocText}
-use Rattle.laws_round_trip.proofs.KindFacts.{placed_sorts}
+use Rattle.syntax_edit.proofs.DocTexts.{IsDocText}
+use Rattle.syntax_edit.proofs.KindFacts.{placed_sorts}
 use Rattle.syntax_layout.proofs.Between.{not_true}
 use Rattle.syntax_layout.proofs.Chunks.{first_letter}
 use Rattle.syntax_layout.specs.Documented.{comment, comment_opening, documents, is_line_end}

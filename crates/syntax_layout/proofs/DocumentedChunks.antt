@@ -4,13 +4,13 @@ use Rattle.std.proofs.lemmas.Bool.{false≢true}
 use Rattle.std.proofs.lemmas.List.{take-append-drop}
 use Rattle.std.proofs.lemmas.Str.{chars-append}
 use Rattle.std.specs.Str.{chars, IsUtf8}
-use Rattle.laws_round_trip.proofs.KindFacts.{blank_read, last_is, pieces_same, some_part, sound_role}
-use Rattle.laws_round_trip.proofs.Seams.{empty_front, match_behind, match_cons}
-use Rattle.laws_round_trip.proofs.Sources.{sound_chunks}
-use Rattle.laws_round_trip.proofs.Tokens.{alone, some_length, token_kept}
-use Rattle.laws_round_trip.proofs.Words.{first_word}
-use Rattle.laws_round_trip.specs.Kept.{is_line, is_sound}
-use Rattle.laws_tokens.proofs.SignFacts.{sign_read}
+use Rattle.syntax_edit.proofs.KindFacts.{blank_read, last_is, pieces_same, some_part, sound_role}
+use Rattle.syntax_edit.proofs.Seams.{empty_front, match_behind, match_cons}
+use Rattle.syntax_edit.proofs.Sources.{sound_chunks}
+use Rattle.syntax_edit.proofs.Tokens.{alone, some_length, token_kept}
+use Rattle.syntax_edit.proofs.Words.{first_word}
+use Rattle.syntax_edit.specs.Kept.{is_line, is_sound}
+use Rattle.syntax_lex.proofs.SignFacts.{sign_read}
 use Rattle.syntax_layout.proofs.Ahead.{line_end}
 use Rattle.syntax_layout.proofs.Chunks.{first_letter}
 use Rattle.syntax_layout.proofs.GapChunks.{blank_before}

@@ -2,10 +2,10 @@
 use Rattle.std.proofs.Common.{◌≡◌, ◌≤◌, ℕ, Bool, true, false, List, [], ◌++◌, length, take, drop, None, sym, ap, ap₂, ◌∙◌, subst, arith, length-append}
 use Rattle.std.proofs.lemmas.List.{take-append-drop}
 use Rattle.std.specs.Str.{IsUtf8, chars}
-use Rattle.laws_round_trip.proofs.Sources.{match_source, utf8_joined}
-use Rattle.laws_round_trip.proofs.Words.{first_word}
-use Rattle.laws_round_trip.specs.Kept.{ends_in_line}
-use Rattle.laws_round_trip.specs.Splices.{IsSpelling}
+use Rattle.syntax_edit.proofs.Sources.{match_source, utf8_joined}
+use Rattle.syntax_edit.proofs.Words.{first_word}
+use Rattle.syntax_edit.specs.Kept.{ends_in_line}
+use Rattle.syntax_edit.specs.Splices.{IsSpelling}
 use Rattle.syntax_layout.proofs.Ahead.{ends_line}
 use Rattle.syntax_layout.proofs.Becomes.{both_becomes, replaced_short, rest_utf8}
 use Rattle.syntax_layout.proofs.DocumentedChunks.{Both, both_nothing, both_stays}

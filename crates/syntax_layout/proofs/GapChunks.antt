@@ -3,14 +3,14 @@ use Rattle.std.proofs.Common.{◌≡◌, ◌≢◌, ℕ, zero, suc, ◌<◌, ◌
 use Rattle.std.proofs.lemmas.Bool.{false≢true, and_parts}
 use Rattle.std.proofs.lemmas.Str.{IsUtf8-nil, chars-append, chars-nil}
 use Rattle.std.specs.Str.{chars}
-use Rattle.laws_round_trip.proofs.KindFacts.{blank_read, last_is, some_part}
-use Rattle.laws_round_trip.proofs.Seams.{empty_front}
-use Rattle.laws_round_trip.proofs.Sources.{joined-append, source, utf8_joined}
-use Rattle.laws_round_trip.proofs.Tokens.{kept_more}
-use Rattle.laws_round_trip.specs.Kept.{ends_in_line, is_line, is_sound}
-use Rattle.laws_round_trip.specs.Whole.{is_whole}
-use Rattle.laws_tokens.proofs.Twins.{behind_none}
-use Rattle.laws_tokens.specs.Stops.{is_ended}
+use Rattle.syntax_edit.proofs.KindFacts.{blank_read, last_is, some_part}
+use Rattle.syntax_edit.proofs.Seams.{empty_front}
+use Rattle.syntax_edit.proofs.Sources.{joined-append, source, utf8_joined}
+use Rattle.syntax_edit.proofs.Tokens.{kept_more}
+use Rattle.syntax_edit.specs.Kept.{ends_in_line, is_line, is_sound}
+use Rattle.syntax_edit.specs.Whole.{is_whole}
+use Rattle.syntax_lex.proofs.Twins.{behind_none}
+use Rattle.syntax_lex.specs.Stops.{is_ended}
 use Rattle.syntax_layout.proofs.Chunks.{blank_match}
 use Rattle.syntax_layout.proofs.Words.{IsWord}
 use Rattle.syntax_layout.specs.Gap.{AreGaps, IsGap, are_blank, is_blank}

@@ -4,10 +4,10 @@ use Rattle.std.proofs.lemmas.Bool.{false≢true, and_parts, eqb-true}
 use Rattle.std.proofs.lemmas.Str.{IsUtf8-append, IsUtf8-nil, chars-append, chars-nil}
 use Rattle.std.proofs.Math.Seq.{drop-append_seam, take-append_seam}
 use Rattle.std.specs.Str.{chars, IsUtf8}
-use Rattle.laws_round_trip.proofs.KindFacts.{SameBefore, pieces_same}
-use Rattle.laws_round_trip.proofs.Seams.{empty_front, match_behind}
-use Rattle.laws_round_trip.specs.Kept.{ends_in_line, is_line}
-use Rattle.laws_round_trip.specs.Whole.{is_whole}
+use Rattle.syntax_edit.proofs.KindFacts.{SameBefore, pieces_same}
+use Rattle.syntax_edit.proofs.Seams.{empty_front, match_behind}
+use Rattle.syntax_edit.specs.Kept.{ends_in_line, is_line}
+use Rattle.syntax_edit.specs.Whole.{is_whole}
 use Rattle.syntax_layout.proofs.Between.{Begins, Keeps, Stands, between_put, not_true, put_gap}
 use Rattle.syntax_layout.proofs.Chunks.{Put, blank_match}
 use Rattle.syntax_layout.proofs.GapChunks.{blank_kind, blank_means, blank_role, gap_chunks, gap_get, word_front}

@@ -2,8 +2,8 @@
 use Rattle.std.proofs.Common.{◌≡◌, ℕ, Bool, true, false, ◌||◌, ◌&&◌, List, [], ◌∷◌, Some, refl, sym, ap, ap₂, ◌∙◌, subst, if◌then◌else◌}
 use Rattle.std.proofs.lemmas.Bool.{false≢true}
 use Rattle.std.specs.Str.{chars}
-use Rattle.laws_round_trip.specs.Whole.{is_whole}
-use Rattle.laws_tokens.specs.Stops.{is_ended}
+use Rattle.syntax_edit.specs.Whole.{is_whole}
+use Rattle.syntax_lex.specs.Stops.{is_ended}
 use Rattle.syntax_layout.specs.Gap.{is_blank}
 use Rattle.syntax_layout.specs.Layout.{HasOthers, are_plain}
 use Rattle.syntax_lex.proofs.TokenFacts.{one_list}

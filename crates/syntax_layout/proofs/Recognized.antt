@@ -6,11 +6,11 @@ use Rattle.std.proofs.lemmas.List.{append_cancel_left, length-append, length-rep
 use Rattle.std.proofs.lemmas.Str.{IsCharBoundary-before_ascii, chars-append, encodes-chars}
 use Rattle.std.specs.Prelude.{unwrap_or}
 use Rattle.std.specs.Str.{IsCharBoundary, IsUtf8, chars}
-use Rattle.laws_round_trip.proofs.DocTexts.{wanted_keep}
-use Rattle.laws_round_trip.proofs.QuotedAlone.{text_bytes}
-use Rattle.laws_round_trip.proofs.Quotes.{raw_alone, raw_opens, text_in}
-use Rattle.laws_round_trip.proofs.Tokens.{token_parted}
-use Rattle.laws_tokens.proofs.TwinWords.{byte_length-append}
+use Rattle.syntax_edit.proofs.DocTexts.{wanted_keep}
+use Rattle.syntax_edit.proofs.QuotedAlone.{text_bytes}
+use Rattle.syntax_edit.proofs.QuotedTexts.{raw_alone, raw_opens, text_in}
+use Rattle.syntax_edit.proofs.Tokens.{token_parted}
+use Rattle.syntax_lex.proofs.TwinWords.{byte_length-append}
 use Rattle.syntax_layout.specs.Documented.{IsClosed, IsReplaced, attribute_opening, raw_string, string_hashes}
 use Rattle.syntax_lex.proofs.TokenFacts.{token_is}
 use Rattle.syntax_lex.specs.Closing.{raw_text}

@@ -1,13 +1,13 @@
 -- How a text that is laid out is read.
 use Rattle.std.proofs.Common.{◌≡◌, ℕ, List, [], false, Option, None, Some, sym, ap, ap₂, ◌∙◌, subst}
 use Rattle.std.specs.Str.{chars, IsUtf8}
-use Rattle.laws_round_trip.proofs.Sources.{match_source, source, utf8_joined}
-use Rattle.laws_round_trip.proofs.Spelling.{plain_spelling}
-use Rattle.laws_round_trip.specs.Kept.{ends_in_line}
+use Rattle.syntax_edit.proofs.Sources.{match_source, source, utf8_joined}
+use Rattle.syntax_edit.proofs.Spelling.{plain_spelling}
+use Rattle.syntax_edit.specs.Kept.{ends_in_line}
 use Rattle.syntax_layout.proofs.LaidChunks.{laid_all}
 use Rattle.syntax_layout.specs.Gap.{AreGaps}
 use Rattle.syntax_layout.specs.Layout.{IsLaidOut, are_plain, laid_out}
-use Rattle.laws_round_trip.specs.Splices.{IsSpelling}
+use Rattle.syntax_edit.specs.Splices.{IsSpelling}
 use Rattle.syntax_lex.proofs.TokenFacts.{one_list}
 use Rattle.syntax_lex.specs.Reading.{AreTokensOf}
 use Rattle.syntax_lex.specs.declared.token.Token.{Token}

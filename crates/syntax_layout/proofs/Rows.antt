@@ -12,7 +12,7 @@ use Rattle.syntax_lex.specs.Reading.{first_token_of, reading, reading_of}
 use Rattle.syntax_lex.specs.Word.{word}
 use Rattle.syntax_lex.specs.declared.token.Token.{Token}
 use Rattle.syntax_layout.proofs.SpacingRows.{tokens_of}
-use Rattle.laws_round_trip.specs.Kept.{ends_in_line}
+use Rattle.syntax_edit.specs.Kept.{ends_in_line}
 use Rattle.syntax_layout.specs.Gap.{are_blank}
 use Rattle.syntax_layout.specs.Layout.{laid_out, stays_before}
 

@@ -3,7 +3,7 @@ use Rattle.std.proofs.Common.{◌≡◌, ℕ, ◌<◌, ◌^◌, Bool, true, fals
 use Rattle.std.proofs.lemmas.Str.{chars-nil}
 use Rattle.std.specs.Prelude.{slice_get}
 use Rattle.std.specs.Str.{chars, IsUtf8}
-use Rattle.laws_round_trip.proofs.Seams.{space_blank}
+use Rattle.syntax_edit.proofs.Seams.{space_blank}
 use Rattle.syntax_layout.proofs.Ahead.{one_before}
 use Rattle.syntax_layout.proofs.Chunks.{space_is, white}
 use Rattle.syntax_layout.proofs.GapChunks.{no_gap}

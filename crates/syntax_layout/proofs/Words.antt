@@ -5,14 +5,14 @@ use Rattle.std.proofs.lemmas.Str.{IsUtf8-append, chars-append, chars-nil}
 use Rattle.std.proofs.Math.Seq.{drop-append_seam, take-append_seam}
 use Rattle.std.specs.Prelude.{nat_lt}
 use Rattle.std.specs.Str.{chars, IsUtf8}
-use Rattle.laws_round_trip.proofs.Seams.{empty_front}
-use Rattle.laws_round_trip.proofs.Tokens.{kept_more, token_alone, token_parted}
-use Rattle.laws_round_trip.proofs.Words.{first_word}
-use Rattle.laws_round_trip.specs.Kept.{is_parting, is_sound}
-use Rattle.laws_round_trip.specs.Whole.{is_whole}
-use Rattle.laws_tokens.proofs.KeepFacts.{one_of}
-use Rattle.laws_tokens.proofs.TwinWords.{byte_length-append, byte_length-is}
-use Rattle.laws_tokens.specs.Stops.{is_ended}
+use Rattle.syntax_edit.proofs.Seams.{empty_front}
+use Rattle.syntax_edit.proofs.Tokens.{kept_more, token_alone, token_parted}
+use Rattle.syntax_edit.proofs.Words.{first_word}
+use Rattle.syntax_edit.specs.Kept.{is_parting, is_sound}
+use Rattle.syntax_edit.specs.Whole.{is_whole}
+use Rattle.syntax_lex.proofs.KeepFacts.{one_of}
+use Rattle.syntax_lex.proofs.TwinWords.{byte_length-append, byte_length-is}
+use Rattle.syntax_lex.specs.Stops.{is_ended}
 use Rattle.syntax_layout.specs.Layout.{ends_before, stays_before}
 use Rattle.syntax_lex.proofs.FrontFacts.{byte_length-chars}
 use Rattle.syntax_lex.proofs.TokenFacts.{token_is}

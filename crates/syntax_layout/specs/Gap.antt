@@ -1,7 +1,7 @@
 -- What may stand between tokens without changing how they are read.
 use Rattle.std.specs.Prelude.{◌≡◌, ◌<◌, ◌^◌, ℕ, Bool, true, false, ◌&&◌, List, [], ◌∷◌, length, None}
 use Rattle.std.specs.Str.{chars, IsUtf8}
-use Rattle.laws_round_trip.specs.Kept.{ends_in_line}
+use Rattle.syntax_edit.specs.Kept.{ends_in_line}
 use Rattle.syntax_lex.specs.Reading.{AreTokensOf}
 use Rattle.syntax_lex.specs.declared.token.Token.{Token}
 use Rattle.syntax_lex.specs.declared.token.TokenKind.{TokenKind}

@@ -2,8 +2,8 @@
 use Rattle.std.specs.Prelude.{◌≡◌, ◌⊎◌, ◌<◌, ◌≤◌, ◌^◌, ℕ, ◌+◌, Bool, true, false, not, ◌==◌, ◌&&◌, ◌||◌, List, [], ◌∷◌, ◌++◌, length, take, drop, is_some, if◌then◌else◌}
 use Rattle.std.specs.List.{slice_index_or}
 use Rattle.std.specs.Str.{chars}
-use Rattle.laws_round_trip.specs.Kept.{is_parting}
-use Rattle.laws_round_trip.specs.Whole.{is_whole}
+use Rattle.syntax_edit.specs.Kept.{is_parting}
+use Rattle.syntax_edit.specs.Whole.{is_whole}
 use Rattle.syntax_layout.specs.Documented.{IsDocumented}
 use Rattle.syntax_layout.specs.Gap.{AreGaps, IsGap, is_blank}
 use Rattle.syntax_lex.specs.Reading.{AreTokensOf, first_token_of}

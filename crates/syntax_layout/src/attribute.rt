@@ -2,12 +2,12 @@
 ghost use Rattle.std.specs.List.{list_any};
 ghost use Rattle.std.specs.Prelude.{◌≡◌, ◌<◌, ◌^◌, ◌-◌, ◌++◌, ◌∷◌, List, ℕ, MatchOption, None, Some, length, replicate, true};
 ghost use Rattle.syntax_layout.specs.Documented.{IsClosed, IsReplaced, attribute_opening, documents, first_line_end, is_line_end, string_hashes};
-ghost use Rattle.syntax_parse.specs.Doc.{hashes_wanted, next_run};
 ghost use Rattle.syntax_parse.specs.Inside.{begins_with_feed};
 ghost use Rattle.tt_base.specs.LeafText.{closing_quote, opening_quote};
 ghost use Rattle.tt_base.specs.declared.literal.LitKind.TheVariants.{StrRaw};
 
 use syntax_lex::{DocStyle, LiteralKind, TokenKind, first_token};
+use syntax_parse::hashes_wanted;
 
 // Returns what follows the beginning of a text, if it begins so.
 fn behind<'t>(text: &'t str, front: &str) -> Option<&'t str>
@@ -52,33 +52,6 @@ fn string_hashes(kind: TokenKind) -> Option<u8>
         } => n_hashes,
         _ => None,
     }
-}
-
-// Returns the length of a run of a quote and hashes after one byte more.
-fn next_run(run: usize, byte: u8) -> usize
-    requires { run < 2 ^ 64 - 1 }
-    ensures { result ≡ next_run run byte }
-{
-    match byte {
-        b'"' => 1,
-        b'#' if run > 0 => run + 1,
-        _ => 0,
-    }
-}
-
-// Returns how many hashes a raw string with this text needs.
-fn hashes_wanted(text: &str) -> usize
-    ensures { result ≡ hashes_wanted text.now }
-{
-    let mut run = 0;
-    let mut most = 0;
-    for byte in text.as_bytes() {
-        run = next_run(run, *byte);
-        if run > most {
-            most = run;
-        }
-    }
-    most
 }
 
 // Returns the text of a raw string that a `]` follows, and what follows that, if the string has as many hashes as its text needs.

@@ -1,8 +1,8 @@
 //! What a token's kind says about what may stand beside it.
 ghost use Rattle.std.specs.Prelude.{◌≡◌};
-ghost use Rattle.laws_round_trip.specs.Kept.{is_line, is_parting};
-ghost use Rattle.laws_round_trip.specs.Whole.{is_whole};
-ghost use Rattle.laws_tokens.specs.Stops.{is_closed};
+ghost use Rattle.syntax_edit.specs.Kept.{is_line, is_parting};
+ghost use Rattle.syntax_edit.specs.Whole.{is_whole};
+ghost use Rattle.syntax_lex.specs.Stops.{is_closed};
 ghost use Rattle.syntax_layout.specs.Gap.{is_blank};
 ghost use Rattle.syntax_layout.specs.Layout.{joins, joins_before};
 

@@ -1,6 +1,6 @@
 //! Trees as Rust text that looks like the source that they come from.
 ghost use Rattle.std.specs.Prelude.{◌<◌, ◌+◌, ◌^◌, IfOk, IfErr, length, string_bytes};
-ghost use Rattle.laws_round_trip.specs.Splices.{IsSpelling};
+ghost use Rattle.syntax_edit.specs.Splices.{IsSpelling};
 ghost use Rattle.syntax_layout.specs.Layout.{IsLaidText};
 ghost use Rattle.syntax_unparse.specs.Text.{text_of};
 ghost use Rattle.syntax_unparse.specs.Writable.{IsWritable, IsWriteFault};

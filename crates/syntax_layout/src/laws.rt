@@ -6,7 +6,7 @@ ghost use Rattle.tt_base.specs.declared.span.SpanPart.{SpanPart};
 ghost use Rattle.syntax_layout.specs.Documented.{IsDocumented};
 ghost use Rattle.syntax_layout.specs.Gap.{AreGaps};
 ghost use Rattle.syntax_layout.specs.Layout.{IsLaidOut};
-ghost use Rattle.laws_round_trip.specs.Splices.{IsSpelling};
+ghost use Rattle.syntax_edit.specs.Splices.{IsSpelling};
 ghost use Rattle.syntax_parse.specs.Parsed.{IsParse};
 ghost use Rattle.syntax_parse.specs.Refusal.{IsFaultOf};
 ghost use Rattle.syntax_parse.specs.Spelled.{spelled};

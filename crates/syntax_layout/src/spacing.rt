@@ -2,7 +2,7 @@
 ghost use Rattle.std.specs.Prelude.{◌≡◌, ◌<◌, ◌+◌, ◌^◌, IfOk, IfErr, length, map, string_bytes};
 ghost use Rattle.syntax_layout.specs.Gap.{AreGaps};
 ghost use Rattle.syntax_layout.specs.Spaces.{AreSpaces, IsSpacedText, space_between};
-ghost use Rattle.laws_round_trip.specs.Splices.{IsSpelling};
+ghost use Rattle.syntax_edit.specs.Splices.{IsSpelling};
 ghost use Rattle.syntax_unparse.specs.Text.{text_of};
 ghost use Rattle.syntax_unparse.specs.Writable.{IsWritable, IsWriteFault};
 ghost use Rattle.tt_view.specs.Views.{trees_of};

@@ -10,3 +10,14 @@ pub mod Rows
 pub mod RunFacts
 pub mod StopFacts
 pub mod TokenFacts
+pub mod KeepFacts
+pub mod Twins
+pub mod TwinNumbers
+pub mod TwinQuotes
+pub mod TwinWords
+pub mod TwinReads
+pub mod ReadKeeps
+pub mod SignFacts
+pub mod Clears
+mod ClearRows
+pub mod Tables

@@ -13,3 +13,6 @@ pub mod Reading
 pub mod Stop
 pub mod Tokens
 pub mod Word
+-- What may follow a token.
+pub mod Clear
+pub mod Stops

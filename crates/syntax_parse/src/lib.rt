@@ -22,6 +22,7 @@ mod role;
 mod step;
 
 pub use bracket::Bracket;
+pub use doc::hashes_wanted;
 pub use fault::{BadToken, Open, SyntaxFault, TextFault};
 pub use leaves::{punct_char, scan_of};
 pub use parse::parse_to_token_tree;

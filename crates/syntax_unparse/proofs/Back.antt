@@ -13,8 +13,8 @@ use Rattle.tt_base.specs.declared.punct.Spacing.{Spacing}
 use Rattle.tt_base.specs.declared.punct.Spacing.TheVariants.{Alone, Joint as JointSpacing}
 use Rattle.syntax_lex.specs.Front.{first}
 use Rattle.syntax_lex.specs.Reading.{AreTokensOf, reading}
-use Rattle.laws_tokens.proofs.SignFacts.{sign_read}
-use Rattle.laws_tokens.specs.Stops.{is_glued}
+use Rattle.syntax_lex.proofs.SignFacts.{sign_read}
+use Rattle.syntax_lex.specs.Stops.{is_glued}
 use Rattle.syntax_parse.specs.Faults.{fault_from}
 use Rattle.syntax_parse.specs.Parsed.{next_kind, pieces_from}
 use Rattle.syntax_parse.specs.Pieces.{spacing_before}

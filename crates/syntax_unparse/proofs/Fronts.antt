@@ -22,9 +22,9 @@ use Rattle.syntax_lex.specs.Reading.{reading}
 use Rattle.syntax_lex.specs.declared.token.LiteralKind.{LiteralKind}
 use Rattle.syntax_lex.specs.declared.token.TokenKind.{TokenKind}
 use Rattle.syntax_lex.specs.declared.token.TokenKind.TheVariants as kinds
-use Rattle.laws_tokens.proofs.KeepFacts.{IsPlain, plain_null, plain_stop}
-use Rattle.laws_tokens.proofs.SignFacts.{sign_read, space_read}
-use Rattle.laws_tokens.specs.Stops.{Stops, is_ended, is_glued, is_sign}
+use Rattle.syntax_lex.proofs.KeepFacts.{IsPlain, plain_null, plain_stop}
+use Rattle.syntax_lex.proofs.SignFacts.{sign_read, space_read}
+use Rattle.syntax_lex.specs.Stops.{Stops, is_ended, is_glued, is_sign}
 use Rattle.syntax_parse.specs.Inside.{literal_fault}
 use Rattle.syntax_parse.specs.Parsed.{next_kind}
 use Rattle.syntax_parse.specs.Pieces.{literal_of, pieces_as, pieces_of, scan_of, spacing_before}

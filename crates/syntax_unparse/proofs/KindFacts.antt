@@ -12,7 +12,7 @@ use Rattle.syntax_lex.specs.declared.token.LiteralKind.{LiteralKind}
 use Rattle.syntax_lex.specs.declared.token.LiteralKind.TheVariants as literals
 use Rattle.syntax_lex.specs.declared.token.TokenKind.{TokenKind}
 use Rattle.syntax_lex.specs.declared.token.TokenKind.TheVariants as kinds
-use Rattle.laws_tokens.specs.Stops.{is_closed, is_sign}
+use Rattle.syntax_lex.specs.Stops.{is_closed, is_sign}
 use Rattle.syntax_parse.specs.Pieces.{pieces_of, punct_char, spacing_before}
 use Rattle.syntax_parse.specs.Role.{literal_role, role_in, with_inside}
 use Rattle.syntax_parse.specs.Spelled.{sign as sign_sort}

@@ -16,10 +16,10 @@ use Rattle.syntax_lex.specs.declared.token.TokenKind.{TokenKind}
 use Rattle.syntax_lex.specs.declared.token.TokenKind.TheVariants as kinds
 use Rattle.syntax_lex.proofs.FrontFacts.{byte_length-chars, encode_utf8_nonempty}
 use Rattle.syntax_lex.proofs.TokenFacts.{byte_length-cons, len_first}
-use Rattle.laws_tokens.proofs.KeepFacts.{no_start}
-use Rattle.laws_tokens.proofs.ReadKeeps.{token_ends}
-use Rattle.laws_tokens.proofs.SignFacts.{sign_read}
-use Rattle.laws_tokens.specs.Stops.{Stops, is_ended, is_glued}
+use Rattle.syntax_lex.proofs.KeepFacts.{no_start}
+use Rattle.syntax_lex.proofs.ReadKeeps.{token_ends}
+use Rattle.syntax_lex.proofs.SignFacts.{sign_read}
+use Rattle.syntax_lex.specs.Stops.{Stops, is_ended, is_glued}
 use Rattle.syntax_parse.specs.Role.{role_in}
 use Rattle.syntax_parse.specs.declared.role.Role.TheVariants.{Leaf}
 use Rattle.syntax_unparse.specs.Text.{is_quote}

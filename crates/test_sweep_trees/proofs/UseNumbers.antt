@@ -8,7 +8,7 @@ use Rattle.tt_base.specs.declared.token_tree.TokenTree.{TokenTree}
 use Rattle.tt_tables.specs.Counts.{number_in, CountsMore}
 use Rattle.tt_tables.specs.TableOrder.{uses_of}
 use Rattle.tt_tables.specs.Uses.{same_part, part_uses, symbol_uses}
-use Rattle.tt_interned.proofs.UseCounts.{uses-le}
+use Rattle.tt_tables.proofs.UseCounts.{uses-le}
 use Rattle.tt_tables.proofs.Used.{uses-append}
 use Rattle.tt_pack.proofs.Counting.{few_parts, few_symbols}
 

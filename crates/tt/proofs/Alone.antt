@@ -7,7 +7,7 @@ use Rattle.tt_base.specs.declared.token_tree.TokenTree.TheVariants as token
 use Rattle.tt_base.specs.Building.{alone}
 use Rattle.tt_base.specs.Forest.{Forest, end, leaf, node, size, header, flat}
 use Rattle.tt_base.specs.Siblings.{is_end}
-use Rattle.tt_interned.specs.Held.{HeldToken, whole, token_alone}
+use Rattle.tt_tables.specs.Held.{HeldToken, whole, token_alone}
 
 -- the list with its last token alone
 last_alone : List TokenTree → List TokenTree

@@ -9,13 +9,13 @@ use Rattle.tt_base.specs.Building.{Stack, lowest, above, bottom, BuilderState, I
 use Rattle.tt_base.specs.Forest.{Forest, end, leaf, node, Root, size, flat, flat_root, header, IsWhole}
 use Rattle.tt_base.specs.OneRoot.{one_root}
 use Rattle.tt_base.specs.Unflat.{length-flat}
-use Rattle.tt_interned.specs.declared.token.InternedToken.{InternedToken}
-use Rattle.tt_interned.specs.declared.token.InternedToken.TheVariants as interned
-use Rattle.tt_interned.specs.Held.{HeldToken, whole, opened, as_token, open_places}
-use Rattle.tt_interned.specs.Interned.{AreNamed}
-use Rattle.tt_interned.specs.Names.{AllName}
-use Rattle.tt_interned.proofs.Naming.{length-named}
-use Rattle.tt_interned.specs.OneNode.{IsOneNode}
+use Rattle.tt_tables.specs.declared.token.InternedToken.{InternedToken}
+use Rattle.tt_tables.specs.declared.token.InternedToken.TheVariants as interned
+use Rattle.tt_tables.specs.Held.{HeldToken, whole, opened, as_token, open_places}
+use Rattle.tt_tables.specs.Interned.{AreNamed}
+use Rattle.tt_tables.specs.Names.{AllName}
+use Rattle.tt_tables.proofs.PlacesKept.{length-named}
+use Rattle.tt_tables.specs.OneNode.{IsOneNode}
 use Rattle.tt_tables.specs.Tables.{Tables}
 use Rattle.tt.specs.declared.builder.standing.Standing.{Standing}
 use Rattle.tt.specs.BuilderFields.{written, places, is_one_node, IsStateOf}

@@ -10,10 +10,10 @@ use Rattle.tt_base.specs.declared.token_tree.TokenTree.TheVariants as token
 use Rattle.tt_base.specs.Building.{Stack, lowest, above, tokens_held, BuilderState}
 use Rattle.tt_base.specs.Forest.{flat, header}
 use Rattle.tt_base.specs.Span.{part_of}
-use Rattle.tt_interned.specs.Held.{HeldToken, whole, opened, as_token, counted_parts, counted_symbols, parts_in, symbols_in, open_places}
-use Rattle.tt_interned.proofs.Opening.{all_from, open_places-wholes}
-use Rattle.tt_interned.proofs.Packing.{parts_in-whole, symbols_in-whole}
-use Rattle.tt_interned.proofs.Using.{uses_joined}
+use Rattle.tt_tables.specs.Held.{HeldToken, whole, opened, as_token, counted_parts, counted_symbols, parts_in, symbols_in, open_places}
+use Rattle.tt_tables.proofs.Opening.{all_from, open_places-wholes}
+use Rattle.tt_tables.proofs.Packing.{parts_in-whole, symbols_in-whole}
+use Rattle.tt_tables.proofs.Using.{uses_joined}
 use Rattle.tt.specs.declared.builder.standing.Standing.{Standing}
 use Rattle.tt.specs.BuilderFields.{written, places, open_header, IsStateOf}
 use Rattle.tt.specs.HeldList.{all_tokens, AreOpenIn}

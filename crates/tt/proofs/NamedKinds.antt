@@ -10,13 +10,13 @@ use Rattle.tt_base.specs.Building.{BuilderState, removed}
 use Rattle.tt_base.specs.declared.token_tree.TokenTree.{TokenTree}
 use Rattle.tt_base.specs.declared.token_tree.TokenTree.TheVariants as token
 use Rattle.tt_base.specs.OneRoot.{is_invisible}
-use Rattle.tt_interned.specs.declared.token.InternedToken.{InternedToken}
-use Rattle.tt_interned.specs.declared.token.InternedToken.TheVariants as interned
-use Rattle.tt_interned.specs.Held.{HeldToken, whole, opened, as_token}
-use Rattle.tt_interned.specs.Interned.{AreNamed}
-use Rattle.tt_interned.specs.Names.{Names, AllName}
-use Rattle.tt_interned.proofs.Naming.{length-named, named_at}
-use Rattle.tt_interned.proofs.Opening.{all_from}
+use Rattle.tt_tables.specs.declared.token.InternedToken.{InternedToken}
+use Rattle.tt_tables.specs.declared.token.InternedToken.TheVariants as interned
+use Rattle.tt_tables.specs.Held.{HeldToken, whole, opened, as_token}
+use Rattle.tt_tables.specs.Interned.{AreNamed}
+use Rattle.tt_tables.specs.Names.{Names, AllName}
+use Rattle.tt_tables.proofs.PlacesKept.{length-named, named_at}
+use Rattle.tt_tables.proofs.Opening.{all_from}
 use Rattle.tt_tables.specs.Tables.{Tables}
 use Rattle.tt.specs.BuilderFields.{kind_of, kind_at, kinds_at, invisible_token}
 use Rattle.tt.specs.HeldList.{all_tokens, AreOpenIn}

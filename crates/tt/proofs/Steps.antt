@@ -12,8 +12,8 @@ use Rattle.tt_base.specs.Building.{Stack, lowest, above, empty_builder, extended
 use Rattle.tt_base.specs.Forest.{Forest, leaf, end, flat, size, header}
 use Rattle.tt_base.specs.Token.{delimiter}
 use Rattle.tt_base.specs.Unflat.{length-flat}
-use Rattle.tt_interned.specs.Held.{HeldToken, whole, opened as open_header_held, as_token, open_places}
-use Rattle.tt_interned.proofs.Opening.{IsInnermost, innermost_open, open_places-opened, open_places-wholes, open_places-take, open_places-remove, whole_at, all_from}
+use Rattle.tt_tables.specs.Held.{HeldToken, whole, opened as open_header_held, as_token, open_places}
+use Rattle.tt_tables.proofs.Opening.{IsInnermost, innermost_open, open_places-opened, open_places-wholes, open_places-take, open_places-remove, whole_at, all_from}
 use Rattle.tt.specs.declared.builder.standing.Standing.{Standing}
 use Rattle.tt.specs.BuilderFields.{places, closed_token, invisible_token, innermost_start, kept_under, HasState, IsStateOf}
 use Rattle.tt.specs.HeldList.{all_tokens, AreOpenIn}

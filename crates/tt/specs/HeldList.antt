@@ -3,7 +3,7 @@ use Rattle.std.specs.Prelude.{◌≡◌, ℕ, List, ◌∷◌, map}
 use Rattle.tt_base.specs.declared.delimiter.Delimiter.{Delimiter}
 use Rattle.tt_base.specs.declared.token_tree.TokenTree.{TokenTree}
 use Rattle.tt_base.specs.Forest.{header}
-use Rattle.tt_interned.specs.Held.{HeldToken, as_token, open_places}
+use Rattle.tt_tables.specs.Held.{HeldToken, as_token, open_places}
 
 -- that list
 abbrev pub all_tokens : Delimiter → List HeldToken → List TokenTree

@@ -29,7 +29,7 @@ use std::alloc::Global;
 use std::marker::Model;
 use tokens::{add_leaves, add_trees, add_trees_alone, is_invisible, is_one_node};
 use tt_base::{Delimiter, DelimiterKind, Leaf, Refused, Span, SpanPart, Symbol, TtFault};
-use tt_interned::InternedTokens;
+use tt_tables::InternedTokens;
 use tt_view::{TokenTreesView, TopSubtree};
 
 // The number of tokens for which `new` asks for memory. They take 1,000 bytes, which allocators still take for a small block.

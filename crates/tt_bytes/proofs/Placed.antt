@@ -4,7 +4,7 @@ use Rattle.std.specs.List.{IsDistinct, list_any}
 use Rattle.tt_base.specs.contracts.symbol.SymbolEq.TheImpl.Laws as symbol_eq
 use Rattle.tt_bytes.specs.Uses.{no_place, ArePlaced}
 use Rattle.tt_bytes.proofs.Counting.{apart_at}
-use Rattle.tt_interned.proofs.Naming.{keeps_front}
+use Rattle.tt_tables.proofs.PlacesKept.{keeps_front}
 use Rattle.tt_tables.proofs.TokenTables.{text_sound}
 
 -- The item after a list.

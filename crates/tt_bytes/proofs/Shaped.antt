@@ -13,11 +13,11 @@ use Rattle.tt_base.proofs.CutLists.{one_level, done_level, leaf_level, node_leve
 use Rattle.tt_bytes.specs.Shape.{IsALeaf}
 use Rattle.tt_codec.specs.declared.entry.HeaderEntry.{HeaderEntry}
 use Rattle.tt_codec.specs.declared.entry.LeafEntry.{LeafEntry}
-use Rattle.tt_interned.specs.declared.token.InternedToken.{InternedToken}
-use Rattle.tt_interned.specs.declared.token.InternedToken.TheVariants as interned
-use Rattle.tt_interned.specs.Held.{whole}
-use Rattle.tt_interned.specs.Names.{Names, AllName}
-use Rattle.tt_interned.proofs.Naming.{length-named}
+use Rattle.tt_tables.specs.declared.token.InternedToken.{InternedToken}
+use Rattle.tt_tables.specs.declared.token.InternedToken.TheVariants as interned
+use Rattle.tt_tables.specs.Held.{whole}
+use Rattle.tt_tables.specs.Names.{Names, AllName}
+use Rattle.tt_tables.proofs.PlacesKept.{length-named}
 use Rattle.tt_tables.specs.Tables.{Tables}
 
 -- A leaf in the place of another.

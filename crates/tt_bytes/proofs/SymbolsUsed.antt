@@ -9,7 +9,7 @@ use Rattle.tt_bytes.specs.Uses.{no_place, IsOneMoreAt, ArePlaced, HaveUses, Uses
 use Rattle.tt_bytes.proofs.Counting.{counted_at, counted_new, order_same, order_new}
 use Rattle.tt_bytes.proofs.Placed.{placed_more, stands_last}
 use Rattle.tt_bytes.proofs.Spans.{something_at}
-use Rattle.tt_interned.proofs.Naming.{keeps_front}
+use Rattle.tt_tables.proofs.PlacesKept.{keeps_front}
 use Rattle.tt_tables.proofs.Used.{distinct-different}
 use Rattle.tt_tables.proofs.TokenTables.{text_sound}
 use Rattle.tt_tables.specs.TableOrder.{uses_of}

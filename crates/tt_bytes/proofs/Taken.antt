@@ -21,13 +21,13 @@ use Rattle.tt_bytes.specs.Uses.{ArePlaced, AreUsed, UsesSpan, HaveUses, UsesSymb
 use Rattle.tt_codec.specs.declared.entry.HeaderEntry.{HeaderEntry}
 use Rattle.tt_codec.specs.declared.entry.LeafEntry.TheVariants.{Punct as punct, Ident as ident, Literal as literal}
 use Rattle.tt_codec.specs.declared.span.SpanNumbers.{SpanNumbers}
-use Rattle.tt_interned.specs.Counted.{AreOf, IsListOf}
-use Rattle.tt_interned.specs.declared.token.InternedToken.{InternedToken}
-use Rattle.tt_interned.specs.declared.token.InternedToken.TheVariants as interned
-use Rattle.tt_interned.specs.Held.{whole}
-use Rattle.tt_interned.specs.Names.{Names, AllName}
-use Rattle.tt_interned.proofs.Naming.{all_stay, keep_all, named-push}
-use Rattle.tt_interned.proofs.Using.{uses_pushed}
+use Rattle.tt_tables.specs.Counted.{AreOf, IsListOf}
+use Rattle.tt_tables.specs.declared.token.InternedToken.{InternedToken}
+use Rattle.tt_tables.specs.declared.token.InternedToken.TheVariants as interned
+use Rattle.tt_tables.specs.Held.{whole}
+use Rattle.tt_tables.specs.Names.{Names, AllName}
+use Rattle.tt_tables.proofs.PlacesKept.{all_stay, keep_all, named-push}
+use Rattle.tt_tables.proofs.Using.{uses_pushed}
 use Rattle.tt_tables.specs.TableOrder.{different, uses_of}
 use Rattle.tt_tables.specs.Tables.{tables_from}
 use Rattle.tt_tables.specs.Uses.{same_part, token_parts, token_symbols, part_uses, symbol_uses}

@@ -15,8 +15,7 @@ use crate::whole::are_whole;
 use std::alloc::{AllocError, Global};
 use tt::{Delimiter, SpanPart, Subtree, Symbol, TokenTree, TopSubtree, TtFault};
 use tt_codec::Entry;
-use tt_interned::CountedTokens;
-use tt_tables::Tables;
+use tt_tables::{CountedTokens, Tables};
 
 // The smallest number of bytes of a token.
 const LEAST_TOKEN_BYTES: usize = 5;

@@ -4,15 +4,14 @@ ghost use Rattle.std.proofs.Props.{props};
 ghost use Rattle.std.specs.List.{IsDistinct};
 ghost use Rattle.tt_base.specs.Literal.{CutsText};
 ghost use Rattle.tt_bytes.specs.Uses.{ArePlaced};
-ghost use Rattle.tt_interned.specs.Counted.{IsListOf};
-ghost use Rattle.tt_interned.specs.OneList.{IsListOf-prop};
+ghost use Rattle.tt_tables.specs.Counted.{IsListOf};
+ghost use Rattle.tt_tables.specs.OneList.{IsListOf-prop};
 
 use crate::uses::{SymbolUses, no_part_uses, use_span};
 use std::alloc::{AllocError, Global};
 use tt_base::{IdentIsRaw, LitKind, Spacing};
 use tt_codec::{HeaderEntry, LeafEntry, SpanNumbers, Visitor, visit_common_token, visit_token};
-use tt_interned::{CountedTokens, InternedToken};
-use tt_tables::Tables;
+use tt_tables::{CountedTokens, InternedToken, Tables};
 
 /// Tokens, and the number of uses of each value of the tables. Unless a token did not fit, they mean a list.
 #[derive(Drop)]
@@ -55,8 +54,8 @@ fn is_cut(tables: Tables<'_>, symbol: u32, kind: LitKind, suffix_len: u8, span: 
 }
 
 impl<'a> Taking<'a> {
-    ghost use Rattle.tt_interned.specs.Counted.{AreOf};
-    ghost use Rattle.tt_interned.specs.ListOf.{list_of};
+    ghost use Rattle.tt_tables.specs.Counted.{AreOf};
+    ghost use Rattle.tt_tables.specs.ListOf.{list_of};
     ghost use Rattle.tt_tables.specs.Uses.{same_part};
 
     /// Returns an empty list, with room for `count` tokens. The values of each table are all different. Fails only if memory runs out.

@@ -4,14 +4,14 @@ ghost use Rattle.tt_base.specs.declared.token_tree.TokenTree.{TokenTree as Token
 ghost use Rattle.tt_base.specs.Forest.{IsWhole};
 ghost use Rattle.tt_base.specs.Levels.{open_levels, TakesToken};
 ghost use Rattle.tt_bytes.specs.Shape.{IsALeaf};
-ghost use Rattle.tt_interned.specs.Held.{whole};
-ghost use Rattle.tt_interned.specs.Names.{Names, AllName};
+ghost use Rattle.tt_tables.specs.Held.{whole};
+ghost use Rattle.tt_tables.specs.Names.{Names, AllName};
 ghost use Rattle.tt_tables.specs.Tables.{Tables};
 
 use std::alloc::{AllocError, Global};
 use tt::{Delimiter, Leaf, Punct, Spacing, Subtree, TokenTree};
 use tt_base::Levels;
-use tt_interned::InternedToken;
+use tt_tables::InternedToken;
 
 // Takes a token, whatever values it names. Returns whether it fits.
 #[inline(always)]

@@ -65,7 +65,7 @@ pub(crate) fn raw_from(number: u32) -> IdentIsRaw
 }
 
 /// Returns the number of a kind of literal.
-pub(crate) fn kind_number(kind: LitKind) -> u8
+pub fn kind_number(kind: LitKind) -> u8
     ensures value { result ≡ kind_number kind }
     ensures bound { result ≤ 10 }
 {

@@ -18,5 +18,6 @@ mod words;
 pub use encodable::Encodable;
 pub use entry::{Entry, HeaderEntry, LeafEntry};
 pub use entry_read::{Visitor, visit_common_token, visit_token};
+pub use kinds::kind_number;
 pub use reference::{MOST_SYMBOLS, Reference};
 pub use span::{MOST_PARTS, SpanNumbers};

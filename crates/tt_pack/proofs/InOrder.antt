@@ -7,7 +7,7 @@ use Rattle.std.proofs.lemmas.List.{take-append-drop}
 use Rattle.std.proofs.lemmas.List.FromFn.{length-range_with_len}
 use Rattle.std.specs.Bool.{OnTrue}
 use Rattle.std.specs.List.{AllZip, list_any, range_with_len}
-use Rattle.tt_interned.specs.declared.token.InternedToken.{InternedToken}
+use Rattle.tt_tables.specs.declared.token.InternedToken.{InternedToken}
 use Rattle.tt_tables.specs.TableOrder.{different}
 use Rattle.tt_pack.specs.Counted.{note_value}
 use Rattle.tt_pack.specs.Places.{token_places, places_from, part_places, IsAt, HasOutOfTurn}

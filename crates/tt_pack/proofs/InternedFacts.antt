@@ -8,8 +8,8 @@ use Rattle.tt_base.specs.contracts.span.SpanPartEq.TheImpl.Laws as part_eq
 use Rattle.tt_base.specs.contracts.symbol.SymbolEq.TheImpl.Laws as symbol_eq
 use Rattle.tt_base.specs.declared.span.SpanPart.{SpanPart}
 use Rattle.tt_base.specs.declared.token_tree.TokenTree.{TokenTree}
-use Rattle.tt_interned.specs.declared.token.InternedToken.{InternedToken}
-use Rattle.tt_interned.specs.Counted.{AreOf}
+use Rattle.tt_tables.specs.declared.token.InternedToken.{InternedToken}
+use Rattle.tt_tables.specs.Counted.{AreOf}
 use Rattle.tt_tables.specs.Stored.{most_parts, most_symbols}
 use Rattle.tt_tables.specs.TableOrder.{different, uses_of, IsIn, IsTable}
 use Rattle.tt_tables.specs.Tables.{tables_from, short_parts, short_symbols, part_table, symbol_table}

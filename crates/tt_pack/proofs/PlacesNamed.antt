@@ -14,10 +14,10 @@ use Rattle.tt_base.specs.declared.span.SpanPart.{SpanPart}
 use Rattle.tt_base.specs.declared.token_tree.TokenTree.{TokenTree}
 use Rattle.tt_base.specs.declared.token_tree.TokenTree.TheVariants as token
 use Rattle.tt_codec.specs.declared.entry.LeafEntry.TheVariants.{Punct as punct, Ident as ident, Literal as literal}
-use Rattle.tt_interned.specs.declared.token.InternedToken.{InternedToken}
-use Rattle.tt_interned.specs.declared.token.InternedToken.TheVariants as interned
-use Rattle.tt_interned.specs.Held.{whole}
-use Rattle.tt_interned.specs.Names.{Names, AllName}
+use Rattle.tt_tables.specs.declared.token.InternedToken.{InternedToken}
+use Rattle.tt_tables.specs.declared.token.InternedToken.TheVariants as interned
+use Rattle.tt_tables.specs.Held.{whole}
+use Rattle.tt_tables.specs.Names.{Names, AllName}
 use Rattle.tt_tables.specs.TableOrder.{index_in, different}
 use Rattle.tt_tables.specs.Tables.{Tables}
 use Rattle.tt_tables.specs.Uses.{token_parts, part_uses}

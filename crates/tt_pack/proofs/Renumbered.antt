@@ -18,12 +18,12 @@ use Rattle.tt_codec.specs.declared.entry.LeafEntry.{LeafEntry}
 use Rattle.tt_codec.specs.declared.entry.LeafEntry.TheVariants.{Punct as punct, Ident as ident, Literal as literal}
 use Rattle.tt_codec.specs.declared.span.SpanNumbers.{SpanNumbers}
 use Rattle.tt_codec.specs.Entry.{EntryFits}
-use Rattle.tt_interned.specs.declared.token.InternedToken.{InternedToken}
-use Rattle.tt_interned.specs.declared.token.InternedToken.TheVariants as interned
-use Rattle.tt_interned.specs.Held.{whole}
-use Rattle.tt_interned.specs.declared.counted.CountedTokens.{CountedTokens}
-use Rattle.tt_interned.specs.ListOf.{list_of, tokens_of, parts_of, symbols_of, counted_are}
-use Rattle.tt_interned.specs.Names.{Names}
+use Rattle.tt_tables.specs.declared.token.InternedToken.{InternedToken}
+use Rattle.tt_tables.specs.declared.token.InternedToken.TheVariants as interned
+use Rattle.tt_tables.specs.Held.{whole}
+use Rattle.tt_tables.specs.declared.counted.CountedTokens.{CountedTokens}
+use Rattle.tt_tables.specs.ListOf.{list_of, tokens_of, parts_of, symbols_of, counted_are}
+use Rattle.tt_tables.specs.Names.{Names}
 use Rattle.tt_tables.specs.Searches.{FindsSpan, FindsLeaf, FindsSubtree}
 use Rattle.tt_tables.specs.TableOrder.{IsIn}
 use Rattle.tt_tables.specs.Tables.{Tables, tables_from, Knows, numbers_of_span, leaf_entry, entry_of}

@@ -5,7 +5,7 @@ use Rattle.tt_codec.specs.declared.entry.LeafEntry.{LeafEntry}
 use Rattle.tt_codec.specs.declared.entry.LeafEntry.TheVariants.{Punct as punct, Ident as ident, Literal as literal}
 use Rattle.tt_codec.specs.declared.span.SpanNumbers.{SpanNumbers}
 use Rattle.tt_base.specs.declared.token_tree.TokenTree.{TokenTree}
-use Rattle.tt_interned.specs.ListOf.{list_of, parts_of, symbols_of}
+use Rattle.tt_tables.specs.ListOf.{list_of, parts_of, symbols_of}
 use Rattle.tt_tables.specs.Tables.{Tables, tables_from}
 use Rattle.tt_pack.specs.declared.interned.InternedTables.{InternedTables}
 use Rattle.tt_pack.specs.Counted.{new_index}

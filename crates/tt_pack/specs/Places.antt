@@ -3,8 +3,8 @@ use Rattle.std.specs.Prelude.{◌≡◌, ℕ, ◌<◌, Option, None, Some, List,
 use Rattle.std.specs.List.{AllByRecursion}
 use Rattle.tt_codec.specs.declared.entry.LeafEntry.{LeafEntry}
 use Rattle.tt_codec.specs.declared.entry.LeafEntry.TheVariants.{Punct as punct, Ident as ident, Literal as literal}
-use Rattle.tt_interned.specs.declared.token.InternedToken.{InternedToken}
-use Rattle.tt_interned.specs.declared.token.InternedToken.TheVariants as interned
+use Rattle.tt_tables.specs.declared.token.InternedToken.{InternedToken}
+use Rattle.tt_tables.specs.declared.token.InternedToken.TheVariants as interned
 
 -- the place of a leaf's part
 abbrev pub leaf_place : LeafEntry → ℕ

@@ -8,7 +8,7 @@ ghost use Rattle.tt_pack.specs.Places.{leaf_place, token_places, places_from, pa
 
 use std::alloc::{AllocError, Global};
 use tt_codec::LeafEntry;
-use tt_interned::InternedToken;
+use tt_tables::InternedToken;
 
 /// The places of the used parts in the order of first uses, and the rank of each in this order.
 #[derive(Drop)]

@@ -2,7 +2,7 @@
 ghost use Rattle.std.specs.Prelude.{◌≡◌, ℕ, ◌+◌, ◌<◌, ◌≤◌, All, length, map, nat_eq, IfOk, IfErr};
 ghost use Rattle.std.specs.List.{AllZip};
 ghost use Rattle.tt_base.specs.Forest.{IsWhole};
-ghost use Rattle.tt_interned.specs.ListOf.{list_of, tokens_of, parts_of};
+ghost use Rattle.tt_tables.specs.ListOf.{list_of, tokens_of, parts_of};
 ghost use Rattle.tt_tables.specs.Stored.{most_parts, most_symbols};
 ghost use Rattle.tt_tables.specs.TableOrder.{different};
 ghost use Rattle.tt_tables.specs.Tables.{part_table};
@@ -21,7 +21,7 @@ use crate::writer::Writer;
 use std::alloc::{AllocError, Global};
 use tt_base::{SpanPart, Symbol, TtFault};
 use tt_codec::{Entry, HeaderEntry, LeafEntry, MOST_SYMBOLS, SpanNumbers};
-use tt_interned::{CountedTokens, InternedToken};
+use tt_tables::{CountedTokens, InternedToken};
 
 /// The tables of interned tokens, and the new index of each value, by its place.
 #[derive(Drop)]

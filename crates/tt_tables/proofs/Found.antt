@@ -13,7 +13,7 @@ use Rattle.tt_base.specs.Token.{leaf_span}
 use Rattle.tt_base.specs.Literal.{IsLiteral}
 use Rattle.tt_base.specs.Span.{start_of, end_of, part_of, span_in}
 use Rattle.tt_tables.specs.Tables.{Tables}
-use Rattle.tt_tables.proofs.Lookups.{span_from, literal_is}
+use Rattle.tt_tables.specs.OneToken.{span_from, literal_is}
 use Rattle.tt_codec.specs.declared.entry.LeafEntry.TheVariants.{Literal as literal}
 use Rattle.tt_codec.specs.declared.span.SpanNumbers.{SpanNumbers}
 use Rattle.tt_tables.specs.Searches.{FindsSpan, FindsLeaf}

@@ -1,21 +1,17 @@
 -- The numbers of a token determine it, if the tables have all values that it uses.
-use Rattle.std.proofs.Common.{◌≡◌, ℕ, suc, ◌-◌, ◌<◌, ◌≤◌, Bool, true, false, cond, bytes_eq, List, [], ◌∷◌, ◌++◌, length, refl, ap, sym, ◌∙◌, arith, IsCharBoundary}
-use Rattle.std.proofs.Props.{props}
-use Rattle.std.specs.Coded.{le_prop}
-use mathlib.Core.HLevel.{is_prop→PathP}
+use Rattle.std.proofs.Common.{◌≡◌, ℕ, suc, ◌<◌, Bool, true, false, cond, bytes_eq, List, [], ◌∷◌, ◌++◌, length, refl, ap, sym, ◌∙◌, arith}
 use Rattle.tt_base.specs.declared.delimiter.Subtree.{Subtree}
 use Rattle.tt_base.specs.declared.leaf.Leaf.{Leaf}
 use Rattle.tt_base.specs.declared.leaf.Leaf.TheVariants as leaf
-use Rattle.tt_base.specs.declared.literal.Literal.{Literal}
 use Rattle.tt_base.specs.declared.span.Span.{Span}
 use Rattle.tt_base.specs.declared.span.SpanPart.{SpanPart}
 use Rattle.tt_base.specs.declared.token_tree.TokenTree.{TokenTree}
 use Rattle.tt_base.specs.declared.token_tree.TokenTree.TheVariants as token
-use Rattle.tt_base.specs.Span.{start_of, end_of, part_of}
+use Rattle.tt_base.specs.Span.{part_of}
+use Rattle.tt_tables.specs.OneToken.{span_from, literal_is}
 use Rattle.tt_tables.specs.TableOrder.{index_in, IsIn}
 use Rattle.tt_tables.specs.Tables.{Tables, Knows, numbers_of_span, leaf_entry, header_entry, entry_of}
 use Rattle.tt_tables.specs.Uses.{same_part}
-use Rattle.tt_base.proofs.Ranges.{same_range}
 use Rattle.tt_tables.proofs.TokenTables.{part_sound, text_sound}
 
 -- An index that a list has is the same in a longer list.
@@ -62,33 +58,10 @@ symbol_is symbols a b found e =
     let (x, p, q) = same_index (bytes_eq a) (bytes_eq b) symbols found e in
     text_sound a x p ∙ sym (text_sound b x q)
 
--- Spans with the same part, start and length are equal.
-pub span_from : (a b : Span) → part_of a ≡ part_of b → start_of a.range ≡ start_of b.range
-    → end_of a.range - start_of a.range ≡ end_of b.range - start_of b.range → a ≡ b
-span_from a b part start long = λ i. record { range = range i; anchor = (part i).anchor; ctx = (part i).ctx }
-  where
-    range : a.range ≡ b.range
-    range = same_range a.range b.range start (omega (arith, start, long, a.range.ordered, b.range.ordered))
-
 -- Spans at one index are equal.
 pub span_is : (tables : Tables) (a b : Span) → IsIn same_part tables.parts (part_of a) → numbers_of_span tables a ≡ numbers_of_span tables b → a ≡ b
 span_is tables a b found e =
     span_from a b (part_is tables.parts (part_of a) (part_of b) found (ap (λ p. p.part) e)) (ap (λ p. p.start) e) (ap (λ p. p.length) e)
-
--- Literals with the same parts are equal.
-pub literal_is : (a b : Literal) → a.symbol ≡ b.symbol → a.span ≡ b.span → a.kind ≡ b.kind → a.suffix_len ≡ b.suffix_len → a ≡ b
-literal_is a b e f g h =
-    λ i. record {
-      symbol = e i;
-      span = f i;
-      kind = g i;
-      suffix_len = h i;
-      fits = is_prop→PathP (λ i. h i ≤ length (e i)) (λ i. le_prop) a.fits b.fits i;
-      cuts = is_prop→PathP (λ i. IsCharBoundary (e i) (length (e i) - h i)) (λ i. boundary_prop (e i) (length (e i) - h i)) a.cuts b.cuts i;
-    }
-  where
-    boundary_prop : (text : List ℕ) (n : ℕ) → IsProp (IsCharBoundary text n)
-    boundary_prop text n = hlevel props
 
 -- Leaves with the same numbers are equal.
 pub leaf_is : (tables : Tables) (a b : Leaf) → Knows tables (token.Leaf a) → leaf_entry tables a ≡ leaf_entry tables b → a ≡ b

@@ -24,7 +24,7 @@ use Rattle.tt_tables.specs.Tables.{Tables, tables_for}
 use Rattle.tt_codec.proofs.HeaderReading.{token_read, format_4_again}
 use Rattle.tt_tables.proofs.Known.{tables_for_know_trees}
 use Rattle.tt_tables.proofs.Lengths.{heavy_length}
-use Rattle.tt_tables.proofs.Lookups.{span_from}
+use Rattle.tt_tables.specs.OneToken.{span_from}
 use Rattle.tt_tables.proofs.TreesAlike.{reads_alike, seam, trees_alike}
 
 -- ---- the top

@@ -9,7 +9,7 @@ ghost use Rattle.tt_base.specs.Forest.{only, end, size, header, flat, flat_root,
 ghost use Rattle.tt_base.specs.Siblings.{leaves as leaf_trees};
 ghost use Rattle.tt_base.specs.Token.{delimiter};
 ghost use Rattle.tt_base.proofs.SameTree.{same_root_iff};
-ghost use Rattle.tt_interned.specs.ListOf.{list_of};
+ghost use Rattle.tt_tables.specs.ListOf.{list_of};
 ghost use Rattle.tt_tables.specs.Cost.{IsCheapest};
 ghost use Rattle.tt_tables.specs.PackFault.{IsPackFault};
 ghost use Rattle.tt_tables.specs.Shortest.{HasShortestHeaders};
@@ -17,7 +17,7 @@ ghost use Rattle.tt_tables.specs.Stored.{most_tokens, packed, IsInRange, IsWithi
 ghost use Rattle.tt_tables.specs.TableOrder.{IsTable};
 ghost use Rattle.tt_tables.specs.Tables.{tables_for, short_parts, short_symbols};
 ghost use Rattle.tt_tables.specs.Uses.{same_part, part_uses, symbol_uses};
-ghost use Rattle.tt_interned.specs.OneNode.{IsOneNode};
+ghost use Rattle.tt_tables.specs.OneNode.{IsOneNode};
 ghost use Rattle.tt_pack.specs.Packed.{fed_tree};
 ghost use Rattle.tt_view.specs.TreeFault.{under, IsTreeFault};
 
@@ -34,8 +34,8 @@ use std::marker::Model;
 use tt_base::{
     DelimSpan, Delimiter, Leaf, Refused, Span, SpanPart, Subtree, Symbol, TokenTree, TtFault,
 };
-use tt_interned::CountedTokens;
 use tt_pack::Packed;
+use tt_tables::CountedTokens;
 
 /// A token tree: a delimiter and the trees inside. A contract sees the tree. Memory has it as bytes and two tables, which are a function
 /// of the tree (docs/FORMATS.md).

@@ -1,7 +1,7 @@
 //! The kinds of the subtrees that are open in a builder.
 use crate::builder::tokens::kind_at;
 use tt_base::DelimiterKind;
-use tt_interned::InternedToken;
+use tt_tables::InternedToken;
 
 /// An iterator over the kinds of the subtrees that are open in a builder, innermost first.
 #[derive(Clone, Debug, Drop)]

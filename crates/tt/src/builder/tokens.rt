@@ -6,13 +6,13 @@ ghost use Rattle.tt_base.specs.Forest.{flat, size};
 ghost use Rattle.tt_base.specs.declared.fault.TtFault.TheVariants.{Memory, TooManyTokens};
 ghost use Rattle.tt_base.specs.declared.leaf.Leaf.{Leaf};
 ghost use Rattle.tt_base.specs.declared.token_tree.TokenTree.TheVariants as token;
-ghost use Rattle.tt_interned.specs.Held.{whole};
+ghost use Rattle.tt_tables.specs.Held.{whole};
 ghost use Rattle.tt_view.specs.Views.{trees_of};
 ghost use Rattle.tt.specs.InternedKinds.{named_kind, named_kind_at, is_named_invisible, is_named_node};
 
 use std::alloc::AllocError;
 use tt_base::{DelimiterKind, Leaf, TtFault};
-use tt_interned::{InternedToken, InternedTokens};
+use tt_tables::{InternedToken, InternedTokens};
 use tt_view::TokenTreesView;
 
 // Returns the kind of a header's delimiter, or invisible for a leaf.

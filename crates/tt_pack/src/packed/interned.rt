@@ -1,8 +1,8 @@
 //! Makes the tree of tokens that name values by places.
 ghost use Rattle.std.specs.Prelude.{◌≡◌, ◌<◌, ◌≤◌, ◌^◌, ◌∷◌, length, IfOk, IfErr};
 ghost use Rattle.tt_base.specs.Forest.{IsWhole, header, size, flat_root};
-ghost use Rattle.tt_interned.specs.ListOf.{list_of};
-ghost use Rattle.tt_interned.specs.OneNode.{IsOneNode};
+ghost use Rattle.tt_tables.specs.ListOf.{list_of};
+ghost use Rattle.tt_tables.specs.OneNode.{IsOneNode};
 ghost use Rattle.tt_tables.specs.PackFault.{IsPackFault};
 ghost use Rattle.tt_tables.specs.Stored.{most_tokens, IsWithinLimits};
 
@@ -10,7 +10,7 @@ use super::Packed;
 use crate::interned::InternedTables;
 use std::alloc::Global;
 use tt_base::{Delimiter, Subtree, TtFault};
-use tt_interned::CountedTokens;
+use tt_tables::CountedTokens;
 
 impl Packed {
     /// Returns the tree of tokens that name values by places, under a top of that delimiter. Fails as `pack` does for the flat list of

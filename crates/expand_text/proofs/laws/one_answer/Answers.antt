@@ -12,7 +12,7 @@ use Rattle.expand_text.proofs.OneExport.{one_export}
 use Rattle.expand_text.proofs.OneOutcome.{one_outcome}
 use Rattle.expand_text.proofs.Splicing.{one_line_list}
 use Rattle.expand_text.specs.Reading.{AreSplices}
-use Rattle.laws_round_trip.specs.Splices.{replacements_of}
+use Rattle.syntax_edit.specs.Splices.{replacements_of}
 use Rattle.expand_text.proofs.laws.one_answer.Goals as goal
 use Rattle.syntax_edit.specs.Places.{text_part}
 use Rattle.syntax_edit.specs.Texts.{begun, with_all}

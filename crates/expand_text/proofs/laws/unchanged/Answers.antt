@@ -1,7 +1,7 @@
 use Rattle.std.proofs.Common.{ap, ◌∙◌}
 use Rattle.syntax_edit.specs.Texts.{begun, with_all}
 use Rattle.expand_text.proofs.Undefined.{nothing_comes}
-use Rattle.laws_round_trip.specs.Splices.{replacements_of}
+use Rattle.syntax_edit.specs.Splices.{replacements_of}
 use Rattle.expand_text.proofs.laws.unchanged.Goals as goal
 
 pub returns : goal.returns

@@ -1,7 +1,7 @@
 use Rattle.std.proofs.Common.{◌∷◌, ◌++◌, [], sym, subst}
 use Rattle.tt.specs.TreeWalks.{innermost}
 use Rattle.expand_text.specs.Contexts.{Config, config_of}
-use Rattle.laws_round_trip.specs.Splices.{replacements_of}
+use Rattle.syntax_edit.specs.Splices.{replacements_of}
 use Rattle.syntax_edit.specs.Texts.{Writing, AreReplaced, begun, writing_of}
 use Rattle.expand_text.specs.Walks.{first_level, outer_of, levels_of, begun as begun_at}
 use Rattle.expand_text.specs.Writing.{IsNextWritten}

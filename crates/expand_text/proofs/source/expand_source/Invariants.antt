@@ -1,7 +1,7 @@
 -- The splices so far and those of the rest are those of all trees.
 use Rattle.std.proofs.Common.{List}
 use Rattle.expand_text.specs.Contexts.{Context, IsContext, config_of}
-use Rattle.laws_round_trip.specs.Splices.{Splice, replacements_of}
+use Rattle.syntax_edit.specs.Splices.{Splice, replacements_of}
 use Rattle.syntax_edit.specs.Texts.{begun, writing_of, AreReplaced}
 use Rattle.expand_text.specs.Walks.{levels_of, work_in}
 use Rattle.expand_text.proofs.Replacing.{IsReading}

@@ -12,9 +12,9 @@ use Rattle.expand_text.proofs.Fitting.{comes_fit}
 use Rattle.expand_text.proofs.Replacing.{all_replaced}
 use Rattle.expand_text.proofs.Weaving.{text_woven}
 use Rattle.expand_text.specs.Reading.{AreSplices, sorts_left}
-use Rattle.laws_round_trip.proofs.CallWeaves.{no_fault_woven, read_woven}
-use Rattle.laws_round_trip.specs.Calls.{IsWoven}
-use Rattle.laws_round_trip.specs.Splices.{Splice, replacements_of}
+use Rattle.syntax_edit.proofs.CallWeaves.{no_fault_woven, read_woven}
+use Rattle.syntax_edit.specs.Calls.{IsWoven}
+use Rattle.syntax_edit.specs.Splices.{Splice, replacements_of}
 use Rattle.expand_text.proofs.text.expand_leniently.Goals as goal
 use Rattle.syntax_parse.specs.Parsed.{IsParse}
 use Rattle.syntax_parse.specs.Refusal.{IsFaultOf}

@@ -1,7 +1,7 @@
 use Rattle.std.proofs.Common.{sym, subst}
 use Rattle.std.specs.Prelude.{string_bytes}
-use Rattle.laws_round_trip.proofs.Spelling.{plain_spelling}
-use Rattle.laws_round_trip.specs.Splices.{IsSpelling}
+use Rattle.syntax_edit.proofs.Spelling.{plain_spelling}
+use Rattle.syntax_edit.specs.Splices.{IsSpelling}
 use Rattle.syntax_layout.proofs.Documents.{documented_spells}
 use Rattle.tt_view.specs.Views.{trees_of}
 use Rattle.syntax_layout.proofs.laid.rust_text_laid.Goals as goal

@@ -8,7 +8,7 @@ use Rattle.syntax_lex.specs.Reading.{AreTokensOf}
 use Rattle.syntax_lex.specs.declared.token.Token.{Token}
 use Rattle.syntax_layout.proofs.Ahead.{layout_blank, layout_end, layout_others, layout_word}
 use Rattle.syntax_layout.proofs.GapChunks.{gap_short}
-use Rattle.laws_round_trip.specs.Whole.{is_whole}
+use Rattle.syntax_edit.specs.Whole.{is_whole}
 use Rattle.syntax_parse.proofs.TextFacts.{cut, more_than_none}
 use Rattle.syntax_layout.proofs.layout.laid_out.Goals as goal
 

@@ -1,7 +1,7 @@
 use Rattle.std.proofs.Common.{map, sym, subst}
-use Rattle.laws_round_trip.proofs.Spelling.{plain_spelling}
+use Rattle.syntax_edit.proofs.Spelling.{plain_spelling}
 use Rattle.syntax_layout.specs.Gap.{AreGaps}
-use Rattle.laws_round_trip.specs.Splices.{IsSpelling}
+use Rattle.syntax_edit.specs.Splices.{IsSpelling}
 use Rattle.tt_view.specs.Views.{trees_of}
 use Rattle.syntax_layout.proofs.spacing.rust_text_spaced.Goals as goal
 

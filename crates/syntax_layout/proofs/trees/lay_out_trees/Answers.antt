@@ -1,10 +1,10 @@
 use Rattle.std.proofs.Common.{map, sym, ◌∙◌, subst, ⊎_elim}
 use Rattle.std.specs.Prelude.{string_bytes}
 use Rattle.syntax_layout.proofs.Plain.{no_others}
-use Rattle.laws_round_trip.proofs.Spelling.{plain_spelling}
+use Rattle.syntax_edit.proofs.Spelling.{plain_spelling}
 use Rattle.syntax_layout.proofs.Returns.{tree_text_spells}
 use Rattle.syntax_layout.specs.Layout.{HasOthers, IsLaidOut}
-use Rattle.laws_round_trip.specs.Splices.{IsSpelling}
+use Rattle.syntax_edit.specs.Splices.{IsSpelling}
 use Rattle.tt_view.specs.Views.{trees_of}
 use Rattle.syntax_layout.proofs.trees.lay_out_trees.Goals as goal
 

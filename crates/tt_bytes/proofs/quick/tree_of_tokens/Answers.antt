@@ -1,8 +1,8 @@
 use Rattle.std.proofs.Common.{rules, map, subst, sym, arith}
 use Rattle.std.specs.Prelude.{IsTrue}
-use Rattle.tt_interned.specs.Held.{whole}
-use Rattle.tt_interned.specs.ListOf.{list_of}
-use Rattle.tt_interned.specs.Names.{AllName}
+use Rattle.tt_tables.specs.Held.{whole}
+use Rattle.tt_tables.specs.ListOf.{list_of}
+use Rattle.tt_tables.specs.Names.{AllName}
 use Rattle.tt_tables.specs.Tables.{tables_from}
 use Rattle.tt_bytes.proofs.Shaped.{long_as}
 use Rattle.tt_bytes.proofs.quick.tree_of_tokens.Goals as goal

@@ -2,8 +2,8 @@ use Rattle.std.proofs.Common.{rules, ◌≡◌, true, Some, slice_get, subst, re
 use Rattle.std.proofs.lemmas.Option.{slice_get_read}
 use Rattle.tt_base.specs.declared.token_tree.TokenTree.{TokenTree as Token}
 use Rattle.tt_base.specs.Levels.{open_levels, TakesToken}
-use Rattle.tt_interned.specs.Held.{whole}
-use Rattle.tt_interned.specs.Names.{Names}
+use Rattle.tt_tables.specs.Held.{whole}
+use Rattle.tt_tables.specs.Names.{Names}
 use Rattle.tt_tables.specs.Tables.{Tables}
 use Rattle.tt_bytes.proofs.Shaped.{asks_first, asks_next, asks_last}
 use Rattle.tt_bytes.proofs.whole.are_whole.Goals as goal

@@ -1,7 +1,7 @@
 use Rattle.std.proofs.Common.{subst}
 use Rattle.tt_base.specs.Levels.{open_levels}
-use Rattle.tt_interned.specs.Held.{whole}
-use Rattle.tt_interned.specs.Names.{Names}
+use Rattle.tt_tables.specs.Held.{whole}
+use Rattle.tt_tables.specs.Names.{Names}
 use Rattle.tt_bytes.proofs.Shaped.{if_ok, header_as, leaf_as}
 use Rattle.tt_bytes.proofs.whole.take.Goals as goal
 

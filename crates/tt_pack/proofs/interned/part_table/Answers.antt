@@ -1,7 +1,7 @@
 use Rattle.std.proofs.Common.{◌≡◌, length, ap, subst, ◌∙◌, arith, rules}
 use Rattle.std.specs.List.{AllZip}
 use Rattle.tt_base.specs.contracts.span.SpanPartEq.TheImpl.Laws as part_eq
-use Rattle.tt_interned.specs.ListOf.{list_of, parts_of, part_uses_of, counted_are}
+use Rattle.tt_tables.specs.ListOf.{list_of, parts_of, part_uses_of, counted_are}
 use Rattle.tt_tables.specs.TableOrder.{different}
 use Rattle.tt_tables.specs.Tables.{short_parts}
 use Rattle.tt_tables.specs.Uses.{same_part, part_uses}

@@ -1,6 +1,6 @@
 use Rattle.std.proofs.Common.{◌≡◌, ◌≤◌, length, map, nat_eq, ap, sym, ◌∙◌, arith, rules}
 use Rattle.std.specs.List.{range_with_len}
-use Rattle.tt_interned.specs.ListOf.{list_of, tokens_of, parts_of, symbols_of, counted_are}
+use Rattle.tt_tables.specs.ListOf.{list_of, tokens_of, parts_of, symbols_of, counted_are}
 use Rattle.tt_tables.specs.Stored.{most_parts}
 use Rattle.tt_tables.specs.TableOrder.{different}
 use Rattle.tt_tables.specs.Tables.{tables_from}

@@ -5,7 +5,7 @@ use Rattle.tt_base.specs.Building.{extended}
 use Rattle.tt_base.specs.Forest.{size}
 use Rattle.tt_base.specs.Siblings.{leaves}
 use Rattle.tt_base.specs.Unflat.{length-flat}
-use Rattle.tt_interned.specs.Held.{whole}
+use Rattle.tt_tables.specs.Held.{whole}
 use Rattle.tt_view.proofs.TreeFaults.{flat-leaves}
 use Rattle.tt.specs.OneState.{state_is, length-written}
 use Rattle.tt.proofs.Growing.{cut_back, room}

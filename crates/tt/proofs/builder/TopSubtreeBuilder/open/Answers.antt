@@ -1,6 +1,6 @@
 use Rattle.std.proofs.Common.{◌≡◌, ◌+◌, ◌++◌, ◌∷◌, [], inl, inr, refl, arith, rules}
 use Rattle.tt_base.specs.Building.{opened}
-use Rattle.tt_interned.specs.Held.{opened as open_header_held}
+use Rattle.tt_tables.specs.Held.{opened as open_header_held}
 use Rattle.tt.specs.OneState.{state_is}
 use Rattle.tt.proofs.Growing.{full, room}
 use Rattle.tt.proofs.Steps.{keeps, same_keeps, opened_keeps, length-all}

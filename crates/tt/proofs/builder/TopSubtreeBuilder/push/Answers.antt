@@ -1,7 +1,7 @@
 use Rattle.std.proofs.Common.{◌≡◌, ◌++◌, ◌∷◌, [], inl, inr, refl, arith, rules}
 use Rattle.tt_base.specs.declared.token_tree.TokenTree.TheVariants as token
 use Rattle.tt_base.specs.Forest.{leaf, end}
-use Rattle.tt_interned.specs.Held.{whole}
+use Rattle.tt_tables.specs.Held.{whole}
 use Rattle.tt.specs.OneState.{state_is}
 use Rattle.tt.proofs.Growing.{full, room}
 use Rattle.tt.proofs.Steps.{keeps, same_keeps, extended_keeps, pushed_or_same, length-all}

@@ -1,7 +1,7 @@
 use Rattle.std.proofs.Common.{◌≤◌, ◌<◌, ◌+◌, suc, inl, inr, length, map, refl, arith, ap, length-append}
 use Rattle.std.proofs.lemmas.List.{length-map}
 use Rattle.tt_base.specs.declared.token_tree.TokenTree.TheVariants as token
-use Rattle.tt_interned.specs.Held.{whole}
+use Rattle.tt_tables.specs.Held.{whole}
 use Rattle.tt.proofs.builder.tokens.add_leaves.Goals as goal
 
 pub returns-then-len-clause-fault : goal.returns-then-len-clause-fault

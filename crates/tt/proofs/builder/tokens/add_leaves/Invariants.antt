@@ -1,7 +1,7 @@
 -- The leaves that the iterator returned are appended.
 use Rattle.std.proofs.Common.{◌≡◌, ◌≤◌, ◌++◌, length, map}
 use Rattle.tt_base.specs.declared.token_tree.TokenTree.TheVariants as token
-use Rattle.tt_interned.specs.Held.{whole}
+use Rattle.tt_tables.specs.Held.{whole}
 use Rattle.tt.proofs.builder.tokens.add_leaves.Given as goal
 
 abbrev pub invariant-loop-leaf : goal.invariant-loop-leaf

@@ -1,7 +1,7 @@
 use Rattle.std.proofs.Common.{◌≡◌, ◌++◌, map, false, rules}
 use Rattle.tt_base.specs.Forest.{flat}
 use Rattle.tt_base.specs.Siblings.{is_end}
-use Rattle.tt_interned.specs.Held.{whole}
+use Rattle.tt_tables.specs.Held.{whole}
 use Rattle.tt_view.specs.Views.{trees_of}
 use Rattle.tt.proofs.Alone.{added_alone}
 use Rattle.tt.proofs.builder.tokens.add_trees_alone.Goals as goal

@@ -2,7 +2,7 @@ use Rattle.std.proofs.Common.{length, map, ap, arith, length-append}
 use Rattle.std.proofs.lemmas.List.{length-map}
 use Rattle.tt_base.specs.Forest.{flat}
 use Rattle.tt_base.specs.Unflat.{length-flat}
-use Rattle.tt_interned.specs.Held.{whole}
+use Rattle.tt_tables.specs.Held.{whole}
 use Rattle.tt_view.specs.SubtreeViews.{flat_rest}
 use Rattle.tt_view.specs.Views.{trees_of}
 use Rattle.tt.proofs.builder.tokens.push_all.Goals as goal

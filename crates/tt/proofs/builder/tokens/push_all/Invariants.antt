@@ -1,7 +1,7 @@
 -- The tokens held, and then the tokens to come, are all of them; the old ones are at the front.
 use Rattle.std.proofs.Common.{◌≡◌, ◌++◌, ◌≤◌, length, map, take}
 use Rattle.tt_base.specs.Forest.{flat}
-use Rattle.tt_interned.specs.Held.{whole}
+use Rattle.tt_tables.specs.Held.{whole}
 use Rattle.tt_view.specs.SubtreeViews.{flat_rest}
 use Rattle.tt_view.specs.Views.{trees_of}
 use Rattle.tt.proofs.builder.tokens.push_all.Given as goal

@@ -1,5 +1,5 @@
 use Rattle.std.proofs.Common.{refl, sym}
-use Rattle.tt_interned.proofs.Packing.{counted_from}
+use Rattle.tt_tables.proofs.Packing.{counted_from}
 use Rattle.tt_bytes.proofs.taking.Taking.counted.Goals as goal
 
 pub new-requires : goal.new-requires

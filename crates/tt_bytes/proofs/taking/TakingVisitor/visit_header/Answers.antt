@@ -1,5 +1,5 @@
 use Rattle.std.proofs.Common.{rules, ◌≡◌, ◌++◌, ◌∷◌, []}
-use Rattle.tt_interned.specs.declared.token.InternedToken.TheVariants as interned
+use Rattle.tt_tables.specs.declared.token.InternedToken.TheVariants as interned
 use Rattle.tt_bytes.proofs.Taken.{taken_header}
 use Rattle.tt_bytes.proofs.taking.TakingVisitor.visit_header.Goals as goal
 

@@ -1,6 +1,6 @@
 use Rattle.std.proofs.Common.{rules, ◌≡◌, ◌++◌, ◌∷◌, []}
 use Rattle.tt_codec.specs.declared.entry.LeafEntry.TheVariants.{Literal as literal}
-use Rattle.tt_interned.specs.declared.token.InternedToken.TheVariants as interned
+use Rattle.tt_tables.specs.declared.token.InternedToken.TheVariants as interned
 use Rattle.tt_bytes.proofs.Taken.{taken_literal}
 use Rattle.tt_bytes.proofs.taking.TakingVisitor.visit_literal.Goals as goal
 

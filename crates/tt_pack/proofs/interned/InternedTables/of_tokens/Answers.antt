@@ -1,6 +1,6 @@
 use Rattle.std.proofs.Common.{◌≡◌, ◌≤◌, inr, inl, length, count_by, nat_lt, refl, ap, sym, ◌∙◌, arith}
-use Rattle.tt_interned.specs.declared.counted.CountedTokens.{CountedTokens}
-use Rattle.tt_interned.specs.ListOf.{list_of, part_uses_of, symbols_of, counted_are}
+use Rattle.tt_tables.specs.declared.counted.CountedTokens.{CountedTokens}
+use Rattle.tt_tables.specs.ListOf.{list_of, part_uses_of, symbols_of, counted_are}
 use Rattle.tt_tables.specs.Tables.{part_table, symbol_table}
 use Rattle.tt_pack.specs.Packed.{HasFewParts}
 use Rattle.tt_pack.proofs.InternedFacts.{used_parts, order_length, length-part_table, length-symbol_table, symbols_made, symbols_lead}

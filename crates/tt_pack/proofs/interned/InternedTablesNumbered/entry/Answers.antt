@@ -1,7 +1,7 @@
 use Rattle.std.proofs.Common.{◌≤◌, ◌<◌, ◌^◌, length, ap, sym, subst, arith, rules}
 use Rattle.tt_codec.specs.declared.entry.Entry.TheVariants.{Leaf as of_leaf, Header as of_header}
-use Rattle.tt_interned.specs.ListOf.{list_of}
-use Rattle.tt_interned.proofs.Packing.{as_many_tokens}
+use Rattle.tt_tables.specs.ListOf.{list_of}
+use Rattle.tt_tables.proofs.Packing.{as_many_tokens}
 use Rattle.tt_pack.specs.InternedTables.{tables_in}
 use Rattle.tt_pack.specs.Writing.{IsEntryAt}
 use Rattle.tt_pack.proofs.Renumbered.{meant_at, leaf_entry_at, header_entry_at}

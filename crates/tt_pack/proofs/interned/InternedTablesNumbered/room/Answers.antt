@@ -1,5 +1,5 @@
 use Rattle.std.proofs.Common.{arith}
-use Rattle.tt_interned.specs.ListOf.{list_of}
+use Rattle.tt_tables.specs.ListOf.{list_of}
 use Rattle.tt_pack.proofs.MostBytes.{most_headers}
 use Rattle.tt_pack.proofs.interned.InternedTablesNumbered.room.Goals as goal
 

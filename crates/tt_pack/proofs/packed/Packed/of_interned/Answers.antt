@@ -1,7 +1,7 @@
 use Rattle.std.proofs.Common.{◌≡◌, ◌≤◌, ◌∷◌, length, Err, IfOk, IfErr, inl, ap, ap₂, sym, subst, ◌∙◌, arith, rules}
 use Rattle.tt_base.specs.declared.delimiter.Subtree.{Subtree}
 use Rattle.tt_base.specs.Forest.{size, header, flat_root}
-use Rattle.tt_interned.specs.ListOf.{list_of}
+use Rattle.tt_tables.specs.ListOf.{list_of}
 use Rattle.tt_tables.specs.PackFault.{IsPackFault}
 use Rattle.tt_tables.specs.Stored.{most_tokens, IsWithinLimits}
 use Rattle.tt_pack.specs.Packed.{IsTableFault}

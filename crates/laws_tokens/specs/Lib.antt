@@ -1,3 +1,0 @@
--- What may follow a token.
-pub mod Clear
-pub mod Stops

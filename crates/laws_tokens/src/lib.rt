@@ -1,4 +1,0 @@
-//! Where a token of a Rust text ends, whatever follows it.
-#![tactic(auto)]
-
-pub mod laws;

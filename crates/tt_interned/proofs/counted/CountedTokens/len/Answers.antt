@@ -1,5 +1,0 @@
-use Rattle.tt_interned.proofs.Packing.{as_many_tokens}
-use Rattle.tt_interned.proofs.counted.CountedTokens.len.Goals as goal
-
-pub returns : goal.returns
-returns c = as_many_tokens c.args.self.now
