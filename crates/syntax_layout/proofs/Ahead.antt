@@ -3,7 +3,7 @@ use Rattle.std.proofs.Common.{◌≡◌, ℕ, ◌+◌, ◌<◌, Bool, true, fals
 use Rattle.std.proofs.lemmas.Bool.{false≢true}
 use Rattle.std.specs.Str.{chars, IsUtf8}
 use Rattle.syntax_layout.specs.Gap.{IsGap, are_blank, is_blank}
-use Rattle.syntax_layout.specs.Layout.{HasOthers, IsLaidOut, ahead, are_plain, ends_before, joins, joins_before, laid, laid_out, put_before, touched, touches_surely}
+use Rattle.syntax_layout.specs.Layout.{HasOthers, IsLaidOut, ahead, are_plain, ending, ends_before, joins, joins_before, laid, laid_out, put_before, touched, touches_surely}
 use Rattle.syntax_lex.proofs.FrontFacts.{chars-empty, empty_from_chars}
 use Rattle.syntax_lex.proofs.TokenFacts.{one_list}
 use Rattle.syntax_lex.specs.Reading.{AreTokensOf, first_token_of}
@@ -139,11 +139,11 @@ layout_word text gaps so_far now first touching kind before used rest word behin
           ∙ all.written;
     }
 
-pub layout_end : (text : List ℕ) (gaps : List (List ℕ)) (so_far : List ℕ) (first touching : Bool) (kind : TokenKind) (before : List ℕ) (used : ℕ) (rest : List ℕ) → length rest ≡ 0
-    → IsLayoutAhead text gaps so_far first touching kind before used rest → IsLaidOut text gaps so_far
-layout_end text gaps so_far first touching kind before used rest none far =
+pub layout_end : (text : List ℕ) (gaps : List (List ℕ)) (so_far now : List ℕ) (first touching : Bool) (kind : TokenKind) (before : List ℕ) (used : ℕ) (rest : List ℕ) → length rest ≡ 0
+    → now ≡ so_far ++ ending first before (get_or gaps used []) → IsLayoutAhead text gaps so_far first touching kind before used rest → IsLaidOut text gaps now
+layout_end text gaps so_far now first touching kind before used rest none wrote far =
     let all = far [] (chars-empty rest none) in
-    record { tokens = all.tokens; read = all.read; plain = all.plain; is = sym (append-nil so_far) ∙ all.written }
+    record { tokens = all.tokens; read = all.read; plain = all.plain; is = wrote ∙ all.written }
 
 pub layout_others : (text : List ℕ) (gaps : List (List ℕ)) (so_far : List ℕ) (first touching : Bool) (kind : TokenKind) (before : List ℕ) (used : ℕ) (rest : List ℕ) (token : Token)
     → IsUtf8 rest → 0 < length rest → token ≡ first_token_of (chars rest) → is_blank token.kind ≡ false → is_whole token.kind ≡ false

@@ -1,7 +1,7 @@
 -- What is put between two tokens, and the first token before it.
-use Rattle.std.proofs.Common.{◌≡◌, ◌≢◌, ◌⊎◌, inl, inr, ℕ, Bool, true, false, ◌||◌, ◌&&◌, not, List, [], ◌∷◌, ◌++◌, is_some, Option, None, Some, refl, sym, ap, ap₂, ◌∙◌, arith, if◌then◌else◌}
+use Rattle.std.proofs.Common.{◌≡◌, ◌≢◌, ◌⊎◌, inl, inr, ℕ, Bool, true, false, ◌||◌, ◌&&◌, not, List, [], ◌∷◌, ◌++◌, is_some, Option, None, Some, refl, sym, ap, ap₂, ◌∙◌, append-nil, arith, if◌then◌else◌}
 use Rattle.std.proofs.lemmas.Bool.{false≢true, and_parts, or_parts}
-use Rattle.std.proofs.lemmas.Str.{chars-append}
+use Rattle.std.proofs.lemmas.Str.{chars-append, chars-nil}
 use Rattle.std.specs.Str.{chars, IsUtf8}
 use Rattle.syntax_edit.proofs.KindFacts.{SameBefore}
 use Rattle.syntax_edit.proofs.Sources.{joined-append}
@@ -11,7 +11,7 @@ use Rattle.syntax_layout.proofs.Chunks.{Put, put_space}
 use Rattle.syntax_layout.proofs.GapChunks.{AllBlank, GapChunks, blank_kind, gap_are, gap_chunks, gap_match, gap_means, text_append, word_front}
 use Rattle.syntax_layout.proofs.Words.{IsWord, before_space, ends_more, whole_sound}
 use Rattle.syntax_layout.specs.Gap.{IsGap}
-use Rattle.syntax_layout.specs.Layout.{between, ends_before, joins, joins_before, parting}
+use Rattle.syntax_layout.specs.Layout.{between, ending, ends_before, joins, joins_before, parting}
 use Rattle.syntax_lex.proofs.FrontFacts.{empty_from_chars}
 use Rattle.syntax_lex.specs.Class.{is_whitespace}
 use Rattle.syntax_lex.specs.Front.{first}
@@ -180,6 +180,41 @@ not_true false h = refl
 not_back : (b : Bool) → not b ≡ false → b ≡ true
 not_back true h = refl
 not_back false h = sym h
+
+-- a token before nothing
+keeps_nothing : (x : Chunk) (source : Option TokenKind) → IsWord x → (punct_char x.kind ≡ None) ⊎ (spacing_before source ≡ Alone) → Keeps x [] source
+keeps_nothing x source word alone = record {
+  reads = ap (λ t. reading (chars x.text ++ t)) chars-nil ∙ ap reading (append-nil (chars x.text)) ∙ word.alone ∙ ap (λ t. (x.kind, t)) (sym chars-nil);
+  same = by alone;
+}
+  where
+    by : (punct_char x.kind ≡ None) ⊎ (spacing_before source ≡ Alone) → SameBefore x.kind None source
+    by (inl none) = inr none
+    by (inr is) = inl (sym is)
+
+-- nothing begins with white space
+nothing_apart : is_whitespace (first (text [])) ≡ false
+nothing_apart = ap (λ t. is_whitespace (first t)) chars-nil
+
+-- a gap alone
+pub put_alone : (gap : List ℕ) → IsGap gap → Put gap []
+put_alone gap it = put_gap gap [] (gap_chunks gap it) tt nothing_apart
+
+-- what follows the last token
+pub ending_put : (x : Chunk) (source : Option TokenKind) (gap : List ℕ) → IsWord x → IsGap gap → (punct_char x.kind ≡ None) ⊎ (spacing_before source ≡ Alone)
+    → (it : Put (ending false x.text gap) []) × Keeps x it.new source
+ending_put x source [] word gap_is alone = (put_nothing [] tt, keeps_nothing x source word alone)
+ending_put x source (b ∷ gap) word gap_is alone = by (ends_before x.text (b ∷ gap)) refl
+  where
+    it : GapChunks (b ∷ gap)
+    it = gap_chunks (b ∷ gap) gap_is
+
+    inner : Put (b ∷ gap) []
+    inner = put_gap (b ∷ gap) [] it tt nothing_apart
+
+    by : (s : Bool) → ends_before x.text (b ∷ gap) ≡ s → (p : Put (space_if (not s) ++ b ∷ gap) []) × Keeps x p.new source
+    by true h = (inner, keeps_gap x (b ∷ gap) [] source word alone gap_is.utf8 (λ e. cc) h it)
+    by false h = (put_both (b ∷ gap) [] inner, keeps_space x inner.new inner.are source word alone)
 
 -- what is put between two tokens
 pub between_put : (x y : Chunk) (touching : Bool) (ys new : List Chunk) (source : Option TokenKind) (gap front : List ℕ) → IsWord x → IsWord y → Begins front (y ∷ new) → Stands x touching (y ∷ ys) source → IsGap gap → AreChunks (y ∷ new)

@@ -8,12 +8,12 @@ use Rattle.syntax_edit.proofs.KindFacts.{SameBefore, pieces_same}
 use Rattle.syntax_edit.proofs.Seams.{empty_front, match_behind}
 use Rattle.syntax_edit.specs.Kept.{ends_in_line, is_line}
 use Rattle.syntax_edit.specs.Whole.{is_whole}
-use Rattle.syntax_layout.proofs.Between.{Begins, Keeps, Stands, between_put, not_true, put_gap}
+use Rattle.syntax_layout.proofs.Between.{Begins, Keeps, Stands, between_put, ending_put, not_true, put_alone, put_gap}
 use Rattle.syntax_layout.proofs.Chunks.{Put, blank_match}
 use Rattle.syntax_layout.proofs.GapChunks.{blank_kind, blank_means, blank_role, gap_chunks, gap_get, word_front}
 use Rattle.syntax_layout.proofs.Words.{IsWord, ends_longer, word_is}
 use Rattle.syntax_layout.specs.Gap.{AreGaps, is_blank}
-use Rattle.syntax_layout.specs.Layout.{are_plain, between, ends_before, joins, laid, parting, put_before, touched, touches_surely}
+use Rattle.syntax_layout.specs.Layout.{are_plain, between, ending, ends_before, joins, laid, parting, put_before, touched, touches_surely}
 use Rattle.syntax_lex.specs.Reading.{reading}
 use Rattle.syntax_lex.specs.declared.token.TokenKind.{TokenKind}
 use Rattle.syntax_lex.specs.declared.token.TokenKind.TheVariants as kinds
@@ -217,18 +217,44 @@ pub record LaidBehind (x : Chunk) (touching : Bool) (used : ℕ) (xs : List Chun
   pub it : Laid false touching x.kind x.text used xs gaps
   pub keeps : Keeps x it.new source
 
-abbrev laid_end : (x : Chunk) (touching : Bool) (used : ℕ) (gaps : List (List ℕ)) (source : Option TokenKind) → IsWord x → Stands x touching [] source → LaidBehind x touching used [] gaps source
-laid_end x touching used gaps source word stands = record {
-  it = record { new = []; are = tt; text_is = refl; means = refl; matches = λ opened. refl; line = refl };
-  keeps = record {
-    reads = ap (λ t. reading (chars x.text ++ t)) chars-nil ∙ ap reading (append-nil (chars x.text)) ∙ word.alone ∙ ap (λ t. (x.kind, t)) (sym chars-nil);
-    same = by touching stands;
-  };
-}
+-- only a gap
+laid_end : (x : Chunk) (touching : Bool) (used : ℕ) (gaps : List (List ℕ)) (source : Option TokenKind) → IsWord x → Stands x touching [] source → AreGaps gaps → LaidBehind x touching used [] gaps source
+laid_end x touching used gaps source word stands fine =
+    let gap = get_or gaps used [] in
+    let put = ending_put x source gap word (gap_get gaps used fine) (inr (by touching stands)) in
+    record {
+      it = record {
+        new = put.0.new;
+        are = put.0.are;
+        text_is = put.0.text_is ∙ append-nil (ending false x.text gap);
+        means = put.0.means;
+        matches = put.0.matches;
+        line = put.0.line refl;
+      };
+      keeps = put.1;
+    }
   where
-    by : (t : Bool) → Stands x t [] source → SameBefore x.kind None source
-    by true s = inl (ap spacing_before (sym s.1))
-    by false s = inl (sym s)
+    by : (t : Bool) → Stands x t [] source → spacing_before source ≡ Alone
+    by true s = ap spacing_before s.1
+    by false s = s
+
+-- a gap behind no token
+ending_alone : (before gap : List ℕ) → ending true before gap ≡ gap
+ending_alone before [] = refl
+ending_alone before (b ∷ gap) = refl
+
+laid_none : (touching : Bool) (kind : TokenKind) (before : List ℕ) (used : ℕ) (gaps : List (List ℕ)) → AreGaps gaps → Laid true touching kind before used [] gaps
+laid_none touching kind before used gaps fine =
+    let gap = get_or gaps used [] in
+    let put = put_alone gap (gap_get gaps used fine) in
+    record {
+      new = put.new;
+      are = put.are;
+      text_is = put.text_is ∙ append-nil gap ∙ sym (ending_alone before gap);
+      means = put.means;
+      matches = put.matches;
+      line = put.line refl;
+    }
 
 blank_stands : (x y : Chunk) (touching : Bool) (ys : List Chunk) (source : Option TokenKind) → Stands x touching (y ∷ ys) source → is_blank y.kind ≡ true → spacing_before source ≡ Alone
 blank_stands x y true ys source stands blank = ap spacing_before stands.1 ∙ (blank_kind y.kind blank).alone
@@ -240,7 +266,7 @@ or_other false b h e = h
 
 pub laid_behind : (x : Chunk) (touching : Bool) (used : ℕ) (xs : List Chunk) (gaps : List (List ℕ)) (source : Option TokenKind) → IsWord x → Stands x touching xs source → AreChunks xs → are_plain (tokens_of xs) ≡ true
     → AreGaps gaps → LaidBehind x touching used xs gaps source
-laid_behind x touching used [] gaps source word stands are plain fine = laid_end x touching used gaps source word stands
+laid_behind x touching used [] gaps source word stands are plain fine = laid_end x touching used gaps source word stands fine
 laid_behind x touching used (y ∷ ys) gaps source word stands are plain fine =
     go (is_blank y.kind) refl (λ s. laid_behind x false used ys gaps source word s are.1 both.1 fine)
     (λ other. laid_behind y true (used + 1) ys gaps (next_kind (tokens_of ys)) other (are.0.reads, refl) are.1 both.1 fine)
@@ -261,7 +287,7 @@ laid_behind x touching used (y ∷ ys) gaps source word stands are plain fine =
 
 -- and from the first token on
 pub laid_all : (touching : Bool) (kind : TokenKind) (before : List ℕ) (used : ℕ) (xs : List Chunk) (gaps : List (List ℕ)) → AreChunks xs → are_plain (tokens_of xs) ≡ true → AreGaps gaps → Laid true touching kind before used xs gaps
-laid_all touching kind before used [] gaps are plain fine = record { new = []; are = tt; text_is = refl; means = refl; matches = λ opened. refl; line = refl }
+laid_all touching kind before used [] gaps are plain fine = laid_none touching kind before used gaps fine
 laid_all touching kind before used (y ∷ ys) gaps are plain fine = go (is_blank y.kind) refl (laid_all false kind before used ys gaps are.1 both.1 fine)
   where
     both : ((is_blank y.kind || is_whole y.kind) ≡ true) × (are_plain (tokens_of ys) ≡ true)

@@ -53,7 +53,8 @@ unfolding chars first_token_of reading reading_of opening symbol word number wit
 parts = (refl, refl, refl, refl, refl, refl, refl, refl, refl, refl)
 
 -- Without gaps: `a :: b`, `: :` that is not joint, a number before a point and before two. With gaps: a line break and a comment, a comment
--- right after `/`, a comment to the end of a line, and a gap before the first token.
+-- right after `/`, a comment to the end of a line, and a gap before the first token. With a gap behind the last: a comment, one right after
+-- `/`, and one without a token.
 laid_out_rows : (with_gaps (codes "a :: b") [] ≡ codes "a::b")
     × (with_gaps (codes "a : : b") [] ≡ codes "a: :b")
     × (with_gaps (codes "a + b") ([] ∷ codes "\n  " ∷ codes " /* c */ " ∷ []) ≡ codes "a\n  + /* c */ b")
@@ -62,8 +63,11 @@ laid_out_rows : (with_gaps (codes "a :: b") [] ≡ codes "a::b")
     × (with_gaps (codes "t . 0 . x") [] ≡ codes "t.0.x")
     × (with_gaps (codes "0 .. n") [] ≡ codes "0..n")
     × (with_gaps (codes "a b") (codes "\n" ∷ []) ≡ codes "\na b")
+    × (with_gaps (codes "a ;") ([] ∷ [] ∷ codes " // c\n" ∷ []) ≡ codes "a; // c\n")
+    × (with_gaps (codes "a /") ([] ∷ [] ∷ codes "/* c */" ∷ []) ≡ codes "a/ /* c */")
+    × (with_gaps [] (codes "/* c */" ∷ []) ≡ codes "/* c */")
 unfolding chars first_token_of reading reading_of opening symbol word number with_fraction with_exponent literal quoted_char apostrophe raw_text byte_length unicode_ident ucd_emoji lib.Utf8.encode
-laid_out_rows = (refl, refl, refl, refl, refl, refl, refl, refl)
+laid_out_rows = (refl, refl, refl, refl, refl, refl, refl, refl, refl, refl, refl)
 
 -- a gap has only blank tokens, and its last token is no comment to the end of a line: three gaps, and four texts that are none
 gaps : (are_blank (tokens (codes " // c\n")) ≡ true) × (ends_in_line (tokens (codes " // c\n")) ≡ false)

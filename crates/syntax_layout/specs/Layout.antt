@@ -56,6 +56,11 @@ put_before first touching joining before gap behind = if first then gap else bet
 abbrev pub touches_surely : (touching joining : Bool) → (before gap word : List ℕ) → Bool
 touches_surely touching joining before gap word = (touching && joining) || ((length gap == 0) && (not joining && ends_before before word))
 
+-- what follows the last token: a gap, after a space if the token does not end before it; only the gap if no token was written
+abbrev pub ending : (first : Bool) → (before gap : List ℕ) → List ℕ
+ending first before [] = []
+ending first before (b ∷ gap) = space_if (not first && not (ends_before before (b ∷ gap))) ++ b ∷ gap
+
 -- the next token, if a token certainly touches it
 abbrev pub touched : (touching : Bool) → TokenKind → (before gap : List ℕ) → (text : List ℕ) → List Token → List ℕ
 touched touching kind before gap text [] = []
@@ -67,16 +72,16 @@ touched touching kind before gap text (token ∷ tokens) =
 abbrev pub ahead : (gap text : List ℕ) → Token → List Token → List ℕ
 ahead gap text token tokens = take token.len text ++ touched true token.kind (take token.len text) gap (drop token.len text) tokens
 
--- What is written of the tokens of a text after a token of a kind with a text, or of the first tokens: each after the next gap.
+-- What is written of the tokens of a text after a token of a kind with a text, or of the first tokens: each after the next gap, and one more gap.
 -- The text's own blanks are dropped; only whether there were any is kept.
 abbrev pub laid : (first touching : Bool) → (kind : TokenKind) → (before : List ℕ) → (used : ℕ) → (text : List ℕ) → List Token → (gaps : List (List ℕ)) → List ℕ
-laid first touching kind before used text [] gaps = []
+laid first touching kind before used text [] gaps = ending first before (slice_index_or gaps used [])
 laid first touching kind before used text (token ∷ tokens) gaps =
     if is_blank token.kind then laid first false kind before used (drop token.len text) tokens gaps
     else (put_before first touching (joins kind token.kind) before (slice_index_or gaps used []) (ahead (slice_index_or gaps (used + 1) []) text token tokens) ++ take token.len text)
     ++ laid false true token.kind (take token.len text) (used + 1) (drop token.len text) tokens gaps
 
--- the text of these tokens laid out with gaps, the n-th before the n-th token that is not blank
+-- the text of these tokens laid out with gaps, the n-th before the n-th token that is not blank, and one more behind the last
 abbrev pub laid_out : (text : List ℕ) → List Token → (gaps : List (List ℕ)) → List ℕ
 laid_out text tokens gaps = laid true false kinds.Whitespace [] 0 text tokens gaps
 

@@ -182,3 +182,22 @@ pub fn opens(byte: u8) -> bool {
 pub fn closes(byte: u8) -> bool {
     matches!(byte, b')' | b']' | b'}')
 }
+
+/// Returns whether a byte ends a call.
+pub fn ends_call(byte: u8) -> bool {
+    closes(byte) || byte == b';'
+}
+
+// Returns whether a text ends its line at a place, apart from white space and comments.
+fn ends_at(source: &str, at: usize, end: usize) -> bool {
+    end >= source.len() || breaks(part(source, at, end))
+}
+
+/// Returns whether only white space, comments and a `;` or a `,` are behind a place in its line.
+pub fn ends_line(source: &str, at: usize) -> bool {
+    let end = blank_end(source, at);
+    let behind = end.saturating_add(1);
+    ends_at(source, at, end)
+        || matches!(byte_at(source, end), Some(b';' | b','))
+            && ends_at(source, behind, blank_end(source, behind))
+}

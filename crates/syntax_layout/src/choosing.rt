@@ -64,14 +64,17 @@ pub(crate) struct Chooser<'c, 's> {
     pub(crate) sources: &'c Sources<'s>,
     pub(crate) gaps: Gaps,
     spacer: Spacer<'c>,
-    last: Option<Place>,
+    pub(crate) last: Option<Place>,
     /// How lines of the input move.
     pub(crate) input: Shift,
+    /// The byte after the token of a template that precedes the latest token of the input.
+    pub(crate) before_input: usize,
     // The indentation to which the lines of each template move.
     moved: HashMap<usize, usize>,
-    // The template that was entered last, and that indentation.
-    here: (usize, usize),
-    most: usize,
+    /// The template that was entered last, and that indentation.
+    pub(crate) here: (usize, usize),
+    /// Gaps of the source are chosen while they have at most so many bytes.
+    pub(crate) most: usize,
     // Whether the call begins its line.
     begins_line: bool,
 }
@@ -94,6 +97,7 @@ impl<'c, 's> Chooser<'c, 's> {
             spacer: Spacer::new(plain),
             last: None,
             input: Shift { from: 0, to: line },
+            before_input: 0,
             moved: HashMap::new(alloc),
             here: (usize::MAX, 0),
             most: plain
@@ -124,8 +128,8 @@ impl<'c, 's> Chooser<'c, 's> {
         Choice::Line(shift.to.saturating_add(line).saturating_sub(shift.from))
     }
 
-    // Returns how the line of a place moves.
-    fn shift_at(&self, target: usize) -> Shift {
+    /// Returns how the line of a place moves.
+    pub(crate) fn shift_at(&self, target: usize) -> Shift {
         let templates = &self.sources.templates;
         let Some(number) = templates.template_at(target) else {
             return self.input;
@@ -172,6 +176,19 @@ impl<'c, 's> Chooser<'c, 's> {
         }
     }
 
+    // Remembers where a token is in a template, if the input follows it and a template has comments at its end.
+    fn leave_template(&mut self, last: Option<Place>) {
+        let templates = &self.sources.templates;
+        match last {
+            Some(last)
+                if templates.have_closing && templates.template_at(last.start as usize).is_some() =>
+                {
+                    self.before_input = last.end as usize;
+                }
+            _ => {}
+        }
+    }
+
     // Remembers to which indentation the lines move that follow a token, which is not beside the one before it in the source. `before` is
     // the indentation of the line before the gap. Adds to the gap the comments at the beginning of a template, if the token is its first.
     fn follow(
@@ -187,6 +204,7 @@ impl<'c, 's> Chooser<'c, 's> {
                 from: indentation(self.sources.text, at),
                 to: self.gaps.line,
             };
+            self.leave_template(last);
             return Ok(());
         };
         match self.sources.templates.templates.get(number).copied() {
@@ -212,9 +230,10 @@ impl<'c, 's> Chooser<'c, 's> {
     // Adds the part of the source between two places as a gap, whose lines move. Returns whether it has line breaks.
     fn push_part(&mut self, found: Part) -> Result<bool, AllocError> {
         let gap = part(self.sources.text, found.start, found.end);
-        if breaks(gap) {
+        let has_breaks = breaks(gap);
+        if has_breaks || self.gaps.have_comments() {
             self.gaps.push_text(gap, found.shift)?;
-            return Ok(true);
+            return Ok(has_breaks);
         }
         match gap.as_bytes() {
             [] => self.gaps.push_space(false)?,
@@ -233,6 +252,7 @@ impl<'c, 's> Chooser<'c, 's> {
         } else {
             self.between(last, next)
         };
+        self.close_before(last, next, choice)?;
         let begins_line = match choice {
             Choice::Source(found) => self.push_part(found)?,
             Choice::Line(indentation) => {

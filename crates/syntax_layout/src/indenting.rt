@@ -1,5 +1,5 @@
 //! Gaps with line breaks, moved to another indentation.
-use crate::beside::part;
+use crate::beside::{breaks, part};
 use crate::pieces::Piece;
 use std::alloc::{AllocError, Global};
 
@@ -36,6 +36,8 @@ pub struct Gaps {
     len: usize,
     /// The indentation of the line that is written.
     pub line: usize,
+    // Where the comments begin among the gaps that moved with which the next gap begins.
+    comments: Option<usize>,
 }
 
 // Returns the white space at the begin of a line, and what follows it.
@@ -74,6 +76,7 @@ impl Gaps {
             has_spaces: !has_tabs,
             len: 0,
             line,
+            comments: None,
         })
     }
 
@@ -166,14 +169,54 @@ impl Gaps {
         Ok(())
     }
 
-    // Adds the gap that begins at a byte of those that moved.
+    // Adds the gap that begins at a byte of those that moved, or before it with comments.
     fn push_moved(&mut self, start: usize) -> Result<(), AllocError> {
+        let start = self.comments.unwrap_or(start);
+        self.comments = None;
         let end = self.moved.len();
         self.push(Piece::Moved(start, end), end.saturating_sub(start))
     }
 
+    // Adds a text whose lines move, if it has several.
+    fn push_any(&mut self, text: &str, shift: Shift) -> Result<(), AllocError> {
+        if breaks(text) {
+            self.push_lines(text, shift)
+        } else {
+            self.moved.push_str(text)
+        }
+    }
+
+    /// Returns whether the next gap begins with comments.
+    pub fn have_comments(&self) -> bool {
+        self.comments.is_some()
+    }
+
+    /// Begins the next gap with comments, and with one more in `/* */` if there is a text for it.
+    pub fn push_comments(
+        &mut self,
+        comments: &str,
+        shift: Shift,
+        last: Option<&str>,
+    ) -> Result<(), AllocError> {
+        self.comments = Some(self.moved.len());
+        self.push_any(comments, shift)?;
+        match last {
+            Some(text) => {
+                self.moved.push_str("/* ")?;
+                self.moved.push_str(text)?;
+                self.moved.push_str(" */")
+            }
+            None => Ok(()),
+        }
+    }
+
     /// Adds a space, or nothing.
     pub fn push_space(&mut self, is_space: bool) -> Result<(), AllocError> {
+        if self.have_comments() {
+            let start = self.moved.len();
+            self.moved.push_str(if is_space { " " } else { "" })?;
+            return self.push_moved(start);
+        }
         if is_space {
             self.push(Piece::Space, 1)
         } else {
@@ -186,10 +229,10 @@ impl Gaps {
         self.push(Piece::Source(start, end), end.saturating_sub(start))
     }
 
-    /// Adds a gap with line breaks, whose lines move.
+    /// Adds a gap, whose lines move if it has several.
     pub fn push_text(&mut self, text: &str, shift: Shift) -> Result<(), AllocError> {
         let start = self.moved.len();
-        self.push_lines(text, shift)?;
+        self.push_any(text, shift)?;
         self.push_moved(start)
     }
 

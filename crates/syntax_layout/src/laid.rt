@@ -17,7 +17,7 @@ use std::alloc::{AllocError, Global};
 use syntax_unparse::{WriteFault, rust_text};
 use tt_view::TokenTreesView;
 
-// Chooses the gaps before the tokens that a plain text has.
+// Chooses the gaps before the tokens that a plain text has, and the one behind the last.
 fn choose_gaps(
     alloc: Global,
     plain: &str,
@@ -29,6 +29,7 @@ fn choose_gaps(
     for token in written {
         chooser.pass(*token)?;
     }
+    chooser.close(begin)?;
     Ok(chooser.gaps)
 }
 

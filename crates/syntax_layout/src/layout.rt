@@ -3,7 +3,7 @@ ghost use Rattle.std.specs.Prelude.{◌≡◌, ◌<◌, ◌≤◌, ◌+◌, ◌^
 ghost use Rattle.std.specs.List.{slice_index_or};
 ghost use Rattle.std.specs.Str.{chars};
 ghost use Rattle.syntax_layout.specs.Gap.{AreGaps};
-ghost use Rattle.syntax_layout.specs.Layout.{HasOthers, IsLaidOut, begins_parting, ends_before, joins, parting, put_before, stays_before, touched, touches_surely};
+ghost use Rattle.syntax_layout.specs.Layout.{HasOthers, IsLaidOut, begins_parting, ending, ends_before, joins, parting, put_before, stays_before, touched, touches_surely};
 ghost use Rattle.syntax_lex.specs.Reading.{AreTokensOf};
 ghost use Rattle.syntax_lex.specs.declared.token.Token.{Token};
 
@@ -72,37 +72,6 @@ fn touches_surely(
     ends_before(room, before, word, "")
 }
 
-// Returns what `touched` returns, by what stands in the text.
-fn touched_within<'t>(
-    room: &mut String,
-    kind: TokenKind,
-    before: &str,
-    gap: &str,
-    text: &'t str,
-) -> Result<&'t str, AllocError>
-    requires some { 0 < length before.now }
-    requires fits { length before.now + length text.now < 2 ^ 32 }
-    ensures value { IfOk result (λ found. (tokens : List Token) → AreTokensOf tokens (chars text.now) → found.now ≡ touched true kind before.now gap.now text.now tokens) }
-    ensures within { IfOk result (λ found. length found.now ≤ length text.now) }
-{
-    let mut touching = true;
-    let mut rest = text;
-    while !rest.is_empty() {
-        let token = first_token(rest);
-        let (word, behind) = rest.split_at(token.len as usize);
-        if !is_blank(token.kind) {
-            let joining = joins(kind, token.kind);
-            if touches_surely(room, touching, joining, before, gap, word)? {
-                return Ok(word);
-            }
-            return Ok("");
-        }
-        touching = false;
-        rest = behind;
-    }
-    Ok("")
-}
-
 // Returns the first token of a text that is not blank, if the token before the text certainly touches it.
 fn touched<'t>(
     room: &mut String,
@@ -120,7 +89,22 @@ fn touched<'t>(
     if !gap.is_empty() && punct_char(kind).is_none() {
         return Ok("");
     }
-    touched_within(room, kind, before, gap, text)
+    let mut touching = true;
+    let mut rest = text;
+    while !rest.is_empty() {
+        let token = first_token(rest);
+        let (word, behind) = rest.split_at(token.len as usize);
+        if !is_blank(token.kind) {
+            let joining = joins(kind, token.kind);
+            if touches_surely(room, touching, joining, before, gap, word)? {
+                return Ok(word);
+            }
+            return Ok("");
+        }
+        touching = false;
+        rest = behind;
+    }
+    Ok("")
 }
 
 /// Returns the gap before the token of this number, or an empty one.
@@ -172,7 +156,7 @@ struct Last<'t> {
     text: &'t str,
 }
 
-// Adds what stands before a token, and the token. `touched` is the token that it certainly touches, or empty.
+// Adds what precedes a token, and the token. `touched` is the token that it certainly touches, or empty.
 fn push_word(
     laid: &mut String,
     room: &mut String,
@@ -199,8 +183,28 @@ fn push_word(
     laid.push_str(word)
 }
 
-/// Returns the tokens of a text with other gaps between them, the n-th gap before the n-th token; if there are fewer gaps, the others are
-/// empty. A joint punct touches what follows it, and a space stands between two tokens that would be read as others.
+// Adds the gap behind what was written last, after a space if that token does not end before it.
+fn push_ending(
+    laid: &mut String,
+    room: &mut String,
+    last: Last<'_>,
+    gap: &str,
+) -> Result<(), AllocError>
+    requires some { last.is_none ≡ false → 0 < length last.text.now }
+    requires fits { length last.text.now + length gap.now < 2 ^ 32 }
+    ensures { OnOk result (string_bytes laid.new ≡ string_bytes laid.old ++ ending last.entry.is_none last.entry.text.now gap.now) }
+{
+    if gap.is_empty() {
+        return Ok(());
+    }
+    if !last.is_none && !ends_before(room, last.text, gap, "")? {
+        laid.push(' ')?;
+    }
+    laid.push_str(gap)
+}
+
+/// Returns the tokens of a text with other gaps between them: the n-th gap before the n-th token, and one more behind the last. If there
+/// are fewer gaps, the others are empty. A joint punct touches what follows it, and a space separates two tokens that would be read as others.
 ///
 /// Returns `None` if a token is a comment that documents something, or is not closed.
 pub fn laid_out(alloc: Global, text: &str, gaps: &[&str]) -> Result<Option<String>, AllocError>
@@ -243,5 +247,7 @@ pub fn laid_out(alloc: Global, text: &str, gaps: &[&str]) -> Result<Option<Strin
         }
         rest = behind;
     }
+    let ending = gap_at(gaps, used);
+    push_ending(&mut laid, &mut room, last, ending)?;
     Ok(Some(laid))
 }

@@ -17,6 +17,7 @@ mod attribute;
 mod beside;
 mod braces;
 mod choosing;
+mod closing;
 mod documenting;
 mod gap;
 mod indenting;

@@ -1,7 +1,7 @@
 //! What the source says of the gap between two tokens that are not side by side in it.
 use crate::beside::{
-    blank_end, breaks, byte_at, byte_before, closes, line_breaks, name_start, opens, part,
-    space_start,
+    blank_end, breaks, byte_at, byte_before, closes, ends_call, line_breaks, name_start, opens,
+    part, space_start,
 };
 use crate::choosing::{Choice, Chooser};
 use crate::places::Place;
@@ -10,11 +10,6 @@ use crate::templates::Repetition;
 // Returns whether a byte begins what a call replaces: a name, a path or an attribute.
 fn begins_call(byte: u8) -> bool {
     byte.is_ascii_alphabetic() || byte >= 128 || matches!(byte, b'_' | b':' | b'#')
-}
-
-// Returns whether a byte ends a call.
-fn ends_call(byte: u8) -> bool {
-    closes(byte) || byte == b';'
 }
 
 impl<'c, 's> Chooser<'c, 's> {
@@ -87,7 +82,7 @@ impl<'c, 's> Chooser<'c, 's> {
     }
 
     // Chooses the gap in place of a repetition without rounds, which has a gap from a place to another before it: that gap or the one behind
-    // the repetition, as far as it stands before the second token.
+    // the repetition, as far as it precedes the second token.
     fn over(&self, start: usize, end: usize, next: Place) -> Choice {
         let source = self.sources.text;
         let stop = next.start as usize;

@@ -111,7 +111,7 @@ fn takes_angle(part: Part) -> bool
     matches!(part, Part::Type | Part::Fn | Part::For)
 }
 
-/// Returns whether nothing stands between two tokens.
+/// Returns whether two tokens touch.
 pub fn touches(before: Part, next: Part) -> bool
     ensures { result ≡ touches before next }
 {

@@ -1,6 +1,7 @@
 //! The templates in a source, and the repetitions in them.
 use crate::beside::{
-    begins_line, blank_end, breaks, byte_before, indentation, part, space_end, space_start, tokens,
+    MOST_GAP, begins_line, blank_end, breaks, byte_before, indentation, part, space_end,
+    space_start, tokens,
 };
 use crate::kinds::is_blank;
 use memchr::memmem;
@@ -21,6 +22,10 @@ pub struct Template {
     pub comment: usize,
     /// Its first token.
     pub first: usize,
+    /// The byte after its last token.
+    pub last: usize,
+    /// The byte after the comments behind its last token, which document nothing; that after this token if there are none.
+    pub closing: usize,
     /// How many bytes of white space the line of its first token begins with.
     pub indent: usize,
 }
@@ -55,6 +60,8 @@ pub struct Templates {
     pub repetitions: Vec<Repetition>,
     /// The numbers of the repetitions in the order of their closing brackets.
     pub closed: Vec<usize>,
+    /// Whether a template has comments behind its last token.
+    pub have_closing: bool,
 }
 
 // The latest tokens, as far as they say what a bracket opens.
@@ -94,6 +101,8 @@ struct Reader<'s> {
     closed: Option<usize>,
     // Whether a template is open.
     is_inside: bool,
+    // The byte after the latest token.
+    behind: usize,
 }
 
 // Returns what the latest tokens are behind one more.
@@ -178,6 +187,8 @@ impl<'s> Reader<'s> {
             end: self.source.len(),
             comment: space_end(self.source, start),
             first,
+            last: start,
+            closing: start,
             indent: indentation(self.source, first),
         })?;
         self.is_inside = true;
@@ -205,6 +216,25 @@ impl<'s> Reader<'s> {
             && matches!(byte_before(self.source, end), Some(b'}' | b';'))
     }
 
+    // Closes a template whose closing bracket is at a place. Comments that are longer than a gap do not count.
+    fn close_template(&mut self, number: usize, at: usize) {
+        self.is_inside = false;
+        let last = self.behind;
+        let stop = space_start(self.source, at);
+        if let Some(template) = self.found.templates.get_mut(number) {
+            template.end = at;
+            template.last = last;
+            template.closing = if stop.saturating_sub(last) > MOST_GAP {
+                last
+            } else {
+                stop.max(last)
+            };
+            if template.first < last && last < template.closing {
+                self.found.have_closing = true;
+            }
+        }
+    }
+
     // Closes a bracket.
     fn close(&mut self, at: usize) -> Result<(), AllocError> {
         self.closed = None;
@@ -226,10 +256,7 @@ impl<'s> Reader<'s> {
                 Ok(())
             }
             Some(Opened::Template(number)) => {
-                if let Some(template) = self.found.templates.get_mut(number) {
-                    template.end = at;
-                }
-                self.is_inside = false;
+                self.close_template(number, at);
                 Ok(())
             }
             _ => Ok(()),
@@ -263,7 +290,8 @@ impl<'s> Reader<'s> {
             }
             kind => self.pass(at, kind),
         }
-        let word = part(self.source, at, at.saturating_add(token.len as usize));
+        self.behind = at.saturating_add(token.len as usize);
+        let word = part(self.source, at, self.behind);
         self.latest = latest_behind(self.latest, token.kind, word);
         Ok(())
     }
@@ -297,12 +325,14 @@ impl Templates {
                 templates: Vec::new(alloc),
                 repetitions: Vec::new(alloc),
                 closed: Vec::new(alloc),
+                have_closing: false,
             },
             latest: Latest::Other,
             opened: Vec::new(alloc),
             innermost: None,
             closed: None,
             is_inside: false,
+            behind: 0,
         };
         let mut end = 0;
         for start in memmem::find_iter(source.as_bytes(), b"macro_rules") {

@@ -68,8 +68,8 @@ pub fn lay_out_trees(
     }
 }
 
-/// Returns the Rust text of trees with the n-th of these gaps before its n-th token, a lifetime being one token. A text that is no gap
-/// counts as an empty one.
+/// Returns the Rust text of trees with the n-th of these gaps before its n-th token, a lifetime being one token, and one more behind the
+/// last. A text that is no gap counts as an empty one.
 ///
 /// If the text has more than `MOST_BYTES` bytes, or the laid text would be too long, it is that of `rust_text`.
 pub fn rust_text_with_gaps(

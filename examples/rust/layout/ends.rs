@@ -1,4 +1,4 @@
-// Comments at the beginning of a template come along before a call that begins its line. Those at its end do not.
+// Comments at the beginning and at the end of a template come along with calls that begin and end their lines.
 macro_rules! m {
     ($name:ident) => {
         // what it is

@@ -3,7 +3,7 @@ use Rattle.std.proofs.lemmas.Bool.{eqb-true}
 use Rattle.std.specs.Prelude.{string_bytes}
 use Rattle.std.specs.Str.{IsCharBoundary, chars}
 use Rattle.syntax_layout.specs.Gap.{is_blank}
-use Rattle.syntax_layout.specs.Layout.{joins, put_before, touched}
+use Rattle.syntax_layout.specs.Layout.{ending, joins, put_before, touched}
 use Rattle.syntax_lex.specs.Reading.{AreTokensOf}
 use Rattle.syntax_lex.specs.declared.token.Token.{Token}
 use Rattle.syntax_layout.proofs.Ahead.{layout_blank, layout_end, layout_others, layout_word}
@@ -14,91 +14,99 @@ use Rattle.syntax_layout.proofs.layout.laid_out.Goals as goal
 
 pub split_at-requires : goal.split_at-requires
 split_at-requires c =
-    let some : 0 < length c.loop-last.rest.now = more_than_none _ (search rules) in
-    subst (λ t. IsCharBoundary c.loop-last.rest.now t.len) (sym c.first_token-token.ensures) (cut c.loop-last.rest.now c.loop-last.invariant.0 some).boundary
+    let some : 0 < length c.loop-rest.rest.now = more_than_none _ (search rules) in
+    subst (λ t. IsCharBoundary c.loop-rest.rest.now t.len) (sym c.first_token-token.ensures) (cut c.loop-rest.rest.now c.loop-rest.invariant.0 some).boundary
 
 pub returns-then-not-is_whole : goal.returns-then-not-is_whole
 returns-then-not-is_whole c =
-    let some : 0 < length c.loop-last.rest.now = more_than_none _ (search rules) in
+    let some : 0 < length c.loop-rest.rest.now = more_than_none _ (search rules) in
     let other : is_blank c.first_token-token.result.kind ≡ false = search rules in
     let odd : is_whole c.first_token-token.result.kind ≡ false = search rules in
-    layout_others c.args.text.now (map (λ g. g.now) c.args.gaps.now) (string_bytes c.loop-last.laid) c.loop-last.last.is_none c.loop-last.last.touches c.loop-last.last.kind c.loop-last.last.text.now c.loop-last.used
-    c.loop-last.rest.now c.first_token-token.result c.loop-last.invariant.0 some c.first_token-token.ensures other odd c.loop-last.invariant.1.ahead
+    layout_others c.args.text.now (map (λ g. g.now) c.args.gaps.now) (string_bytes c.loop-rest.laid) c.loop-rest.last.is_none c.loop-rest.last.touches c.loop-rest.last.kind c.loop-rest.last.text.now c.loop-rest.used
+    c.loop-rest.rest.now c.first_token-token.result c.loop-rest.invariant.0 some c.first_token-token.ensures other odd c.loop-rest.invariant.1.ahead
 
 pub push_word-requires-clause-fits_gap : goal.push_word-requires-clause-fits_gap
 push_word-requires-clause-fits_gap c =
-    omega (arith, c.loop-last.invariant.1.shorter, c.requires.fits, ap length c.gap_at-before.ensures, gap_short (map (λ g. g.now) c.args.gaps.now) c.loop-last.used c.requires.gaps)
+    omega (arith, c.loop-rest.invariant.1.shorter, c.requires.fits, ap length c.gap_at-before.ensures, gap_short (map (λ g. g.now) c.args.gaps.now) c.loop-rest.used c.requires.gaps)
 
-pub loop-last-smaller-then-is_blank : goal.loop-last-smaller-then-is_blank
-loop-last-smaller-then-is_blank c =
-    let some : 0 < length c.loop-last.rest.now = more_than_none _ (search rules) in
-    let k = cut c.loop-last.rest.now c.loop-last.invariant.0 some in
+pub loop-rest-smaller-then-is_blank : goal.loop-rest-smaller-then-is_blank
+loop-rest-smaller-then-is_blank c =
+    let some : 0 < length c.loop-rest.rest.now = more_than_none _ (search rules) in
+    let k = cut c.loop-rest.rest.now c.loop-rest.invariant.0 some in
     omega (arith, k.some, ap (λ t. t.len) c.first_token-token.ensures, c.split_at.ensures.back_len)
 
-pub loop-last-preserved-then-is_blank : goal.loop-last-preserved-then-is_blank
-loop-last-preserved-then-is_blank c =
-    let some : 0 < length c.loop-last.rest.now = more_than_none _ (search rules) in
+pub loop-rest-preserved-then-is_blank : goal.loop-rest-preserved-then-is_blank
+loop-rest-preserved-then-is_blank c =
+    let some : 0 < length c.loop-rest.rest.now = more_than_none _ (search rules) in
     let blank : is_blank c.first_token-token.result.kind ≡ true = search rules in (
       search rules,
       record {
-        within = omega (arith, c.split_at.ensures.back_len, c.loop-last.invariant.1.within);
-        shorter = c.loop-last.invariant.1.shorter;
-        some = c.loop-last.invariant.1.some;
+        within = omega (arith, c.split_at.ensures.back_len, c.loop-rest.invariant.1.within);
+        shorter = c.loop-rest.invariant.1.shorter;
+        some = c.loop-rest.invariant.1.some;
         ahead =
-            layout_blank c.args.text.now (map (λ g. g.now) c.args.gaps.now) (string_bytes c.loop-last.laid) c.loop-last.last.is_none c.loop-last.last.touches c.loop-last.last.kind c.loop-last.last.text.now c.loop-last.used
-            c.loop-last.rest.now c.split_at.result.1.now c.first_token-token.result c.loop-last.invariant.0 some c.first_token-token.ensures c.split_at.ensures.back blank c.loop-last.invariant.1.ahead;
+            layout_blank c.args.text.now (map (λ g. g.now) c.args.gaps.now) (string_bytes c.loop-rest.laid) c.loop-rest.last.is_none c.loop-rest.last.touches c.loop-rest.last.kind c.loop-rest.last.text.now c.loop-rest.used
+            c.loop-rest.rest.now c.split_at.result.1.now c.first_token-token.result c.loop-rest.invariant.0 some c.first_token-token.ensures c.split_at.ensures.back blank c.loop-rest.invariant.1.ahead;
       },
     )
 
-pub loop-last-smaller : goal.loop-last-smaller
-loop-last-smaller c =
-    let some : 0 < length c.loop-last.rest.now = more_than_none _ (search rules) in
-    let k = cut c.loop-last.rest.now c.loop-last.invariant.0 some in
+pub loop-rest-smaller : goal.loop-rest-smaller
+loop-rest-smaller c =
+    let some : 0 < length c.loop-rest.rest.now = more_than_none _ (search rules) in
+    let k = cut c.loop-rest.rest.now c.loop-rest.invariant.0 some in
     omega (arith, k.some, ap (λ t. t.len) c.first_token-token.ensures, c.split_at.ensures.back_len)
 
-pub loop-last-preserved : goal.loop-last-preserved
-loop-last-preserved c =
-    let some : 0 < length c.loop-last.rest.now = more_than_none _ (search rules) in
-    let k = cut c.loop-last.rest.now c.loop-last.invariant.0 some in
+pub loop-rest-preserved : goal.loop-rest-preserved
+loop-rest-preserved c =
+    let some : 0 < length c.loop-rest.rest.now = more_than_none _ (search rules) in
+    let k = cut c.loop-rest.rest.now c.loop-rest.invariant.0 some in
     let other : is_blank c.first_token-token.result.kind ≡ false = search rules in
     let whole : is_whole c.first_token-token.result.kind ≡ true = search rules in
     let len = ap (λ t. t.len) c.first_token-token.ensures in
     let gaps = map (λ g. g.now) c.args.gaps.now in
-    let last = c.loop-last.last in
-    let wrote : (tokens : List Token) → AreTokensOf tokens (chars c.split_at.result.1.now) → string_bytes c.push_word.new.laid ≡ string_bytes c.loop-last.laid
-    ++ (put_before last.is_none last.touches (joins last.kind c.first_token-token.result.kind) last.text.now (get_or gaps c.loop-last.used []) (c.split_at.result.0.now ++ touched true c.first_token-token.result.kind c.split_at.result.0.now (get_or gaps (c.loop-last.used + 1) []) c.split_at.result.1.now tokens) ++ c.split_at.result.0.now) =
+    let last = c.loop-rest.last in
+    let wrote : (tokens : List Token) → AreTokensOf tokens (chars c.split_at.result.1.now) → string_bytes c.push_word.new.laid ≡ string_bytes c.loop-rest.laid
+    ++ (put_before last.is_none last.touches (joins last.kind c.first_token-token.result.kind) last.text.now (get_or gaps c.loop-rest.used []) (c.split_at.result.0.now ++ touched true c.first_token-token.result.kind c.split_at.result.0.now (get_or gaps (c.loop-rest.used + 1) []) c.split_at.result.1.now tokens) ++ c.split_at.result.0.now) =
     λ tokens are.
-    let put : string_bytes c.push_word.new.laid ≡ string_bytes c.loop-last.laid
+    let put : string_bytes c.push_word.new.laid ≡ string_bytes c.loop-rest.laid
     ++ (put_before last.is_none last.touches (joins last.kind c.first_token-token.result.kind) last.text.now c.gap_at-before.result.now (c.split_at.result.0.now ++ c.in_ok-touched.touched.now) ++ c.split_at.result.0.now) =
     search rules in
-    put ∙ ap₂ (λ g t. string_bytes c.loop-last.laid
+    put ∙ ap₂ (λ g t. string_bytes c.loop-rest.laid
     ++ (put_before last.is_none last.touches (joins last.kind c.first_token-token.result.kind) last.text.now g (c.split_at.result.0.now ++ t) ++ c.split_at.result.0.now)) c.gap_at-before.ensures (c.in_ok-touched.ensures.value tokens are ∙ ap (λ g. touched true c.first_token-token.result.kind c.split_at.result.0.now g c.split_at.result.1.now tokens) c.gap_at-gap.ensures) in (
       search rules,
       record {
-        within = omega (arith, k.some, len, c.split_at.ensures.back_len, c.loop-last.invariant.1.within);
-        shorter = omega (arith, c.split_at.ensures.front_len, c.split_at.ensures.back_len, c.loop-last.invariant.1.within);
+        within = omega (arith, k.some, len, c.split_at.ensures.back_len, c.loop-rest.invariant.1.within);
+        shorter = omega (arith, c.split_at.ensures.front_len, c.split_at.ensures.back_len, c.loop-rest.invariant.1.within);
         some = λ h. omega (arith, k.some, len, c.split_at.ensures.front_len);
         ahead =
-            layout_word c.args.text.now gaps (string_bytes c.loop-last.laid) (string_bytes c.push_word.new.laid) last.is_none last.touches last.kind last.text.now c.loop-last.used
-            c.loop-last.rest.now c.split_at.result.0.now c.split_at.result.1.now c.first_token-token.result c.loop-last.invariant.0 some c.first_token-token.ensures c.split_at.ensures.front c.split_at.ensures.back other whole wrote
-            c.loop-last.invariant.1.ahead;
+            layout_word c.args.text.now gaps (string_bytes c.loop-rest.laid) (string_bytes c.push_word.new.laid) last.is_none last.touches last.kind last.text.now c.loop-rest.used
+            c.loop-rest.rest.now c.split_at.result.0.now c.split_at.result.1.now c.first_token-token.result c.loop-rest.invariant.0 some c.first_token-token.ensures c.split_at.ensures.front c.split_at.ensures.back other whole wrote
+            c.loop-rest.invariant.1.ahead;
       },
     )
 
 pub returns : goal.returns
 returns c =
-    let none : length c.loop-last.rest.now ≡ 0 = eqb-true _ 0 (search rules) in
-    layout_end c.args.text.now (map (λ g. g.now) c.args.gaps.now) (string_bytes c.loop-last.laid) c.loop-last.last.is_none c.loop-last.last.touches c.loop-last.last.kind c.loop-last.last.text.now c.loop-last.used
-    c.loop-last.rest.now none c.loop-last.invariant.1.ahead
+    let none : length c.loop-rest.rest.now ≡ 0 = eqb-true _ 0 (search rules) in
+    let gaps = map (λ g. g.now) c.args.gaps.now in
+    let last = c.loop-rest.last in
+    let put : string_bytes c.push_ending.new.laid ≡ string_bytes c.loop-rest.laid ++ ending last.is_none last.text.now c.gap_at-ending.result.now = search rules in
+    let wrote : string_bytes c.push_ending.new.laid ≡ string_bytes c.loop-rest.laid ++ ending last.is_none last.text.now (get_or gaps c.loop-rest.used []) =
+    put ∙ ap (λ g. string_bytes c.loop-rest.laid ++ ending last.is_none last.text.now g) c.gap_at-ending.ensures in
+    layout_end c.args.text.now gaps (string_bytes c.loop-rest.laid) (string_bytes c.push_ending.new.laid) last.is_none last.touches last.kind last.text.now c.loop-rest.used c.loop-rest.rest.now none wrote c.loop-rest.invariant.1.ahead
+
+pub push_ending-requires-clause-fits : goal.push_ending-requires-clause-fits
+push_ending-requires-clause-fits c =
+    omega (arith, c.loop-rest.invariant.1.shorter, c.requires.fits, ap length c.gap_at-ending.ensures, gap_short (map (λ g. g.now) c.args.gaps.now) c.loop-rest.used c.requires.gaps)
 
 pub touched-requires-clause-some : goal.touched-requires-clause-some
 touched-requires-clause-some c =
-    let some : 0 < length c.loop-last.rest.now = more_than_none _ (search rules) in
-    let k = cut c.loop-last.rest.now c.loop-last.invariant.0 some in
+    let some : 0 < length c.loop-rest.rest.now = more_than_none _ (search rules) in
+    let k = cut c.loop-rest.rest.now c.loop-rest.invariant.0 some in
     omega (arith, k.some, ap (λ t. t.len) c.first_token-token.ensures, c.split_at.ensures.front_len)
 
 pub push_word-requires-clause-next : goal.push_word-requires-clause-next
 push_word-requires-clause-next c =
-    let some : 0 < length c.loop-last.rest.now = more_than_none _ (search rules) in
-    let k = cut c.loop-last.rest.now c.loop-last.invariant.0 some in
+    let some : 0 < length c.loop-rest.rest.now = more_than_none _ (search rules) in
+    let k = cut c.loop-rest.rest.now c.loop-rest.invariant.0 some in
     omega (arith, k.some, ap (λ t. t.len) c.first_token-token.ensures, c.split_at.ensures.front_len)

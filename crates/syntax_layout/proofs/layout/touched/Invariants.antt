@@ -3,7 +3,7 @@ use Rattle.std.proofs.Common.{◌≤◌, length}
 use denote.Text.{Utf8}
 use denote.Shadow.{shadow}
 use Rattle.syntax_layout.proofs.Ahead.{IsTouchAhead}
-use Rattle.syntax_layout.proofs.layout.touched_within.Given as goal
+use Rattle.syntax_layout.proofs.layout.touched.Given as goal
 
 abbrev pub invariant-loop-rest : goal.invariant-loop-rest
 invariant-loop-rest l = shadow (Utf8 l.rest) × record {
