@@ -1,5 +1,6 @@
 -- The messages of faults of macros.
-use Rattle.std.specs.Prelude.{ℕ, ◌+◌, min, List, [], ◌++◌, codes, decimal}
+use Rattle.std.specs.Prelude.{ℕ, List, [], ◌++◌, codes, decimal}
+use Rattle.expand_text.specs.Expecting.{rule_number}
 use Rattle.expand_text.specs.declared.fault.MacroFault.{MacroFault}
 use Rattle.expand_text.specs.declared.fault.MacroFault.TheVariants as wrong
 use Rattle.mbe_pattern.specs.declared.error.PatternError.{PatternError}
@@ -13,10 +14,6 @@ use Rattle.mbe_rules.specs.declared.rules_error.ArmFault.TheVariants as rule
 use Rattle.mbe_rules.specs.declared.rules_error.RulesError.{RulesError}
 use Rattle.tt.specs.Fault.{fault_text}
 use Rattle.tt.specs.Types.TtFault.{TtFault}
-
--- the number of a rule, counted from 1, up to the largest 64-bit number
-abbrev pub rule_number : (arm : ℕ) → ℕ
-rule_number arm = min (arm + 1) 18446744073709551615
 
 -- a name between words
 abbrev pub about : (before name behind : List ℕ) → List ℕ

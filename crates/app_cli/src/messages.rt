@@ -1,6 +1,7 @@
 //! The messages of faults of macros, in the words of the author of the macro.
 ghost use Rattle.std.specs.Prelude.{◌≡◌, ◌++◌, ℕ, IfOk, codes, decimal, string_bytes};
-ghost use Rattle.app_cli.specs.Messages.{about, about_rule, definition_message, transcribe_message, message, pattern_message, rule_number, size_message, template_message};
+ghost use Rattle.expand_text.specs.Expecting.{rule_number};
+ghost use Rattle.app_cli.specs.Messages.{about, about_rule, definition_message, transcribe_message, message, pattern_message, size_message, template_message};
 
 use expand_text::MacroFault;
 use mbe_pattern::PatternError;

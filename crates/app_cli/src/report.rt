@@ -1,11 +1,11 @@
 //! What the program writes of a text whose macros are expanded.
 ghost use Rattle.std.specs.Prelude.{◌≡◌, IfOk, string_bytes, take};
-ghost use Rattle.app_cli.specs.Reports.{most_shown, AreShown, IsMoreText, IsReport, IsSummary};
+ghost use Rattle.app_cli.specs.Reports.{most_shown, IsMoreText, IsReport, IsSummary};
 
 use crate::counts::{Counts, counted};
 use crate::diagnostics::diagnostics_text;
 use app_files::plain_text;
-use expand_text::{Caller, ExpandOptions, Expanded, Finding};
+use expand_text::{ExpandOptions, Expanded, Finding};
 use std::alloc::{AllocError, Global};
 use syntax_diagnostic::{Level, Style};
 
@@ -47,25 +47,6 @@ fn more_text(alloc: Global, style: Style, more: usize) -> Result<String, AllocEr
     Ok(text)
 }
 
-// Returns the diagnostics of the first findings in a text of that name, and how many more there are. These callers wrote what has findings.
-fn shown_text(
-    alloc: Global,
-    style: Style,
-    name: &str,
-    text: &str,
-    options: ExpandOptions<'_>,
-    callers: &[Caller],
-    findings: &[Finding],
-) -> Result<String, AllocError>
-    ensures { IfOk result (λ written. AreShown style name.now text.now options.entry callers.now findings.now (string_bytes written)) }
-{
-    let shown = first_shown(findings);
-    let mut written = diagnostics_text(alloc, style, name, text, options, callers, shown)?;
-    let more = more_text(alloc, style, findings.len().saturating_sub(MOST_SHOWN))?;
-    written.push_str(more.as_str())?;
-    Ok(written)
-}
-
 /// Returns the report on what the library found in a text of that name with these options.
 pub fn report_on(
     alloc: Global,
@@ -77,15 +58,12 @@ pub fn report_on(
 ) -> Result<Report, AllocError>
     ensures { IfOk result (IsReport style name.now text.now options.entry found) }
 {
-    let diagnostics = shown_text(
-        alloc,
-        style,
-        name,
-        text,
-        options,
-        &found.callers,
-        &found.findings,
-    )?;
+    let callers = &found.callers;
+    let shown = first_shown(&found.findings);
+    let mut diagnostics = diagnostics_text(alloc, style, name, text, options, callers, shown)?;
+    let more = found.findings.len().saturating_sub(MOST_SHOWN);
+    let more = more_text(alloc, style, more)?;
+    diagnostics.push_str(more.as_str())?;
     let counts = Counts::of(&found.findings);
     let output = if counts.has_errors() {
         None

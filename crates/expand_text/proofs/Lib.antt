@@ -14,6 +14,7 @@ pub mod LinkRows
 pub mod Linking
 pub mod Mentioned
 pub mod NoneLeft
+pub mod Naming
 pub mod Nth
 pub mod OneCapture
 pub mod OneExpansion

@@ -99,7 +99,7 @@ one_waiting_in (arm ∷ others) number input at a b (own, more, is, waits, rest)
 
 one_text : (arms : List Arm) (input : Forest) (place : ℕ) (a b : List ℕ) → IsExpected arms input place a → IsExpected arms input place b → a ≡ b
 one_text arms input place a b (parts, waits, is) (others, wait, was) =
-    is ∙ ap (λ ps. join_by (λ text. text) (codes " or ") (parts_named arms [] ps)) (one_waiting_in arms 0 input place parts others waits wait) ∙ sym was
+    is ∙ ap (λ ps. join_by (λ text. text) (codes " or ") (parts_named arms ps)) (one_waiting_in arms 0 input place parts others waits wait) ∙ sym was
 
 -- One thing is expected.
 pub one_expected : (arms : List Arm) (it : Call) (fault : MacroFault) (a b : Option (List ℕ)) → IsExpectedFor arms it fault a → IsExpectedFor arms it fault b → a ≡ b

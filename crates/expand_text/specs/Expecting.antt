@@ -1,5 +1,5 @@
 -- What the arms of a macro expect where none of them matches an input.
-use Rattle.std.specs.Prelude.{◌≡◌, ◌+◌, ◌==◌, ◌||◌, ℕ, min, Bool, List, [], ◌∷◌, ◌++◌, length, Option, None, Some, codes, decimal, bytes_eq, nat_lt, if◌then◌else◌}
+use Rattle.std.specs.Prelude.{◌≡◌, ◌+◌, ◌==◌, ◌||◌, ℕ, min, Bool, not, List, [], ◌∷◌, ◌++◌, length, take as first, filter, filter_map, Option, None, Some, option_map, codes, decimal, bytes_eq, nat_lt, if◌then◌else◌}
 use Rattle.std.specs.List.{join_by, list_any}
 use Rattle.tt.specs.Forest.{Forest}
 use Rattle.tt.specs.Types.DelimiterKind.{DelimiterKind}
@@ -86,7 +86,28 @@ rule_number arm = min (arm + 1) 18446744073709551615
 abbrev pub rule_text : (arm : ℕ) → List ℕ
 rule_text arm = codes " (rule " ++ decimal (rule_number arm) ++ codes ")"
 
--- one text more, unless it is there already: behind three of them only that there are others
+-- how a message names a part of that rule
+abbrev pub part_text : (arm : ℕ) → Label → List ℕ
+part_text arm label = label_text label ++ rule_text arm
+
+-- each of the texts once, in the order in which they first come
+abbrev pub different : List (List ℕ) → List (List ℕ)
+different [] = []
+different (text ∷ texts) = text ∷ filter (λ other. not (bytes_eq text other)) (different texts)
+
+-- three of the texts, and if there are more, that there are others
+abbrev pub three_of : List (List ℕ) → List (List ℕ)
+three_of texts = first 3 texts ++ (if nat_lt 3 (length texts) then codes "others" ∷ [] else [])
+
+-- how a message names a part of the patterns of arms, if there is such a part
+abbrev pub name_of : List Arm → ArmPart → Option (List ℕ)
+name_of arms it = option_map (part_text it.arm) (part_in arms it.arm it.part)
+
+-- how a message names these parts: three of their different names
+abbrev pub parts_named : List Arm → List ArmPart → List (List ℕ)
+parts_named arms parts = three_of (different (filter_map (name_of arms) parts))
+
+-- one text behind others: nothing, if it is there already or if it is said that there are others; behind three, that there are others
 abbrev pub added : List (List ℕ) → List ℕ → List (List ℕ)
 added texts text =
     if list_any (λ other. bytes_eq other text) texts || nat_lt 3 (length texts) then texts
@@ -95,17 +116,12 @@ added texts text =
 -- behind these texts, how a message names a part of that rule, if there is one
 abbrev pub part_added : List (List ℕ) → (arm : ℕ) → Option Label → List (List ℕ)
 part_added texts arm None = texts
-part_added texts arm (Some label) = added texts (label_text label ++ rule_text arm)
-
--- behind these texts, how a message names these parts, each once
-abbrev pub parts_named : List Arm → List (List ℕ) → List ArmPart → List (List ℕ)
-parts_named arms texts [] = texts
-parts_named arms texts (part ∷ parts) = parts_named arms (part_added texts part.arm (part_in arms part.arm part.part)) parts
+part_added texts arm (Some label) = added texts (part_text arm label)
 
 -- what arms expect at a flat place of an input: the parts that wait there
 abbrev pub IsExpected : List Arm → (input : Forest) → (place : ℕ) → (expected : List ℕ) → Type 0
 IsExpected arms input place expected =
-    (parts : List ArmPart) × AreWaitingIn arms 0 input place parts × (expected ≡ join_by (λ text. text) (codes " or ") (parts_named arms [] parts))
+    (parts : List ArmPart) × AreWaitingIn arms 0 input place parts × (expected ≡ join_by (λ text. text) (codes " or ") (parts_named arms parts))
 
 -- what a finding about a call says of it: something only if no arm matches the input
 abbrev pub IsExpectedFor : List Arm → Call → MacroFault → (expected : Option (List ℕ)) → Type 0

@@ -189,13 +189,13 @@ fn add_part(
     add(alloc, texts, text)
 }
 
-// Returns how a message names these parts of the patterns of rules, each once.
+// Returns how a message names these parts of the patterns of rules.
 fn parts_named(
     alloc: Global,
     rules: &MacroRules,
     parts: &[ArmPart],
 ) -> Result<Vec<String>, AllocError>
-    ensures { IfOk result (λ texts. (arms : List Arm) → AreMade arms rules.now.arms.items → map string_bytes texts.items ≡ parts_named arms [] parts.now) }
+    ensures { IfOk result (λ texts. (arms : List Arm) → AreMade arms rules.now.arms.items → map string_bytes texts.items ≡ parts_named arms parts.now) }
 {
     let mut texts = Vec::new(alloc);
     for part in parts {
