@@ -3,8 +3,9 @@
 
 PROGRAM is `cuvolemin`, and LIBRARY is checks/refuse.c. The first, second, .. request of a run of `expand` is refused, until it
 makes no more of them; one text is also tried with `--one-line`. Each run ends: either as with ample memory, or with status 1, or
-2 while the words of the command line are read, nothing written, and a last message that says that memory ran out. A line is
-printed for each text, `ok NAME` or `FAILED NAME: WHY`; the status is 1 if one failed.
+2 while the words of the command line are read, nothing written, and a last message that says that memory ran out. One message of each
+text names the file, and one the place of a call if the text has a tree. A line is printed for each text, `ok NAME` or
+`FAILED NAME: WHY`; the status is 1 if one failed.
 """
 import os
 import pathlib
@@ -45,6 +46,16 @@ def expected(name, options):
     return int(not is_right), written, told.replace(b"FILE", str(path).encode())
 
 
+def names_call(told, name):
+    """Whether diagnostics say in which call of an example memory ran out: its line is shown, with the mark under the beginning of a call."""
+    lines = told.decode().splitlines()
+    for at, line in enumerate(lines):
+        if line == "error: out of memory in this call":
+            shown, mark = lines[at + 3].partition("|")[2], lines[at + 4].partition("|")[2]
+            return f"{EXAMPLES / name}.rs:" in lines[at + 1] and "!" in shown[mark.index("^"):]
+    return False
+
+
 def is_refused_well(ended, ample):
     """Whether a run of which a request was refused ends as it has to."""
     status, written, told = ended
@@ -58,7 +69,7 @@ def try_each(program, library, name, options):
     ample = expected(name, options)
     with tempfile.TemporaryDirectory() as room:
         refused = pathlib.Path(room) / "refused"
-        named = False
+        named, placed = False, name == "mismatched"
         for nth in range(1, sys.maxsize):
             ended = run(program, name, options, REFUSE=str(nth), REFUSED=str(refused), LD_PRELOAD=library)
             if not refused.exists():
@@ -67,10 +78,13 @@ def try_each(program, library, name, options):
             if not is_refused_well(ended, ample):
                 raise Wrong(f"request {nth} refused: {str(ended)[:300]}")
             named = named or f"error: {EXAMPLES / name}.rs: out of memory".encode() in ended[2]
+            placed = placed or names_call(ended[2], name)
         if ended != ample or nth == 1:
             raise Wrong(f"with none of {nth - 1} requests refused: {str(ended)[:300]}")
         if not named:
             raise Wrong("no diagnostic names the file")
+        if not placed:
+            raise Wrong("no diagnostic names the call")
 
 
 def main():

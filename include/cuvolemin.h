@@ -75,7 +75,7 @@ struct cuvolemin_token {
  * under #[cfg(..)] stays only if the condition cannot apply to each part of its expansion. A call of a macro whose last definition is under
  * #[cfg(..)] stays if another definition of the name is in scope.
  * Faults: 1 to 44; 81 to 92 but for 84, of definitions; 100 to 108, of calls; and 5 to 9 of either. *at is a byte of the text; 0 for faults
- * 1, 2 and 4, and for 5 to 9 if the text itself exceeds the limit. */
+ * 2 and 4, for 1 if no call is expanded then, and for 5 to 9 if the text itself exceeds the limit. */
 uint32_t tt_expand_text(const uint8_t *text, size_t text_len, uint8_t *out, size_t out_len, size_t *written, size_t *at);
 
 /* The same with options, and with all findings: a definition or a call with a fault stays, and the function still returns CUVOLEMIN_OK.
@@ -90,7 +90,7 @@ uint32_t tt_expand_text(const uint8_t *text, size_t text_len, uint8_t *out, size
  * and gets: the number of bytes of the text; the number of findings; the words of each finding, in order; and those of each caller, up to
  * the end. *found is the number of words. If one of the outputs is too short, nothing is written into either.
  * Faults: 1; 2; 3 of the text, of root, of only or of cfg, in this order, with a byte of that in *at; 50, with the number of conditions in cfg
- * before the wrong one; 4 to 44, with a byte of the text. *at is 0 for faults 1, 2 and 4 to 9. */
+ * before the wrong one; 4 to 44, with a byte of the text. *at is 0 for faults 2 and 4 to 9, and for 1 if no call is expanded then. */
 uint32_t tt_expand_text_with(const uint8_t *text, size_t text_len, const uint8_t *root, size_t root_len, const uint8_t *only, size_t only_len,
                              const uint8_t *cfg, size_t cfg_len, uint32_t everywhere, uint32_t one_line, size_t limit, size_t max_tokens,
                              uint8_t *out, size_t out_len, size_t *written, size_t *findings, size_t findings_len, size_t *found, size_t *at);

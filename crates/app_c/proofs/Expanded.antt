@@ -10,7 +10,6 @@ use Rattle.app_c.specs.declared.failure.Failure.{Failure}
 use Rattle.app_c.specs.declared.fault.Fault.TheVariants as answer
 use Rattle.expand_text.specs.Expansion.{IsExpanded, IsExpandTextError, IsLenientError, first_fault}
 use Rattle.expand_text.specs.declared.fault.ExpandTextError.{ExpandTextError}
-use Rattle.expand_text.specs.declared.fault.ExpandTextError.TheVariants.{Memory}
 use Rattle.expand_text.specs.declared.options.ExpandOptions.{ExpandOptions}
 use Rattle.expand_text.specs.declared.text.Expanded.{Expanded}
 
@@ -43,17 +42,18 @@ is_listed asked options source text bytes words expanded same source_utf8 root_u
       listing = listing;
     }
 
--- A text is not read as trees.
-pub not_read : (asked : Asked) (source text : List ℕ) (error : ExpandTextError) (failure : Failure) → text ≡ source → IsLenientError text error
-    → failure ≡ expand_text_failure error → IsNotListed source asked failure
-not_read asked source text error failure same is made = inr (inr (error, subst (λ t. IsLenientError t error) same is, made))
+-- A text is not read as trees, or memory runs out.
+pub not_read : (asked : Asked) (options : ExpandOptions) (source text : List ℕ) (error : ExpandTextError) (failure : Failure) → text ≡ source → AreAsked asked options
+    → IsLenientError options text error → failure ≡ expand_text_failure error → IsNotListed source asked failure
+not_read asked options source text error failure same are is made =
+    inr (inr (inr (options, are, (error, subst (λ t. IsLenientError options t error) same is, made))))
 
 -- Memory runs out.
 pub no_memory : (asked : Asked) (source : List ℕ) (failure : Failure) → failure ≡ placeless answer.Memory → IsNotListed source asked failure
-no_memory asked source failure is = inr (inr (Memory, tt, is))
+no_memory asked source failure is = inl is
 
 -- Nothing is said of conditions.
 pub not_said : (asked : Asked) (source : List ℕ) (failure : Failure) → IsUtf8 source → IsUtf8 asked.root.now → IsUtf8 asked.only.now
     → IsNotSaid asked.cfg.now failure ⊎ (failure ≡ placeless answer.Memory) → IsNotListed source asked failure
-not_said asked source failure source_utf8 root_utf8 only_utf8 (inl none) = inr (inl (source_utf8, root_utf8, only_utf8, none))
+not_said asked source failure source_utf8 root_utf8 only_utf8 (inl none) = inr (inr (inl (source_utf8, root_utf8, only_utf8, none)))
 not_said asked source failure source_utf8 root_utf8 only_utf8 (inr memory) = no_memory asked source failure memory

@@ -176,8 +176,13 @@ macro_fault found.TooLong = answer.MadeTooLong
 macro_fault found.Statements = answer.Statements
 macro_fault (found.TooLarge fault) = limit_fault fault
 
+-- want of memory, with the byte at which the call begins that is expanded then
+abbrev pub memory_failure : (at : Option ℕ) → Failure
+memory_failure None = placeless answer.Memory
+memory_failure (Some at) = at_place answer.Memory at
+
 -- a text that cannot be expanded
 abbrev pub expand_text_failure : ExpandTextError → Failure
 expand_text_failure (expanding.Text fault) = text_failure fault
 expand_text_failure (expanding.Macro it) = at_place (macro_fault it.fault) it.at
-expand_text_failure expanding.Memory = placeless answer.Memory
+expand_text_failure (expanding.Memory at) = memory_failure at

@@ -1,11 +1,12 @@
 -- What a caller gets of an expansion with options of its own: bytes, and words about the findings.
 use Rattle.std.specs.Prelude.{◌≡◌, ◌⊎◌, ◌+◌, ◌++◌, ℕ, List, [], ◌∷◌, Option, None, Some, IsUtf8, length, nat_lt, option_map, string_bytes}
 use Rattle.app_c.specs.Conditions.{IsNotSaid, IsSaid}
-use Rattle.app_c.specs.Failures.{expand_text_failure, macro_fault}
+use Rattle.app_c.specs.Failures.{expand_text_failure, macro_fault, placeless}
 use Rattle.app_c.specs.Faults.{number_of}
 use Rattle.app_c.specs.Texts.{IsNoText}
 use Rattle.app_c.specs.declared.asked.Asked.{Asked}
 use Rattle.app_c.specs.declared.failure.Failure.{Failure}
+use Rattle.app_c.specs.declared.fault.Fault.TheVariants as answer
 use Rattle.expand_items.specs.Cfg.{known_of}
 use Rattle.expand_text.specs.Expansion.{IsExpanded, IsLenientError}
 use Rattle.expand_text.specs.declared.caller.Caller.{Caller}
@@ -130,10 +131,14 @@ IsNotUtf8 source asked failure =
 abbrev pub HasNoConditions : (source : List ℕ) → Asked → Failure → Type 0
 HasNoConditions source asked failure = IsUtf8 source × IsUtf8 asked.root.now × IsUtf8 asked.only.now × IsNotSaid asked.cfg.now failure
 
--- a text cannot be read as trees, or memory runs out, with the reason
-abbrev pub IsNotRead : (source : List ℕ) → Failure → Type 0
-IsNotRead source failure = (error : ExpandTextError) × IsLenientError source error × (failure ≡ expand_text_failure error)
+-- a text cannot be read as trees, or memory runs out while it is expanded, with the reason
+abbrev pub IsNotRead : (source : List ℕ) → Asked → Failure → Type 0
+IsNotRead source asked failure =
+    (options : ExpandOptions) × AreAsked asked options
+    × ((error : ExpandTextError) × IsLenientError options source error × (failure ≡ expand_text_failure error))
 
--- why a text is not expanded
+-- why a text is not expanded: memory runs out, a text is not UTF-8, nothing is said of conditions, or the text is not read
 abbrev pub IsNotListed : (source : List ℕ) → Asked → Failure → Type 0
-IsNotListed source asked failure = IsNotUtf8 source asked failure ⊎ (HasNoConditions source asked failure ⊎ IsNotRead source failure)
+IsNotListed source asked failure =
+    (failure ≡ placeless answer.Memory)
+    ⊎ (IsNotUtf8 source asked failure ⊎ (HasNoConditions source asked failure ⊎ IsNotRead source asked failure))

@@ -267,6 +267,10 @@ pub(crate) fn expand_text_failure(error: ExpandTextError) -> Failure
             fault: macro_fault(finding.fault),
             at: finding.at as usize,
         },
-        ExpandTextError::Memory => placeless(Fault::Memory),
+        ExpandTextError::Memory { at: Some(at) } => Failure {
+            fault: Fault::Memory,
+            at: at as usize,
+        },
+        ExpandTextError::Memory { at: None } => placeless(Fault::Memory),
     }
 }

@@ -5,8 +5,8 @@ use crate::dropping::{Drops, without_definitions};
 use crate::options::Options;
 use crate::report::{Report, report_on, summary};
 use app_files::{
-    Failure, Input, Mentions, grammar_failure, shebang_of, style_of, syntax_failure, tree_of,
-    without_shebang,
+    Failure, Input, Mentions, error_text_at, grammar_failure, shebang_of, style_of, syntax_failure,
+    tree_of, without_shebang,
 };
 use expand_text::{ExpandOptions, ExpandTextError, expand_leniently};
 use mbe_grammar::{ParsedFile, parse_file};
@@ -39,7 +39,12 @@ fn refused(
     let style = style_of(rt);
     match error {
         ExpandTextError::Text(fault) => syntax_failure(rt, name, text, fault),
-        ExpandTextError::Memory => Failure::Memory,
+        ExpandTextError::Memory { at: None } => Failure::Memory,
+        ExpandTextError::Memory { at: Some(at) } => {
+            let message = "out of memory in this call";
+            let at = at as usize;
+            Failure::from_text(error_text_at(alloc, style, name, text, message, at, None))
+        }
         ExpandTextError::Macro(finding) => {
             Failure::from_text(diagnostics_text(alloc, style, name, text, options, &[], &[finding]))
         }

@@ -30,7 +30,7 @@ pub use plain::plain_text;
 pub use recursion_limit::recursion_limit_of;
 pub use shebang::{shebang_of, without_shebang};
 pub use style::style_of;
-pub use syntax_error::syntax_failure;
+pub use syntax_error::{error_text_at, syntax_failure};
 pub use syntax_lines::write_syntax;
 pub use token_lines::write_tokens;
 pub use tree_lines::{tree_of, write_tree};

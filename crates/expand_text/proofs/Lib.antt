@@ -26,6 +26,7 @@ pub mod OneMacro
 pub mod OneOutcome
 pub mod OnePlacing
 pub mod Choosing
+pub mod Coming
 pub mod Parted
 pub mod PlaceRows
 pub mod Placing

@@ -27,6 +27,7 @@ use Rattle.syntax_edit.specs.Splices.{Splice, replacement_of, replacements_of}
 use Rattle.syntax_edit.specs.Texts.{Writing, begun, finished, with_all, IsReplaced, AreReplaced, FitAll}
 use Rattle.expand_text.specs.Reading.{AreSplices, Spells, sorts_left, splice}
 use Rattle.expand_text.specs.Scopes.{Macro}
+use Rattle.expand_text.specs.Stops.{ComesToCall}
 use Rattle.expand_text.specs.CallSites.{CallSite, PutIn, IsKept}
 use Rattle.expand_text.specs.Invocations.{body_of, entered_by, found_by, site_of}
 use Rattle.syntax_parse.specs.Parsed.{IsParse}
@@ -118,14 +119,27 @@ first_fault (it ∷ others) = fault_or (is_warning it.fault) it (first_fault oth
 abbrev pub IsFirstFault : List Finding → (place : ℕ) → Type 0
 IsFirstFault findings place = (place < length findings) × (first_fault findings ≡ slice_get findings place)
 
+-- memory runs out while a call of a text that is read as trees is expanded, which begins at that byte
+pub record IsCallOf (options : ExpandOptions) (text : List ℕ) (at : ℕ) : Type 0 where
+  pub tree : Root
+  pub read : IsParse text_part text tree
+  pub exported : List Macro
+  pub exports : AreExported (config_by options) tree.children exported
+  pub call : ComesToCall (config_by options) options.limit tree.children (new_context exported) at
+
+-- memory runs out: while a call is expanded, or else without a place
+abbrev pub IsOutOfMemory : ExpandOptions → (text : List ℕ) → (at : Option ℕ) → Type 0
+IsOutOfMemory options text None = Unit {0}
+IsOutOfMemory options text (Some at) = IsCallOf options text at
+
 -- why there is no expanded text: the text is not read, or memory runs out
-abbrev pub IsLenientError : (text : List ℕ) → ExpandTextError → Type 0
-IsLenientError text (error.Text fault) = IsRefusal text_part text fault
-IsLenientError text (error.Macro it) = ⊥
-IsLenientError text error.Memory = Unit {0}
+abbrev pub IsLenientError : ExpandOptions → (text : List ℕ) → ExpandTextError → Type 0
+IsLenientError options text (error.Text fault) = IsRefusal text_part text fault
+IsLenientError options text (error.Macro it) = ⊥
+IsLenientError options text (error.Memory at) = IsOutOfMemory options text at
 
 -- the same; or a macro or a call has a fault, and this is the first such finding
 abbrev pub IsExpandTextError : ExpandOptions → (text : List ℕ) → ExpandTextError → Type 0
 IsExpandTextError options text (error.Macro it) = (expanded : Expanded) × IsExpanded options text expanded × (first_fault expanded.findings.items ≡ Some it)
 IsExpandTextError options text (error.Text fault) = IsRefusal text_part text fault
-IsExpandTextError options text error.Memory = Unit {0}
+IsExpandTextError options text (error.Memory at) = IsOutOfMemory options text at

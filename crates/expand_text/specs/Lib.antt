@@ -25,6 +25,7 @@ pub mod Places
 pub mod Reading
 pub mod Roots
 pub mod Scopes
+pub mod Stops
 pub mod Waiting
 pub mod Walks
 pub mod Writing

@@ -1,9 +1,9 @@
 //! Findings in the macros of a text, and why a text is not expanded.
-ghost use Rattle.std.specs.Prelude.{◌≡◌};
+ghost use Rattle.std.specs.Prelude.{◌≡◌, None};
 ghost use Rattle.expand_text.specs.Findings.{is_warning, ends_call};
 ghost use Rattle.expand_text.specs.declared.fault.ExpandTextError.TheVariants.{Text, Memory};
 
-use crate::memory::OutOfMemory;
+use crate::memory::{OutOfMemory, OutOfMemoryAt};
 use mbe_rules::{ExpandError, RulesError};
 use syntax_parse::TextFault;
 use thiserror::Error;
@@ -103,7 +103,10 @@ pub enum ExpandTextError {
     Macro(Finding),
     /// Memory runs out. It is returned also if an expansion has more than 4,294,967,295 tokens while it is built.
     #[error("out of memory")]
-    Memory,
+    Memory {
+        /// The byte at which a call of the text begins, after its attributes, if memory runs out while that is expanded.
+        at: Option<u32>,
+    },
 }
 
 impl MacroFault {
@@ -139,9 +142,17 @@ impl From<TextFault> for ExpandTextError {
 }
 
 impl From<OutOfMemory> for ExpandTextError {
-    ghost from_gives = { λ _ error. error ≡ Memory };
+    ghost from_gives = { λ _ error. error ≡ Memory None };
 
     fn from(_error: OutOfMemory) -> ExpandTextError {
-        ExpandTextError::Memory
+        ExpandTextError::Memory { at: None }
+    }
+}
+
+impl From<OutOfMemoryAt> for ExpandTextError {
+    ghost from_gives = { λ out error. error ≡ Memory out.call };
+
+    fn from(out: OutOfMemoryAt) -> ExpandTextError {
+        ExpandTextError::Memory { at: out.call }
     }
 }

@@ -2,6 +2,7 @@
 ghost use Rattle.std.specs.Prelude.{◌≡◌, ◌∷◌, [], IfOk};
 ghost use Rattle.tt.specs.Gluing.{after_trees};
 ghost use Rattle.tt.specs.Iters.{rest_of};
+ghost use Rattle.tt.specs.Span.{start_of};
 ghost use Rattle.tt.specs.Views.{trees_of};
 ghost use Rattle.mbe_pattern.specs.Units.{front_trees};
 ghost use Rattle.expand_items.specs.Items.{call_of};
@@ -15,7 +16,7 @@ use crate::walk::{Level, Walk};
 use expand_items::{Call, Enclosure, Position};
 use mbe_pattern::{pass, take};
 use std::alloc::{AllocError, Global};
-use syntax_edit::begin_at;
+use syntax_edit::{begin_at, start_of};
 use tt::{Delimiter, DelimiterKind, Span, Symbol, TokenTreesView, TopSubtree, TreeWalk, TtIter};
 
 /// A call that is expanded: its macro and its place.
@@ -90,6 +91,13 @@ fn begin_of(mut trees: TtIter<'_>, call: &Call<'_>) -> Span
 {
     pass(&mut trees, call.attributes);
     begin_at(&trees, call.name.span)
+}
+
+/// Returns the byte at which the call that comes first begins, after its attributes.
+pub(crate) fn begin_byte(walk: &Walk, call: &Call<'_>) -> u32
+    ensures { result ≡ start_of (begin_in (call_of call.now) (first_level walk.now).rest).range }
+{
+    start_of(begin_of(walk.rest(), call))
 }
 
 /// Returns the call that comes first, which expands to `tree`. Its macro's name begins at the byte `defined_at` in the definition.

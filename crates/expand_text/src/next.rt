@@ -1,10 +1,11 @@
 //! The next event of a walk.
-ghost use Rattle.std.specs.Prelude.{◌≡◌, ℕ, Bool, IfOk};
+ghost use Rattle.std.specs.Prelude.{◌≡◌, ℕ, Bool, IfErr, IfOk};
 ghost use Rattle.expand_items.specs.Items.{calls, call_of};
 ghost use Rattle.expand_text.specs.Contexts.{Learns, IsSameBudget, config_of, tokens_by};
 ghost use Rattle.expand_text.specs.Choices.{IsChoiceWithin, IsChosen, Advances};
 ghost use Rattle.expand_text.specs.Meaning.{IsPlain};
 ghost use Rattle.expand_text.specs.Events.{IsWithin, IsNext, Steps};
+ghost use Rattle.expand_text.specs.Stops.{IsChoiceFirst, IsEventFirst, IsStop};
 ghost use Rattle.expand_text.specs.Walks.{first_level, levels_of, IsAtItem, IsFirst};
 
 use crate::calling::{Called, expand_call, is_expanded};
@@ -12,8 +13,8 @@ use crate::capturing::find_capture;
 use crate::config::Config;
 use crate::context::Context;
 use crate::defining::read_definition;
-use crate::invocation::{Invocation, call_part, invocation_of};
-use crate::memory::OutOfMemory;
+use crate::invocation::{Invocation, begin_byte, call_part, invocation_of};
+use crate::memory::{OutOfMemory, OutOfMemoryAt};
 use crate::part::Part;
 use crate::plain::plain_behind_part;
 use crate::walk::Walk;
@@ -84,6 +85,7 @@ fn choose_call(
 ) -> Result<Choice, OutOfMemory>
     ensures within { IfOk result (IsChoiceWithin limit (tokens_by context.old.caller config.now.max_tokens context.old.left)) }
     ensures steps { IfOk result (λ choice. IsFirst (calls (call_of call.now)) (config_of config.now) (first_level walk.now) → Advances (levels_of walk.now) choice) }
+    ensures first { IfOk result (λ choice. IsFirst (calls (call_of call.now)) (config_of config.now) (first_level walk.now) → IsChoiceFirst (config_of config.now) (levels_of walk.now) choice) }
     ensures kept { IfOk result (λ _. IsSameBudget context.old context.new) }
     ensures chosen { IfOk result (λ choice. Learns context.old context.new (λ before after. IsAtItem (calls (call_of call.now)) (config_of config.now) (first_level walk.now) before → (in_text : Bool) → IsChosen (config_of config.now) in_text limit (levels_of walk.now) before choice after)) }
 {
@@ -107,15 +109,18 @@ fn choose_call(
     }
 }
 
-// Returns what becomes of the trees that come first. A definition is in scope from then on.
+// Returns what becomes of the trees that come first. A definition is in scope from then on. If memory runs out while a call is expanded,
+// returns where that begins.
 fn choose(
     walk: &Walk,
     config: &Config<'_>,
     context: &mut Context,
     limit: usize,
-) -> Result<Choice, OutOfMemory>
+) -> Result<Choice, OutOfMemoryAt>
     ensures within { IfOk result (IsChoiceWithin limit (tokens_by context.old.caller config.now.max_tokens context.old.left)) }
     ensures steps { IfOk result (Advances (levels_of walk.now)) }
+    ensures first { IfOk result (IsChoiceFirst (config_of config.now) (levels_of walk.now)) }
+    ensures stop { IfErr result (λ out. IsStop (config_of config.now) (levels_of walk.now) out.call) }
     ensures kept { IfOk result (λ _. IsSameBudget context.old context.new) }
     ensures chosen { IfOk result (λ choice. Learns context.old context.new (λ before after. (in_text : Bool) → IsChosen (config_of config.now) in_text limit (levels_of walk.now) before choice after)) }
 {
@@ -135,7 +140,12 @@ fn choose(
                 plain: level.plain,
             }))
         }
-        Item::Call(call) => choose_call(walk, config, context, limit, &call),
+        Item::Call(call) => match choose_call(walk, config, context, limit, &call) {
+            Ok(choice) => Ok(choice),
+            Err(OutOfMemory) => Err(OutOfMemoryAt {
+                call: Some(begin_byte(walk, &call)),
+            }),
+        },
         Item::Inactive(len) => Ok(Choice::Stays(Part {
             len,
             semicolon: false,
@@ -146,15 +156,18 @@ fn choose(
     }
 }
 
-/// Returns the next event, with at most `limit` nested expansions. A definition is in scope from then on.
+/// Returns the next event, with at most `limit` nested expansions. A definition is in scope from then on. If memory runs out while a call is
+/// expanded, returns where that begins.
 pub(crate) fn next(
     walk: &mut Walk,
     config: &Config<'_>,
     context: &mut Context,
     limit: usize,
-) -> Result<Event, OutOfMemory>
+) -> Result<Event, OutOfMemoryAt>
     ensures within { IfOk result (IsWithin limit (tokens_by context.old.caller config.now.max_tokens context.old.left)) }
     ensures steps { IfOk result (λ event. Steps (levels_of walk.old) event (levels_of walk.new)) }
+    ensures first { IfOk result (IsEventFirst (config_of config.now) (levels_of walk.old)) }
+    ensures stop { IfErr result (λ out. IsStop (config_of config.now) (levels_of walk.old) out.call) }
     ensures kept { IfOk result (λ _. IsSameBudget context.old context.new) }
     ensures next { IfOk result (λ event. Learns context.old context.new (λ before after. (in_text : Bool) → IsNext (config_of config.now) in_text limit (levels_of walk.old) before event (levels_of walk.new) after)) }
 {

@@ -1,11 +1,13 @@
 //! A source text, and the text with its calls replaced.
-ghost use Rattle.std.specs.Prelude.{◌≡◌, ◌<◌, ◌+◌, ◌^◌, true, IfErr, IfOk, OnOk, length, string_bytes};
+ghost use Rattle.std.specs.Prelude.{◌≡◌, ◌<◌, ◌+◌, ◌^◌, true, IfErr, IfOk, OnOk, Some, length, string_bytes};
+ghost use Rattle.tt.specs.Span.{start_of};
 ghost use Rattle.tt.specs.Stored.{IsWithinLimits};
 ghost use Rattle.expand_text.specs.Macros.{tree_of};
 ghost use Rattle.expand_items.specs.Loosening.{loosened, place_of};
 ghost use Rattle.expand_text.specs.Expansion.{IsTextOf, IsInvocationText, IsInvocationWritten, IsSourceText};
-ghost use Rattle.expand_text.specs.Contexts.{Learns, config_of};
+ghost use Rattle.expand_text.specs.Contexts.{Context as ContextOf, IsContext, Learns, config_of};
 ghost use Rattle.expand_text.specs.Reading.{Spells};
+ghost use Rattle.expand_text.specs.Stops.{IsStop, IsStopIn};
 ghost use Rattle.syntax_edit.specs.Texts.{writing_of};
 ghost use Rattle.syntax_unparse.specs.Text.{text_of};
 ghost use Rattle.syntax_unparse.specs.Writable.{IsWritable, IsWriteFault};
@@ -18,7 +20,7 @@ use crate::context::Context;
 use crate::expanding::expand_invocation;
 use crate::fault::MacroFault;
 use crate::invocation::Invocation;
-use crate::memory::OutOfMemory;
+use crate::memory::{OutOfMemory, OutOfMemoryAt};
 use crate::next::{Event, next};
 use crate::places::start_at;
 use crate::walk::Walk;
@@ -172,7 +174,7 @@ fn write_invocation(
     }
 }
 
-// Writes the expansion of the call that comes first, and passes the call.
+// Writes the expansion of the call that comes first, and passes the call. If memory runs out, returns where the call begins.
 fn write_call(
     config: &Config<'_>,
     context: &mut Context,
@@ -181,25 +183,33 @@ fn write_call(
     call: Invocation,
     tree: TopSubtree,
     output: &mut Output<'_>,
-) -> Result<(), OutOfMemory>
+) -> Result<(), OutOfMemoryAt>
+    ensures stop { IfErr result (λ out. out.call ≡ Some (start_of call.first_span.range)) }
     ensures walk { OnOk result (levels_of walk.new ≡ past_in call.part (levels_of walk.old)) }
     ensures written { OnOk result (Learns context.old context.new (IsInvocationWritten (config_of config.now) limit call (front_in call.part (levels_of walk.old)) tree (writing_of output.old) (writing_of output.new))) }
 {
     let whole = walk.front(&call.part);
-    write_invocation(config, context, limit, &call, whole, tree, output)?;
-    walk.pass(&call.part);
-    Ok(())
+    match write_invocation(config, context, limit, &call, whole, tree, output) {
+        Ok(()) => {
+            walk.pass(&call.part);
+            Ok(())
+        }
+        Err(OutOfMemory) => Err(OutOfMemoryAt {
+            call: Some(start_of(call.first_span)),
+        }),
+    }
 }
 
 // Goes to the next event of the walk, and writes the expansion if it is a call; all other trees stay as they are. Returns whether the walk
-// goes on.
+// goes on. If memory runs out while a call is expanded, returns where that begins.
 fn write_next(
     config: &Config<'_>,
     context: &mut Context,
     limit: usize,
     walk: &mut Walk,
     output: &mut Output<'_>,
-) -> Result<bool, OutOfMemory>
+) -> Result<bool, OutOfMemoryAt>
+    ensures stop { IfErr result (λ out. IsStop (config_of config.now) (levels_of walk.old) out.call) }
     ensures steps { IfOk result (λ goes_on. goes_on ≡ true → work_in (levels_of walk.new) < work_in (levels_of walk.old)) }
     ensures written { IfOk result (λ goes_on. Learns context.old context.new (IsNextWritten goes_on (config_of config.now) limit (levels_of walk.old) (levels_of walk.new) (writing_of output.old) (writing_of output.new))) }
 {
@@ -216,15 +226,16 @@ fn write_next(
     Ok(true)
 }
 
-/// Returns the text with each call replaced by its expansion.
+/// Returns the text with each call replaced by its expansion. If memory runs out while a call is expanded, returns where that begins.
 pub(crate) fn expand_source(
     config: &Config<'_>,
     context: &mut Context,
     limit: usize,
     source: &str,
     tree: TopSubtree,
-) -> Result<String, OutOfMemory>
-    ensures { IfOk result (λ text. Learns context.old context.new (IsSourceText (config_of config.now) limit source.now tree.children (string_bytes text))) }
+) -> Result<String, OutOfMemoryAt>
+    ensures written { IfOk result (λ text. Learns context.old context.new (IsSourceText (config_of config.now) limit source.now tree.children (string_bytes text))) }
+    ensures stop { IfErr result (λ out. (before : ContextOf) → IsContext before context.old → IsStopIn (config_of config.now) limit tree.children before out.call) }
 {
     let mut output = Output::new(config.alloc, source);
     let close = tree.top_subtree().delimiter.close;

@@ -52,7 +52,8 @@ fn config_by<'a>(
 }
 
 /// Returns the text in which each call of a macro in scope is replaced by its expansion, written as Rust: on one line, or laid out as
-/// its tokens are in the text. A definition or a call with a fault stays as it is, and yields a finding.
+/// its tokens are in the text. A definition or a call with a fault stays as it is, and yields a finding. If memory runs out while a call
+/// of the text is expanded, the error has its place.
 ///
 /// Time is linear in the text, and in what the macros read and write. The stack does not grow with nested expansions.
 pub fn expand_leniently(
@@ -61,7 +62,7 @@ pub fn expand_leniently(
     options: ExpandOptions<'_>,
 ) -> Result<Expanded, ExpandTextError>
     ensures ok { IfOk result (IsExpanded options.entry text.now) }
-    ensures err { IfErr result (IsLenientError text.now) }
+    ensures err { IfErr result (IsLenientError options.entry text.now) }
 {
     let tree = parse(alloc, text)?;
     let config = config_by(alloc, text, options)?;

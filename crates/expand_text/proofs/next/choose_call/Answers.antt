@@ -3,6 +3,7 @@ use Rattle.std.proofs.lemmas.Bool.{false≢true}
 use Rattle.std.specs.Prelude.{is_some}
 use Rattle.tt.specs.Forest.{size}
 use Rattle.tt.specs.Gluing.{after_trees}
+use Rattle.tt.specs.Span.{start_of}
 use Rattle.expand_text.specs.Calling.{IsCalled, IsFaulty, IsExpanded}
 use Rattle.expand_text.specs.declared.next.Choice.TheVariants as choice
 use Rattle.expand_text.specs.Choices.{IsChosen}
@@ -39,6 +40,10 @@ returns-in_ok-find_capture-in-Tree-clause-steps c there =
     let part = c.in_ok-invocation-in-Tree.invocation.part in
     let less : size (after_trees it.len level.rest) < size level.rest = call_at_less c.args.config.now.root level.position level.rest it (calls_at there) in
     advances level (outer_of c.args.walk.now) it.len less part (ap (λ p. p.len) c.in_ok-invocation-in-Tree.ensures.part) part.semicolon refl
+
+pub returns-in_ok-find_capture-in-Tree-clause-first : goal.returns-in_ok-find_capture-in-Tree-clause-first
+returns-in_ok-find_capture-in-Tree-clause-first c there =
+    (call_of c.args.call.now, there, ap (λ span. start_of span.range) c.in_ok-invocation-in-Tree.ensures.first)
 
 pub returns-in_ok-find_capture-in-Tree-clause-chosen : goal.returns-in_ok-find_capture-in-Tree-clause-chosen
 returns-in_ok-find_capture-in-Tree-clause-chosen c before is =

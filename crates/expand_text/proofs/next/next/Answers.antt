@@ -1,9 +1,12 @@
-use Rattle.std.proofs.Common.{◌∷◌, [], List, sym, subst}
+use Rattle.std.proofs.Common.{◌∷◌, [], List, ℕ, sym, subst, arith}
 use Rattle.expand_text.specs.declared.next.Choice.TheVariants as choice
+use Rattle.expand_text.specs.declared.next.Event.{Event}
+use Rattle.expand_text.specs.declared.next.Event.TheVariants as event
 use Rattle.expand_text.specs.Choices.{IsChosen}
 use Rattle.expand_text.specs.Contexts.{Config, Context, config_of, tokens_by}
-use Rattle.expand_text.specs.Events.{IsNext}
+use Rattle.expand_text.specs.Events.{IsNext, IsWithin}
 use Rattle.expand_text.specs.Meaning.{IsPlain}
+use Rattle.expand_text.specs.Stops.{IsChoiceFirst, IsEventFirst}
 use Rattle.expand_text.specs.Walks.{Level, levels_of, with_plain}
 use Rattle.expand_text.proofs.Leading.{next_by}
 use Rattle.expand_text.proofs.next.next.Goals as goal
@@ -33,6 +36,23 @@ returns-in_ok-next_tree-in-Plain-clause-next c before is =
           next_by config in_text limit levels (with_plain plain levels) before now chosen.0 c.in_ok-next_tree-in-Plain.field-0 (levels_of c.next_tree.new.walk) after
           (subst (λ ls. IsNext config in_text limit ls now c.in_ok-next_tree-in-Plain.field-0 (levels_of c.next_tree.new.walk) after) c.take_plain.ensures (next first in_text)),
     )
+
+-- an event that any limits allow is no call
+none_first : (config : Config) (levels : List Level) (event : Event) → ((limit allowed : ℕ) → IsWithin limit allowed event) → IsEventFirst config levels event
+none_first config levels event.End within = tt
+none_first config levels (event.Leaf leaf) within = tt
+none_first config levels (event.Opens header) within = tt
+none_first config levels (event.Closes close) within = tt
+none_first config levels (event.Stays part) within = tt
+none_first config levels (event.Invocation it tree) within = omega (arith, (within 0 0).0)
+
+pub returns-in_ok-next_tree-in-Plain-clause-first : goal.returns-in_ok-next_tree-in-Plain-clause-first
+returns-in_ok-next_tree-in-Plain-clause-first c =
+    none_first (config_of c.args.config.now) (levels_of c.args.walk.now) c.in_ok-next_tree-in-Plain.field-0 c.in_ok-next_tree-in-Plain.ensures.within
+
+pub returns-in-Invocation-clause-first : goal.returns-in-Invocation-clause-first
+returns-in-Invocation-clause-first c =
+    subst (IsChoiceFirst (config_of c.args.config.now) (levels_of c.args.walk.now)) c.in-Invocation.is c.in_ok-plain.ensures.first
 
 pub returns-in-Stays-clause-next : goal.returns-in-Stays-clause-next
 returns-in-Stays-clause-next c before is =

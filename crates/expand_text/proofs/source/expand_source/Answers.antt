@@ -3,10 +3,12 @@ use Rattle.tt.specs.TreeWalks.{innermost}
 use Rattle.expand_text.specs.Contexts.{Config, config_of}
 use Rattle.syntax_edit.specs.Splices.{replacements_of}
 use Rattle.syntax_edit.specs.Texts.{Writing, AreReplaced, begun, writing_of}
+use Rattle.expand_text.specs.Stops.{ComesTo}
 use Rattle.expand_text.specs.Walks.{first_level, outer_of, levels_of, begun as begun_at}
 use Rattle.expand_text.specs.Writing.{IsNextWritten}
 use Rattle.expand_items.specs.Positions.{begun as begun_among}
 use Rattle.expand_items.specs.declared.position.Siblings.TheVariants.{Items}
+use Rattle.expand_text.proofs.Coming.{comes_first, comes_on, stops_in}
 use Rattle.expand_text.proofs.Replacing.{IsReading, begins, reads_on, reads_all, replaced_more}
 use Rattle.expand_text.proofs.source.expand_source.Goals as goal
 
@@ -26,6 +28,10 @@ trees-init c before is =
           (subst (λ f. IsReading config c.args.limit trees before (begun_at (begun_among Items) f close ∷ []) before []) (sym c.new-trees.ensures.innermost)
           (begins config c.args.limit trees before close))),
       c.new-output.ensures,
+      subst (λ ls. ComesTo config c.args.limit trees before ls before) (sym c.new-walk.ensures)
+          (subst (λ p. ComesTo config c.args.limit trees before (begun_at p (innermost c.new-trees.result) close ∷ []) before) (sym c.begun-first.ensures)
+          (subst (λ f. ComesTo config c.args.limit trees before (begun_at (begun_among Items) f close ∷ []) before) (sym c.new-trees.ensures.innermost)
+          (comes_first config c.args.limit trees before close))),
     )
 
 pub trees-smaller : goal.trees-smaller
@@ -40,7 +46,7 @@ trees-preserved c before is =
     let nexts = levels_of c.write_next.new.walk in
     let old : Writing = writing_of c.trees.output in
     let new : Writing = writing_of c.write_next.new.output in
-    let (now, context, done, reading, are) = c.trees.invariant before is in
+    let (now, context, done, reading, are, comes) = c.trees.invariant before is in
     let (after, ready, written) = c.in_ok-write_next.ensures.written now context in
     let on = subst (λ b. IsNextWritten b config limit (levels_of walk) nexts old new now after) c.if-branch.true written in (
       after,
@@ -48,10 +54,11 @@ trees-preserved c before is =
       done ++ on.more,
       reads_on config limit trees before now after (first_level walk) (outer_of walk) nexts done reading old new on,
       replaced_more done on.more (begun c.args.source.now) old new are on.replaced,
+      comes_on config limit trees before now after (levels_of walk) nexts on.grown comes on.leads,
     )
 
-pub returns : goal.returns
-returns c before is =
+pub returns-clause-written : goal.returns-clause-written
+returns-clause-written c before is =
     let config : Config = config_of c.args.config.now in
     let limit = c.args.limit in
     let trees = c.args.tree.children in
@@ -59,7 +66,7 @@ returns c before is =
     let nexts = levels_of c.write_next.new.walk in
     let old : Writing = writing_of c.trees.output in
     let new : Writing = writing_of c.write_next.new.output in
-    let (now, context, done, reading, are) = c.trees.invariant before is in
+    let (now, context, done, reading, are, comes) = c.trees.invariant before is in
     let (after, ready, written) = c.in_ok-write_next.ensures.written now context in
     let (ended, same) = subst (λ b. IsNextWritten b config limit (levels_of walk) nexts old new now after) c.if-branch.false written in
     let (outcome, expands_to, splices) = reads_all config limit trees before now after (first_level walk) (outer_of walk) nexts done reading after ended in (
