@@ -30,10 +30,10 @@ pub mod Coming
 pub mod Parted
 pub mod PlaceRows
 pub mod Placing
+pub mod Preparing
 pub mod Readiness
 pub mod Replacing
-pub mod Rooting
-pub mod Rows
+pub mod PreparedRows
 pub mod SpliceRows
 pub mod Splicing
 pub mod Stacked

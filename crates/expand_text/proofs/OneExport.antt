@@ -15,7 +15,7 @@ use Rattle.expand_text.specs.declared.fault.MacroFault.TheVariants as wrong
 use Rattle.expand_text.specs.Contexts.{Config, Context, asks_for, new_context}
 use Rattle.expand_text.specs.Exports.{AreExported, AreRead, IsReadIfExported}
 use Rattle.expand_text.specs.Macros.{IsDefined, IsDefinedAt, IsDefinitionFault, IsPastLimit, IsReadIf, macro_of, macro_with}
-use Rattle.expand_text.specs.Roots.{rooted}
+use Rattle.expand_text.specs.Prepared.{prepared}
 use Rattle.expand_text.specs.Scopes.{Macro}
 use Rattle.expand_text.proofs.OneMacro.{one_spelled, no_rules_error}
 use Rattle.mbe_rules.specs.Arms.{Arm, Spell}
@@ -57,7 +57,7 @@ module _ (config : Config) where
       defined : (is_built_in : Bool) → IsDefinedAt is_built_in config.root it.position.is_open it.definition before a
           → IsDefinedAt is_built_in config.root it.position.is_open it.definition other b → a.macros ≡ b.macros
       defined true is was = ap (λ c. c.macros) is ∙ ap (λ ms. ms ++ macro_of it.definition wrong.BuiltIn None ∷ []) same ∙ sym (ap (λ c. c.macros) was)
-      defined false is was = one_defined it.position.is_open it.definition (rooted config.root it.definition.arms) before other same a b is was
+      defined false is was = one_defined it.position.is_open it.definition (prepared config.root it.definition.arms) before other same a b is was
 
       by : (asked : Bool) → IsReadIf asked config.root it.position it.definition before a → IsReadIf asked config.root it.position it.definition other b → a.macros ≡ b.macros
       by false is was = ap (λ c. c.macros) is ∙ same ∙ sym (ap (λ c. c.macros) was)

@@ -10,7 +10,7 @@ use Rattle.expand_text.specs.Contexts.{Config, Context, asks_for, with_macro, wi
 use Rattle.expand_text.specs.Limits.{is_limit, names_limit, KeepLimits}
 use Rattle.expand_text.specs.Macros.{macro_of, macro_with, IsDefinitionFault, found_in, IsDefined, IsDefinedAt, IsReadIf, IsRead, IsInputFault, IsCallFault, Writes, over_limit}
 use Rattle.expand_text.specs.Places.{byte_at, definition_byte}
-use Rattle.expand_text.specs.Roots.{rooted}
+use Rattle.expand_text.specs.Prepared.{prepared}
 use Rattle.expand_text.proofs.KeptLimits.{keep_found}
 use Rattle.expand_text.proofs.OneExpansion.{one_expansion, no_error, one_error}
 use Rattle.expand_text.proofs.OneMacro.{one_spelled, no_rules_error, one_rules_error}
@@ -63,7 +63,7 @@ one_read config position it before a b = by (asks_for config.only it.name.sym)
     defined : (is_built_in : Bool) → IsDefinedAt is_built_in config.root position.is_open it before a → IsDefinedAt is_built_in config.root position.is_open it before b
         → KeepLimits a.findings → KeepLimits b.findings → a ≡ b
     defined true is was x y = is ∙ sym was
-    defined false is was x y = one_defined position.is_open it (rooted config.root it.arms) before a b is was x y
+    defined false is was x y = one_defined position.is_open it (prepared config.root it.arms) before a b is was x y
 
     by : (asked : Bool) → IsReadIf asked config.root position it before a → IsReadIf asked config.root position it before b → KeepLimits a.findings → KeepLimits b.findings → a ≡ b
     by false is was x y = is ∙ sym was

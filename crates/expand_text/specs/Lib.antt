@@ -22,8 +22,8 @@ pub mod Meaning
 pub mod Outcomes
 pub mod Parts
 pub mod Places
+pub mod Prepared
 pub mod Reading
-pub mod Roots
 pub mod Scopes
 pub mod Stops
 pub mod Waiting

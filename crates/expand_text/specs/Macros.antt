@@ -17,7 +17,7 @@ use Rattle.expand_items.specs.declared.item.MacroPath.TheVariants as path
 use Rattle.expand_items.specs.declared.position.Position.{Position}
 use Rattle.expand_text.specs.Contexts.{Config, Context, asks_for, with_macro, with_finding}
 use Rattle.expand_text.specs.Places.{byte_at, definition_byte}
-use Rattle.expand_text.specs.Roots.{rooted}
+use Rattle.expand_text.specs.Prepared.{prepared}
 use Rattle.expand_text.specs.Scopes.{Macro, last_named}
 use Rattle.mbe_rules.specs.Arms.{Arm, Spell}
 use Rattle.mbe_rules.specs.Expansions.{IsExpansion, IsExpandErrorWithin}
@@ -82,7 +82,7 @@ IsBuiltIn it before after = after ≡ with_macro (macro_of it wrong.BuiltIn None
 -- such a macro is defined, or one of arms with the root's word for the root of the crate
 abbrev pub IsDefinedAt : (is_built_in : Bool) → (root : List ℕ) → (is_open : Bool) → Definition → (before after : Context) → Type 0
 IsDefinedAt true root is_open it before after = IsBuiltIn it before after
-IsDefinedAt false root is_open it before after = IsDefined is_open it (rooted root it.arms) before after
+IsDefinedAt false root is_open it before after = IsDefined is_open it (prepared root it.arms) before after
 
 -- a definition is read if macros of its name are
 abbrev pub IsReadIf : (asked : Bool) → (root : List ℕ) → Position → Definition → (before after : Context) → Type 0

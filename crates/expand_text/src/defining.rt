@@ -5,7 +5,7 @@ ghost use Rattle.expand_text.specs.Defining.{IsRules};
 ghost use Rattle.expand_items.specs.Items.{definition_of};
 ghost use Rattle.expand_text.specs.Contexts.{IsSameBudget, Learns, config_of};
 ghost use Rattle.expand_text.specs.Macros.{IsBuiltIn, IsDefined, IsRead, left_by};
-ghost use Rattle.expand_text.specs.Roots.{rooted};
+ghost use Rattle.expand_text.specs.Prepared.{prepared};
 ghost use Rattle.expand_text.specs.Scopes.{Macro as MacroOf, AreReady, last_named};
 
 use crate::config::Config;
@@ -13,7 +13,7 @@ use crate::context::Context;
 use crate::fault::MacroFault;
 use crate::memory::OutOfMemory;
 use crate::places::definition_place;
-use crate::root::rooted;
+use crate::prepared::prepared;
 use crate::scope::{Macro, Scope};
 use expand_items::{Definition, Position};
 use mbe_rules::{ArmFault, MacroRules};
@@ -29,11 +29,11 @@ pub(crate) enum Rules {
 
 // Reads the rules of a definition, with the root's word for each `$crate`.
 fn rules_of(config: &Config<'_>, definition: &Definition<'_>) -> Result<Rules, OutOfMemory>
-    ensures { IfOk result (IsRules (definition_of definition.now) (rooted config.now.root (rest_of definition.now.arms))) }
+    ensures { IfOk result (IsRules (definition_of definition.now) (prepared config.now.root (rest_of definition.now.arms))) }
 {
     let delimiter = definition.header.delimiter;
     let trees = definition.arms.remaining();
-    let arms = match rooted(config.alloc, delimiter, trees, &config.root) {
+    let arms = match prepared(config.alloc, delimiter, trees, &config.root) {
         Ok(arms) => arms,
         Err(TtFault::Memory) => return Err(OutOfMemory),
         Err(fault) => {
@@ -93,7 +93,7 @@ fn define(
     is_open: bool,
     definition: &Definition<'_>,
 ) -> Result<(), OutOfMemory>
-    ensures defined { OnOk result (Learns context.old context.new (IsDefined is_open (definition_of definition.now) (rooted config.now.root (rest_of definition.now.arms)))) }
+    ensures defined { OnOk result (Learns context.old context.new (IsDefined is_open (definition_of definition.now) (prepared config.now.root (rest_of definition.now.arms)))) }
     ensures kept { OnOk result (IsSameBudget context.old context.new) }
 {
     let name = definition.name.sym.clone()?;

@@ -5,7 +5,7 @@
 //! `expand_call` finds the macro of a call and has `mbe_rules` expand the input. `expand_tree` walks the expansion in the same way, and
 //! keeps a list of those that wait for the expansion of a call in them, at most as many as the limit. At the top, an `Output` of
 //! `syntax_edit` copies the text and replaces each call by its expansion, which is `loosened` and then written: on one line, or laid out by
-//! `syntax_layout`, whose `Sources` hold the text. `rooted` replaces `$crate` once per definition.
+//! `syntax_layout`, whose `Sources` hold the text. `prepared` replaces `$crate` once per definition.
 //!
 //! A definition or call with a fault stays in the text and yields a finding, with the calls that wrote it (`Caller`). A call one expansion
 //! too deep, or one for which too many tokens would be written, ends what comes of its call of the text: a macro that calls itself twice
@@ -34,7 +34,7 @@ mod part;
 mod placement;
 mod places;
 mod plain;
-mod root;
+mod prepared;
 mod scope;
 mod source;
 mod text;

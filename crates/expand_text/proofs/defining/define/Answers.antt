@@ -10,7 +10,7 @@ use Rattle.expand_text.specs.Defining.{IsRules}
 use Rattle.expand_items.specs.Items.{Definition, definition_of}
 use Rattle.expand_text.specs.Contexts.{Context, IsContext, with_macro, with_finding}
 use Rattle.expand_text.specs.Macros.{macro_of, macro_with, is_several, left_by, unless_several, found_in}
-use Rattle.expand_text.specs.Roots.{rooted}
+use Rattle.expand_text.specs.Prepared.{prepared}
 use Rattle.expand_text.specs.Scopes.{AreReady, AreRules, last_named}
 use Rattle.expand_text.proofs.Readiness.{ready_more, ready_unless}
 use Rattle.expand_text.proofs.defining.define.Goals as goal
@@ -19,7 +19,7 @@ use Rattle.expand_text.proofs.defining.define.Goals.{in-Context, in-Faulty+in_ok
 pub returns-clause-defined : goal.returns-clause-defined
 returns-clause-defined c context is =
     let it : Definition = definition_of c.args.definition.now in
-    let trees : Forest = rooted c.args.config.now.root (rest_of c.args.definition.now.arms) in
+    let trees : Forest = prepared c.args.config.now.root (rest_of c.args.definition.now.arms) in
     let name : c.in_ok-name.name ≡ it.name.sym = search rules in
     let place : c.start_of.result ≡ start_of it.name.span.range = search rules in
     let made : rust.Macro =

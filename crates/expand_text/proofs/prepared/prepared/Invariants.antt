@@ -4,14 +4,14 @@ use Rattle.tt.specs.Building.{lowest, depth}
 use Rattle.tt.specs.Forest.{size}
 use Rattle.tt.specs.Iters.{rest_of}
 use Rattle.tt.specs.Views.{trees_of}
-use Rattle.expand_text.specs.Roots.{rooted}
-use Rattle.expand_text.proofs.Rooting.{finished, work_left}
-use Rattle.expand_text.proofs.root.rooted.Given as goal
+use Rattle.expand_text.specs.Prepared.{prepared}
+use Rattle.expand_text.proofs.Preparing.{finished, work_left}
+use Rattle.expand_text.proofs.prepared.prepared.Given as goal
 
 abbrev pub invariant-tokens : goal.invariant-tokens
 invariant-tokens l =
     record {
-      whole : finished l.root (reverse l.outer.items) (rest_of l.rest) l.builder.stack ≡ lowest (rooted l.root (trees_of l.fn.trees));
+      whole : finished l.root (reverse l.outer.items) l.part (rest_of l.rest) l.builder.stack ≡ lowest (prepared l.root (trees_of l.fn.trees));
       entered : depth l.builder.stack ≡ length l.outer.items;
       top : l.builder.top ≡ l.fn.delimiter;
     }
