@@ -20,7 +20,7 @@ SECONDS = 60
 RUNS = 3
 # How many diagnostics the program shows of a file.
 MOST = 100
-TOKEN = re.compile(r"( *)(IDENT|PUNCH|LITERAL|SUBTREE) +(?:(.*) )?(\d+):(\d+)\.\.(\d+):(\d+)$")
+TOKEN = re.compile(r"( *)(IDENT|PUNCH|LITERAL|SUBTREE) +(?:(.*) )?(\d+):(\d+)\.\.(\d+):(\d+)$", re.S)
 NAME = re.compile(r"( *)([a-z][a-z_0-9]*)$")
 REFUSED = re.compile(r"error: [^\n]*\n +--> [^\n]*:(\d+):(\d+)\n")
 DEFINITION = "macro_rules! {} {{ ($($t:tt)*) => {{ let cuvolemin_a = 1; let cuvolemin_b = 2; }} }}"
@@ -58,14 +58,22 @@ class Text:
         return self.lines[int(line) - 1] + int(column) - 1
 
 
+def whole_lines(lines):
+    """The lines, each with those that a literal in it has."""
+    line = ""
+    for more in lines:
+        line = f"{line}\n{more}" if line else more
+        if TOKEN.match(line) or NAME.match(line):
+            yield line
+            line = ""
+
+
 def derivation(lines, text):
     """The derivation that these lines are."""
     root = Node("file")
     open_nodes = [(-1, root)]
-    for line in lines:
+    for line in whole_lines(lines):
         token, name = TOKEN.match(line), NAME.match(line)
-        if not token and not name:
-            continue
         depth = len((token or name)[1])
         if token:
             kind, start, end = token[2], text.at(token[4], token[5]), text.at(token[6], token[7])
@@ -178,7 +186,7 @@ def judged(program, path, text):
     done = subprocess.run((program, "tree", "--syntax", str(path)), capture_output=True, timeout=SECONDS, check=False)
     if done.returncode:
         return None
-    root = derivation(done.stdout.decode().splitlines(), Text(text))
+    root = derivation(done.stdout.decode().split("\n"), Text(text))
     calls = [it for it in calls_in(root) if it.name not in OTHERS and not it.name.startswith("r#")]
     item = next((it for node in root.below for it in node.below if it.kind == "item"), None)
     begin = min(it.start for it in item.tokens()) if item else len(text)

@@ -1,10 +1,9 @@
 use Rattle.std.proofs.Common.{rules, ◌≡◌, ◌<◌, ◌∷◌, ◌∙◌, List, true, false, inr, refl, ap, ap₂, sym, subst, arith}
-use Rattle.std.proofs.lemmas.Result.{IfOk-weaker}
 use Rattle.tt.specs.Forest.{size}
 use Rattle.tt.specs.Gluing.{after_trees}
 use Rattle.tt.specs.Iters.{rest_of}
 use Rattle.expand_items.specs.Inactive.{IsItemAt}
-use Rattle.expand_items.specs.Items.{Definition, definition_of, item_meant}
+use Rattle.expand_items.specs.Items.{Definition, call_of, definition_of, item_meant}
 use Rattle.expand_items.specs.declared.item.Item.TheVariants as item_of
 use Rattle.expand_items.proofs.Conditions.{definition_at_less}
 use Rattle.expand_items.proofs.ItemsAt.{defines_at, inactive_less}
@@ -64,12 +63,11 @@ returns-in_ok-read_definition-in-Definition-clause-chosen c before is =
       λ in_text. chosen_definition config in_text c.args.limit level outer before it others part (record { first = none; goes_on = sym is.is_over ∙ going; item = there }) read_there is_part,
     )
 
-pub returns-in-Call-clause-steps : goal.returns-in-Call-clause-steps
-returns-in-Call-clause-steps c =
+pub returns-in-Ok-clause-steps : goal.returns-in-Ok-clause-steps
+returns-in-Ok-clause-steps c =
     let walk = c.args.walk.now in
     let config = config_of c.args.config.now in
     let level : Level = first_level walk in
-    let outer : List Level = outer_of walk in
     let whole : rest_of c.rest.result ≡ level.rest = search rules in
     let named : c.as_str-root.result.now ≡ config.root = search rules in
     let at : c.level-level.result ≡ walk.level = search rules in
@@ -78,14 +76,28 @@ returns-in-Call-clause-steps c =
     (subst (λ l. IsItemAt config.known config.root l.position level.rest (item_meant c.in_ok-definition.field-0)) at
     (subst (λ n. IsItemAt config.known n c.level-level.result.position level.rest (item_meant c.in_ok-definition.field-0)) named
     (subst (λ f. IsItemAt config.known c.as_str-root.result.now c.level-level.result.position f (item_meant c.in_ok-definition.field-0)) whole c.in_ok-definition.ensures))) in
-    IfOk-weaker c.choose_call.result _ _ (λ choice steps. steps there) c.choose_call.ensures.steps
+    c.in-Ok.ensures.steps there
 
-pub returns-in-Call-clause-chosen : goal.returns-in-Call-clause-chosen
-returns-in-Call-clause-chosen c =
+pub returns-in-Ok-clause-first : goal.returns-in-Ok-clause-first
+returns-in-Ok-clause-first c =
     let walk = c.args.walk.now in
     let config = config_of c.args.config.now in
     let level : Level = first_level walk in
-    let outer : List Level = outer_of walk in
+    let whole : rest_of c.rest.result ≡ level.rest = search rules in
+    let named : c.as_str-root.result.now ≡ config.root = search rules in
+    let at : c.level-level.result ≡ walk.level = search rules in
+    let there : IsItemAt config.known config.root level.position level.rest (item_meant (item_of.Call c.in-Call.call)) =
+    subst (λ r. IsItemAt config.known config.root level.position level.rest (item_meant r)) c.in-Call.is
+    (subst (λ l. IsItemAt config.known config.root l.position level.rest (item_meant c.in_ok-definition.field-0)) at
+    (subst (λ n. IsItemAt config.known n c.level-level.result.position level.rest (item_meant c.in_ok-definition.field-0)) named
+    (subst (λ f. IsItemAt config.known c.as_str-root.result.now c.level-level.result.position f (item_meant c.in_ok-definition.field-0)) whole c.in_ok-definition.ensures))) in
+    c.in-Ok.ensures.first there
+
+pub returns-in-Ok-clause-chosen : goal.returns-in-Ok-clause-chosen
+returns-in-Ok-clause-chosen c before is =
+    let walk = c.args.walk.now in
+    let config = config_of c.args.config.now in
+    let level : Level = first_level walk in
     let whole : rest_of c.rest.result ≡ level.rest = search rules in
     let named : c.as_str-root.result.now ≡ config.root = search rules in
     let at : c.level-level.result ≡ walk.level = search rules in
@@ -96,10 +108,23 @@ returns-in-Call-clause-chosen c =
     (subst (λ f. IsItemAt config.known c.as_str-root.result.now c.level-level.result.position f (item_meant c.in_ok-definition.field-0)) whole c.in_ok-definition.ensures))) in
     let none : level.plain ≡ 0 = search (rules, arith) in
     let going : c.args.context.now.is_over ≡ false = search rules in
-    IfOk-weaker c.choose_call.result _ _
-    (λ choice chosen. λ before is.
-    let (others, known, goes) = chosen before is in
-    (others, known, goes (record { first = none; goes_on = sym is.is_over ∙ going; item = there }))) c.choose_call.ensures.chosen
+    let (others, known, goes) = c.in-Ok.ensures.chosen before is in
+    (others, known, goes (record { first = none; goes_on = sym is.is_over ∙ going; item = there }))
+
+pub returns-in-Err-clause-stop : goal.returns-in-Err-clause-stop
+returns-in-Err-clause-stop c =
+    let walk = c.args.walk.now in
+    let config = config_of c.args.config.now in
+    let level : Level = first_level walk in
+    let whole : rest_of c.rest.result ≡ level.rest = search rules in
+    let named : c.as_str-root.result.now ≡ config.root = search rules in
+    let at : c.level-level.result ≡ walk.level = search rules in
+    let there : IsItemAt config.known config.root level.position level.rest (item_meant (item_of.Call c.in-Call.call)) =
+    subst (λ r. IsItemAt config.known config.root level.position level.rest (item_meant r)) c.in-Call.is
+    (subst (λ l. IsItemAt config.known config.root l.position level.rest (item_meant c.in_ok-definition.field-0)) at
+    (subst (λ n. IsItemAt config.known n c.level-level.result.position level.rest (item_meant c.in_ok-definition.field-0)) named
+    (subst (λ f. IsItemAt config.known c.as_str-root.result.now c.level-level.result.position f (item_meant c.in_ok-definition.field-0)) whole c.in_ok-definition.ensures))) in
+    (call_of c.in-Call.call, there, c.begin_byte.ensures)
 
 pub returns-in-Inactive-clause-steps : goal.returns-in-Inactive-clause-steps
 returns-in-Inactive-clause-steps c =

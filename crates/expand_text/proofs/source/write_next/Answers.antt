@@ -1,6 +1,8 @@
 use Rattle.std.proofs.Common.{true, refl, sym, subst}
 use Rattle.expand_text.specs.Contexts.{config_of}
 use Rattle.expand_text.specs.Events.{IsNext}
+use Rattle.expand_text.specs.Stops.{IsEventFirst, IsStop}
+use Rattle.expand_text.specs.declared.next.Event.TheVariants as event
 use Rattle.expand_text.specs.Walks.{first_level, outer_of, levels_of, front_in, past_in}
 use Rattle.expand_text.specs.Writing.{IsWrittenOn}
 use Rattle.syntax_edit.specs.Texts.{writing_of}
@@ -64,6 +66,13 @@ returns-in-Stays-clause-written c before is =
           (writes_stay config c.args.limit (first_level walk) (outer_of walk) (past_in part here) text before others (front_in part here)
           (subst (λ e. IsNext config true c.args.limit (levels_of walk) before e here others) c.in-Stays.is (next true))),
     )
+
+pub returns-in_err-write_call-in-Invocation-clause-stop : goal.returns-in_err-write_call-in-Invocation-clause-stop
+returns-in_err-write_call-in-Invocation-clause-stop c =
+    let config = config_of c.args.config.now in
+    let levels = levels_of c.args.walk.now in
+    let first : IsEventFirst config levels (event.Invocation c.in-Invocation.call c.in-Invocation.tree) = subst (IsEventFirst config levels) c.in-Invocation.is c.in_ok-next.ensures.first in
+    subst (IsStop config levels) (sym c.in_err-write_call-in-Invocation.ensures.stop) first
 
 pub returns-in_ok-write_call-in-Invocation-clause-written : goal.returns-in_ok-write_call-in-Invocation-clause-written
 returns-in_ok-write_call-in-Invocation-clause-written c before is =
