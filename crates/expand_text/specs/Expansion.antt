@@ -89,7 +89,7 @@ pub record ReadsAs (text : List ℕ) (left : List Sort) : Type 0 where
   pub reads : (part : SpanPart) (again : Root) → IsParse part text again → sorts (spelled again.children) ≡ left
 
 -- a text that is read as trees, and its expansion: each call is replaced by a text that spells its expansion, and all other text stays
--- byte for byte. The result reads back as the trees that are left
+-- byte for byte, but for lines of which only white space is left. The result reads back as the trees that are left
 pub record IsExpanded (options : ExpandOptions) (source : List ℕ) (it : Expanded) : Type 0 where
   pub tree : Root
   pub read : IsParse text_part source tree

@@ -27,7 +27,7 @@ abbrev pub cut_behind : (goes : List ℕ → Bool) → Part → Writing → Writ
 cut_behind goes (word it) writing = writing
 cut_behind goes (rules it) writing = if goes it.name then replaced (cut_of it) writing else writing
 
--- a text without the definitions that are not needed, of those that may go; all else stays byte for byte
+-- a text without the definitions that are not needed, of those that may go; all else stays, but for lines of which only white space is left
 pub record IsWithout (choice : Choice) (source result : List ℕ) : Type 0 where
   pub tree : Root
   pub read : IsParse text_part source tree

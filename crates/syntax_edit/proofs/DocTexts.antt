@@ -153,7 +153,7 @@ without_suffix_is P suffix text all part = go (ends_with nat_eq text suffix) ref
     go false e = all (λ front is. false≢true (sym e ∙ (ends_is Decides-eqb text suffix _ refl).1 front is))
 
 -- a text after and before ASCII characters
-utf8_behind : (c : ℕ) (rest : List ℕ) → c < 128 → IsUtf8 (c ∷ rest) → IsUtf8 rest
+pub utf8_behind : (c : ℕ) (rest : List ℕ) → c < 128 → IsUtf8 (c ∷ rest) → IsUtf8 rest
 utf8_behind c rest low utf8 = IsUtf8-past_char (c ∷ rest) rest c utf8 (ap (λ t. t ++ rest) (sym (encode_ascii c low)))
 
 pub utf8_before : (xs ys : List ℕ) → IsUtf8 ys → IsUtf8 (xs ++ ys) → IsUtf8 xs

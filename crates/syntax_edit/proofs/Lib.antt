@@ -20,7 +20,12 @@ pub mod Tokens
 pub mod KindFacts
 pub mod Touches
 pub mod Seams
+pub mod Blanks
+pub mod Connecting
+pub mod Whites
 pub mod Sources
+pub mod LineCuts
+pub mod Glued
 pub mod Placed
 pub mod Spelling
 pub mod Spliced

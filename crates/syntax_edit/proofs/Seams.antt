@@ -84,7 +84,7 @@ blank_some : (w : List ℕ) → IsBlank w → chars w ≢ []
 blank_some w it e = omega (arith, ap length (sym it.letters ∙ e))
 
 -- white space as a chunk
-abbrev blank : List ℕ → Chunk
+abbrev pub blank : List ℕ → Chunk
 blank w = record { text = w; kind = kinds.Whitespace; role = Nothing; means = [] }
 
 -- a chunk that begins with white space is white space
@@ -122,7 +122,7 @@ empty_front [] ys e = refl
 empty_front (x ∷ xs) ys e = absurd (omega (arith, ap length e))
 
 -- white space with none after it
-blank_is : (w : List ℕ) (chunks : List Chunk) → IsBlank w → behind is_whitespace (text chunks) ≡ text chunks → IsChunk (blank w) chunks
+pub blank_is : (w : List ℕ) (chunks : List Chunk) → IsBlank w → behind is_whitespace (text chunks) ≡ text chunks → IsChunk (blank w) chunks
 blank_is w chunks it none = record {
   utf8 = it.utf8;
   some = blank_some w it;

@@ -1,73 +1,57 @@
 -- The chunks of a text in which trees are spliced, and the reading of that text.
-use Rattle.std.proofs.Common.{◌≡◌, ◌<◌, true, false, List, [], ◌∷◌, length, None, Some, refl, sym, ap, ◌∙◌, subst, arith, append-nil, ℕ, ◌+◌, ◌-◌, ◌++◌, take, drop, Option, ap₂, append_assoc}
+use Rattle.std.proofs.Common.{◌≡◌, ◌<◌, Bool, true, false, List, [], ◌∷◌, length, None, Some, refl, sym, ap, ◌∙◌, subst, arith, ℕ, ◌+◌, ◌-◌, ◌++◌, take, drop, Option, ap₂, append_assoc}
 use Rattle.std.proofs.Math.Seq.{drop-append_seam, take-append_seam}
 use Rattle.std.proofs.lemmas.Bool.{false≢true}
-use Rattle.std.specs.List.{slice_get}
 use Rattle.std.specs.Str.{chars, IsUtf8}
 use Rattle.syntax_edit.proofs.Placed.{all_from, before_front, every_append, every_more, from_back, front_pieces, pieces_in, pieces_in-is}
-use Rattle.syntax_edit.proofs.Seams.{Made, AreSound, last_append, match_behind, seam}
+use Rattle.syntax_edit.proofs.Connecting.{connected_assoc}
+use Rattle.syntax_edit.proofs.Glued.{glue, match_same}
+use Rattle.syntax_edit.proofs.Seams.{Made, AreSound, seam}
 use Rattle.syntax_edit.proofs.Sources.{cut_chunks, front_not_line, joined-append, neutral, rest_text, bytes_are, split, Parsed, are_back, sound_back, sound_chunks, sound_front, match_front, parsed}
 use Rattle.syntax_edit.proofs.Spelling.{spelled_chunks}
-use Rattle.syntax_edit.proofs.Touches.{last_of}
 use Rattle.syntax_edit.specs.Kept.{ends_in_line}
 use Rattle.syntax_edit.specs.Splices.{IsSpelling, Splice, begins_with_name, ends_in_point, replacements_of, ArePlaces, before_byte, from_byte, woven}
-use Rattle.syntax_edit.specs.Texts.{begun, joined as with_seam, wants_space, with_all}
+use Rattle.syntax_edit.specs.Texts.{begun, connected, joined as with_seam, with_all}
 use Rattle.syntax_lex.proofs.TokenFacts.{one_list}
 use Rattle.syntax_lex.specs.Reading.{AreTokensOf, bytes_of}
 use Rattle.syntax_lex.specs.declared.token.Token.{Token}
-use Rattle.syntax_lex.specs.declared.token.TokenKind.TheVariants as kinds
 use Rattle.syntax_parse.specs.Faults.{fault_from}
 use Rattle.syntax_parse.specs.Parsed.{IsParse, pieces_from}
 use Rattle.syntax_parse.specs.Refusal.{IsFaultOf}
 use Rattle.syntax_parse.specs.Spelled.{Sort, spelled}
-use Rattle.syntax_parse.specs.declared.bracket.Bracket.{Bracket}
 use Rattle.syntax_parse.specs.declared.fault.SyntaxFault.{SyntaxFault}
 use Rattle.syntax_unparse.proofs.Chunks.{AreChunks, Chunk, joined, match, means_of, tokens_of, no_fault, pieces_are, tokens_are}
-use Rattle.syntax_unparse.proofs.Fronts.{not_nil}
 use Rattle.syntax_unparse.specs.Marks.{marks}
 use Rattle.syntax_unparse.specs.Settled.{settled, sorts}
 use Rattle.tt_base.specs.Forest.{Forest, Root}
-use Rattle.tt_base.specs.TreeText.{space_if}
 use Rattle.tt_base.specs.declared.span.SpanPart.{SpanPart}
 
--- a text that is joined with an empty text is the text
-seam_nil : (a : List ℕ) → with_seam a [] ≡ a
-seam_nil a = by (last_of a)
-  where
-    by : (last : Option ℕ) → (a ++ space_if (wants_space last None)) ++ [] ≡ a
-    by None = append-nil (a ++ []) ∙ append-nil a
-    by (Some l) = append-nil (a ++ []) ∙ append-nil a
-
--- texts may be joined in any order
-pub seam_assoc : (a b c : List ℕ) → with_seam (with_seam a b) c ≡ with_seam a (with_seam b c)
-seam_assoc a [] c = ap (λ t. with_seam t c) (seam_nil a)
-seam_assoc a (d ∷ bs) c =
-    let b = d ∷ bs in
-    let front = a ++ space_if (wants_space (last_of a) (Some d)) in
-    let space = space_if (wants_space (last_of b) (slice_get c 0)) in
-    ap (λ l. ((front ++ b) ++ space_if (wants_space l (slice_get c 0))) ++ c) (last_append front b (not_nil d bs))
-    ∙ ap (λ t. t ++ c) (append_assoc front b space)
-    ∙ append_assoc front (b ++ space) c
-
--- a text that begins at a byte, with trees spliced in
+-- a text that begins at a byte, with trees spliced in; it reaches the end of the text, and not its beginning
 abbrev pub spliced : List Splice → (at : ℕ) → List ℕ → List ℕ
 spliced [] at t = t
-spliced (it ∷ others) at t = with_seam (take (it.start - at) t) (with_seam it.text (spliced others it.end (drop (it.end - at) t)))
+spliced (it ∷ others) at t = connected false true (take (it.start - at) t) (connected false true it.text (spliced others it.end (drop (it.end - at) t)))
+
+-- a text with trees spliced in
+abbrev pub all_spliced : List Splice → List ℕ → List ℕ
+all_spliced [] t = t
+all_spliced (it ∷ others) t = connected true true (take (it.start - 0) t) (connected false true it.text (spliced others it.end (drop (it.end - 0) t)))
 
 -- the spliced text is what is written
-pub written_all : (splices : List Splice) (so_far rest : List ℕ) (at : ℕ) → with_all (replacements_of splices) (record { so_far = so_far; rest = rest; at = at }) ≡ with_seam so_far (spliced splices at rest)
-written_all [] so_far rest at = refl
-written_all (it ∷ others) so_far rest at =
+written_on : (splices : List Splice) (so_far rest : List ℕ) (at : ℕ) → with_all (replacements_of splices) (record { so_far = so_far; rest = rest; at = at; is_changed = true }) ≡ connected true true so_far (spliced splices at rest)
+written_on [] so_far rest at = refl
+written_on (it ∷ others) so_far rest at =
     let kept = take (it.start - at) rest in
     let more = spliced others it.end (drop (it.end - at) rest) in
-    written_all others (with_seam (with_seam so_far kept) it.text) (drop (it.end - at) rest) it.end
-    ∙ seam_assoc (with_seam so_far kept) it.text more
-    ∙ seam_assoc so_far kept (with_seam it.text more)
+    written_on others (connected true false (connected true false so_far kept) it.text) (drop (it.end - at) rest) it.end
+    ∙ connected_assoc true true (connected true false so_far kept) it.text more
+    ∙ connected_assoc true true so_far kept (connected false true it.text more)
 
--- two lists of chunks that match the same open brackets also do so with the same chunks before them
-match_same : (front xs ys : List Chunk) → ((before : List Bracket) → match before xs ≡ match before ys) → (before : List Bracket) → match before (front ++ xs) ≡ match before (front ++ ys)
-match_same [] xs ys same before = same before
-match_same (x ∷ front) xs ys same before = match_behind x (front ++ xs) (front ++ ys) (match_same front xs ys same) before
+pub written_all : (splices : List Splice) (text : List ℕ) → with_all (replacements_of splices) (begun text) ≡ all_spliced splices text
+written_all [] text = refl
+written_all (it ∷ others) text =
+    let kept = take (it.start - 0) text in
+    let rest = drop (it.end - 0) text in
+    written_on others (connected true false kept it.text) rest it.end ∙ connected_assoc true true kept it.text (spliced others it.end rest)
 
 -- chunks that begin at a byte, cut where trees are spliced in, and what is read then
 pub data Cuts : List Splice → (at : ℕ) → List Chunk → List Sort → Type 0 where
@@ -87,19 +71,24 @@ abbrev pub Spliced : List Splice → (at : ℕ) → List Chunk → List Sort →
 Spliced splices at chunks all = Made (spliced splices at (joined chunks)) all chunks
 
 -- one splice, if the others are done
-splice_one : (it : Splice) (others : List Splice) (at : ℕ) (kept inside rest : List Chunk) (after : List Sort) → AreChunks (kept ++ (inside ++ rest)) → AreSound kept
+splice_one : (is_first : Bool) (it : Splice) (others : List Splice) (at : ℕ) (kept inside rest : List Chunk) (after : List Sort) → AreChunks (kept ++ (inside ++ rest)) → AreSound kept
     → it.start ≡ at + length (joined kept) → it.end ≡ it.start + length (joined inside) → begins_with_name (tokens_of (inside ++ rest)) ≡ true → match [] inside ≡ true → ends_in_point (tokens_of kept) ≡ false
-    → IsSpelling it.trees it.text → Spliced others it.end rest after → Spliced (it ∷ others) at (kept ++ (inside ++ rest)) (means_of kept ++ (settled (marks 0 it.trees) ++ after))
-splice_one it others at kept inside rest after are sound start stop named matched apart spelling inner =
+    → IsSpelling it.trees it.text → Spliced others it.end rest after
+    → Made (connected is_first true (take (it.start - at) (joined (kept ++ (inside ++ rest)))) (connected false true it.text (spliced others it.end (drop (it.end - at) (joined (kept ++ (inside ++ rest)))))))
+    (means_of kept ++ (settled (marks 0 it.trees) ++ after)) (kept ++ (inside ++ rest))
+splice_one is_first it others at kept inside rest after are sound start stop named matched apart spelling inner =
     let trees = spelled_chunks it.trees it.text spelling in
-    let (later, later_begins) = seam trees.chunks inner.new trees.are (sound_chunks [] trees.chunks trees.are trees.matched) trees.line inner.are in
-    let (all, all_begins) = seam kept later.new (cut_chunks kept (inside ++ rest) are sound named apart) sound (front_not_line kept (inside ++ rest) are named) later.are in
+    let later = glue false true trees.chunks inner.new trees.are (sound_chunks [] trees.chunks trees.are trees.matched) trees.line inner.are in
+    let all = glue is_first true kept later.new (cut_chunks kept (inside ++ rest) are sound named apart) sound (front_not_line kept (inside ++ rest) are named) later.are in
     let whole : joined (kept ++ (inside ++ rest)) ≡ joined kept ++ joined (inside ++ rest) = joined-append kept (inside ++ rest) in
     let front : take (it.start - at) (joined (kept ++ (inside ++ rest))) ≡ joined kept = ap₂ (λ n t. take n t) (omega (arith, start)) whole ∙ take-append_seam (joined kept) (joined (inside ++ rest)) in
     record {
       new = all.new;
       are = all.are;
-      text_is = all.text_is ∙ ap₂ (λ t u. with_seam t u) (sym front) (later.text_is ∙ ap₂ (λ t u. with_seam t u) trees.text_is (inner.text_is ∙ ap (spliced others it.end) (sym (rest_text at it.start it.end kept inside rest start stop))));
+      text_is =
+          all.text_is
+          ∙ ap₂ (λ t u. connected is_first true t u) (sym front)
+          (later.text_is ∙ ap₂ (λ t u. connected false true t u) trees.text_is (inner.text_is ∙ ap (spliced others it.end) (sym (rest_text at it.start it.end kept inside rest start stop))));
       matches = λ before.
           all.matches before
           ∙ match_same kept later.new (inside ++ rest)
@@ -109,10 +98,19 @@ splice_one it others at kept inside rest after are sound start stop named matche
 
 -- all splices
 splice_all : {splices : List Splice} {at : ℕ} {chunks : List Chunk} {all : List Sort} → Cuts splices at chunks all → AreChunks chunks → AreSound chunks → Spliced splices at chunks all
-splice_all (whole {chunks = chunks}) are sound = record { new = chunks; are = are; text_is = refl; matches = λ before. refl; means = refl }
+splice_all (whole {chunks = chunks}) are sound = record { new = chunks; are = are; text_is = refl; means = refl; matches = λ before. refl }
 splice_all (cut {it = it} {others = others} {at = at} kept inside rest {all = all} start stop named matched apart spelling later) are sound =
     let inner = splice_all later (are_back inside rest (are_back kept (inside ++ rest) are)) (sound_back inside rest (sound_back kept (inside ++ rest) sound)) in
-    splice_one it others at kept inside rest all are (sound_front kept (inside ++ rest) sound) start stop named matched apart spelling inner
+    splice_one false it others at kept inside rest all are (sound_front kept (inside ++ rest) sound) start stop named matched apart spelling inner
+
+-- and the first is that of the text
+splice_text : {splices : List Splice} {at : ℕ} {chunks : List Chunk} {all : List Sort} → at ≡ 0 → Cuts splices at chunks all → AreChunks chunks → AreSound chunks → Made (all_spliced splices (joined chunks)) all chunks
+splice_text begins (whole {chunks = chunks}) are sound = record { new = chunks; are = are; text_is = refl; means = refl; matches = λ before. refl }
+splice_text begins (cut {it = it} {others = others} {at = at} kept inside rest {all = all} start stop named matched apart spelling later) are sound =
+    let chunks = kept ++ (inside ++ rest) in
+    let inner = splice_all later (are_back inside rest (are_back kept (inside ++ rest) are)) (sound_back inside rest (sound_back kept (inside ++ rest) sound)) in
+    subst (λ n. Made (connected true true (take (it.start - n) (joined chunks)) (connected false true it.text (spliced others it.end (drop (it.end - n) (joined chunks))))) (means_of kept ++ (settled (marks 0 it.trees) ++ all)) chunks) begins
+    (splice_one true it others at kept inside rest all are (sound_front kept (inside ++ rest) sound) start stop named matched apart spelling inner)
 
 -- the reading of a text, without a fault
 pub record Reads (t : List ℕ) (all : List Sort) : Type 0 where
@@ -133,9 +131,9 @@ chunks_read chunks t all are matched is means = subst (λ u. Reads u all) is (re
 pub cuts_read : (part : SpanPart) (text : List ℕ) (tokens : List Token) (trees : Forest) (splices : List Splice) (all : List Sort) → (it : Parsed part text tokens trees) → Cuts splices 0 it.chunks all
     → Reads (with_all (replacements_of splices) (begun text)) all
 cuts_read part text tokens trees splices all it cuts =
-    let done = splice_all cuts it.are it.sound in
+    let done = splice_text refl cuts it.are it.sound in
     chunks_read done.new (with_all (replacements_of splices) (begun text)) all done.are (done.matches [] ∙ it.matched)
-    (done.text_is ∙ ap (spliced splices 0) it.text_is ∙ sym (written_all splices [] text 0)) done.means
+    (done.text_is ∙ ap (all_spliced splices) it.text_is ∙ sym (written_all splices text)) done.means
 
 -- so its trees are read, and it has no fault of syntax
 pub reads_back : (part : SpanPart) (t : List ℕ) (root : Root) (all : List Sort) → Reads t all → IsParse part t root → sorts (spelled root.children) ≡ all

@@ -1,5 +1,6 @@
 -- A text with replaced parts, and where its trees lie in it.
 pub mod Laid
+pub mod Lines
 pub mod Places
 pub mod Texts
 -- Trees that were read, and whether they can be written.

@@ -1,8 +1,9 @@
 -- A text in which other texts replace parts of it.
-use Rattle.std.specs.Prelude.{◌≡◌, ◌⊎◌, ◌≤◌, ◌-◌, ◌++◌, ◌||◌, ◌&&◌, ◌==◌, ℕ, not, Bool, false, List, [], ◌∷◌, length, take, drop, slice_get, Option, None, Some, codes, string_bytes}
+use Rattle.std.specs.Prelude.{◌≡◌, ◌⊎◌, ◌≤◌, ◌-◌, ◌++◌, ◌||◌, ◌&&◌, ◌==◌, ℕ, not, Bool, true, false, List, [], ◌∷◌, length, take, drop, slice_get, Option, None, Some, codes, string_bytes}
 use Rattle.std.specs.List.{list_any}
 use Rattle.std.specs.Str.{IsCharBoundary}
 use Rattle.tt.specs.TreeText.{space_if}
+use Rattle.syntax_edit.specs.Lines.{before_line, behind_line, without_line}
 use Rattle.syntax_edit.specs.declared.output.Output.{Output}
 
 -- white space and brackets: a token ends before such a byte, and one begins after it, whatever is around
@@ -45,30 +46,36 @@ wants_space (Some last) (Some first) = not (may_touch last first)
 abbrev pub joined : (before behind : List ℕ) → List ℕ
 joined before behind = before ++ space_if (wants_space (slice_get before (length before - 1)) (slice_get behind 0)) ++ behind
 
+-- One text after the other. If the line in which they meet is blank, it goes.
+abbrev pub connected : (is_first is_last : Bool) → (before behind : List ℕ) → List ℕ
+connected is_first is_last before behind = without_line (before_line is_first before) (behind_line is_last behind) (joined before behind)
+
 -- what replaces the bytes from a place to another
 pub record Replacement : Type 0 where
   pub start : ℕ
   pub end : ℕ
   pub text : List ℕ
 
--- the text that is written so far, and the rest of the source, which begins at byte `at`
+-- the text that is written so far, the rest of the source, which begins at byte `at`, and whether a part was replaced
 pub record Writing : Type 0 where
   pub so_far : List ℕ
   pub rest : List ℕ
   pub at : ℕ
+  pub is_changed : Bool
 
 -- the source up to a replacement is written as it is, and then the replacement
 abbrev pub replaced : Replacement → Writing → Writing
 replaced it writing =
     record {
-      so_far = joined (joined writing.so_far (take (it.start - writing.at) writing.rest)) it.text;
+      so_far = connected true false (connected writing.is_changed false writing.so_far (take (it.start - writing.at) writing.rest)) it.text;
       rest = drop (it.end - writing.at) writing.rest;
       at = it.end;
+      is_changed = true;
     }
 
 -- all of the source is written
 abbrev pub finished : Writing → List ℕ
-finished writing = joined writing.so_far writing.rest
+finished writing = connected writing.is_changed true writing.so_far writing.rest
 
 -- a range of a text that splits no character
 pub record IsRange (text : List ℕ) (start end : ℕ) : Type 0 where
@@ -84,7 +91,7 @@ pub record FitsIn (start end : ℕ) (writing : Writing) : Type 0 where
 
 -- nothing of a source is written
 abbrev pub begun : (source : List ℕ) → Writing
-begun source = record { so_far = []; rest = source; at = 0 }
+begun source = record { so_far = []; rest = source; at = 0; is_changed = false }
 
 -- a source with all these replacements
 abbrev pub with_all : List Replacement → Writing → List ℕ
@@ -107,4 +114,4 @@ AreReplaced (it ∷ others) old new = (next : Writing) × IsReplaced it old next
 
 -- the meaning of the code's value
 abbrev pub writing_of : Output → Writing
-writing_of it = record { so_far = string_bytes it.text; rest = it.rest.now; at = it.at }
+writing_of it = record { so_far = string_bytes it.text; rest = it.rest.now; at = it.at; is_changed = it.is_changed }

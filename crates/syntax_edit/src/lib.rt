@@ -1,7 +1,8 @@
 //! A text in which other texts replace parts of it, and how it reads.
 //!
 //! `Output` copies the text up to a replaced part, adds the replacement with a space on a side at which two tokens would become one, and
-//! continues after the part. `parse` reads the tree of a text; `begin_at`, `start_of` and `end_of` give the bytes of its trees.
+//! continues after the part. If only white space is left in a line, the line goes; `lines` finds it where two texts meet. `parse` reads the
+//! tree of a text; `begin_at`, `start_of` and `end_of` give the bytes of its trees.
 //!
 //! `laws`: trees read from a text can be written and are read again. `splices`: also when trees replace parts of the text.
 //!
@@ -9,6 +10,7 @@
 #![tactic(auto)]
 
 pub mod laws;
+mod lines;
 mod output;
 mod place;
 pub mod splices;

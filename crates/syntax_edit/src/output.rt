@@ -1,7 +1,8 @@
 //! A text in which other texts replace parts of it.
 ghost use Rattle.std.specs.Prelude.{◌≡◌, ◌≤◌, IfOk, OnOk, MatchBool, MatchOption, take, drop, slice_get, length, ◌-◌, string_bytes};
-ghost use Rattle.syntax_edit.specs.Texts.{is_apart, is_separator, is_sign, may_touch, wants_space, joined, IsRange};
+ghost use Rattle.syntax_edit.specs.Texts.{is_apart, is_separator, is_sign, may_touch, wants_space, joined, connected, IsRange};
 
+use crate::lines::{behind_line, last_begin};
 use std::alloc::{AllocError, Global};
 
 /// The text that is written so far, and the rest of the source.
@@ -11,6 +12,8 @@ pub struct Output<'t> {
     rest: &'t str,
     /// The byte at which the rest begins.
     at: usize,
+    /// Whether a part was replaced.
+    is_changed: bool,
 }
 
 // Returns whether a token ends before the byte, and one begins after it, whatever is around.
@@ -95,6 +98,25 @@ fn push_apart(text: &mut String, more: &str) -> Result<(), AllocError>
     text.push_str(more)
 }
 
+// Adds a text. If the line in which the two meet is blank, it goes. `is_first` and `is_last` say that it may be the first line of all, and the
+// last.
+fn push_connected(
+    is_first: bool,
+    is_last: bool,
+    text: &mut String,
+    more: &str,
+) -> Result<(), AllocError>
+    ensures { OnOk result (string_bytes text.new ≡ connected is_first is_last (string_bytes text.old) more.now) }
+{
+    if let Some(rest) = behind_line(is_last, more) {
+        if let Some(begin) = last_begin(is_first, text.as_str()) {
+            text.truncate(begin);
+            return text.push_str(rest);
+        }
+    }
+    push_apart(text, more)
+}
+
 // Returns what precedes and what follows a range of a text, if the bytes are a range of it.
 fn cut(text: &str, start: usize, end: usize) -> Option<(&str, &str)>
     ensures { MatchOption result (IsRange text.now start end → ⊥) (λ parts. IsRange text.now start end × (parts.0.now ≡ take start text.now) × (parts.1.now ≡ drop end text.now)) }
@@ -118,6 +140,7 @@ impl<'t> Output<'t> {
             text: String::new(alloc),
             rest: source,
             at: 0,
+            is_changed: false,
         }
     }
 
@@ -131,7 +154,7 @@ impl<'t> Output<'t> {
     }
 
     /// Writes the source up to the bytes from a place to another, and that text in place of the bytes. Returns whether the bytes are in the
-    /// rest of the source; writes nothing if they are not.
+    /// rest of the source; writes nothing if they are not. The line of the bytes goes if only white space is left in it.
     pub fn replace(&mut self, start: usize, end: usize, other: &str) -> Result<bool, AllocError>
         ensures { IfOk result (λ fits. MatchBool fits
             (FitsIn start end (writing_of self.old) × (writing_of self.new ≡ replaced (record { start = start; end = end; text = other.now }) (writing_of self.old)))
@@ -140,10 +163,11 @@ impl<'t> Output<'t> {
         let Some((before, behind)) = self.cut(start, end) else {
             return Ok(false);
         };
-        push_apart(&mut self.text, before)?;
-        push_apart(&mut self.text, other)?;
+        push_connected(self.is_changed, false, &mut self.text, before)?;
+        push_connected(true, false, &mut self.text, other)?;
         self.rest = behind;
         self.at = end;
+        self.is_changed = true;
         Ok(true)
     }
 
@@ -152,7 +176,7 @@ impl<'t> Output<'t> {
         ensures { IfOk result (λ text. string_bytes text ≡ finished (writing_of self.entry)) }
     {
         let rest = self.rest;
-        push_apart(&mut self.text, rest)?;
+        push_connected(self.is_changed, true, &mut self.text, rest)?;
         Ok(self.text)
     }
 }

@@ -1,4 +1,4 @@
-// Results that are nothing: the lines of the calls stay.
+// Results that are nothing: the line of a call stays if a `;` is left in it.
 macro_rules! nothing {
     ($($any:tt)*) => {};
 }
