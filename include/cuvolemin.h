@@ -69,9 +69,9 @@ struct cuvolemin_token {
     size_t context;
 };
 
-/* A Rust text with the calls of its own macros expanded. All else stays byte for byte. What a call becomes is laid out like the template and
- * the input that it comes from, with the indentation of the call. Up to 128 expansions may be nested, and
- * a call with all that comes of it may write 4,000,000 tokens; 64 KiB of stack were enough when measured. $crate becomes crate. A call
+/* A Rust text with the calls of its own macros expanded. All else stays byte for byte, but for lines in which nothing is left. What a call
+ * becomes is laid out like the template and the input that it comes from, with the indentation of the call. Up to 128 expansions may be
+ * nested, and a call with all that comes of it may write 4,000,000 tokens; 64 KiB of stack were enough when measured. $crate becomes crate. A call
  * under #[cfg(..)] stays only if the condition cannot apply to each part of its expansion. A call of a macro whose last definition is under
  * #[cfg(..)] stays if another definition of the name is in scope.
  * Faults: 1 to 44; 81 to 92 but for 84, of definitions; 100 to 108, of calls; and 5 to 9 of either. *at is a byte of the text; 0 for faults

@@ -83,7 +83,8 @@ impl Finding {
     }
 }
 
-/// The Rust text with the calls of its macros expanded, and all that is found. All else stays byte for byte.
+/// The Rust text with the calls of its macros expanded, and all that is found. All else stays byte for byte, but for lines in which
+/// nothing is left.
 ///
 /// An error has the byte of the text at which it shows: the text has no tree, or memory ran out. `Fault::NoCfg` has an index of `cfg`.
 pub fn expand_with(text: &str, options: &ExpandOptions<'_>) -> Result<Expansion, Error> {

@@ -13,8 +13,8 @@ pub use fault::Fault;
 pub use token::{Delimiter, LiteralKind, Spacing, Span, Token};
 pub use tree::{Tree, parse};
 
-/// The Rust text with the calls of its own macros expanded. All else stays byte for byte. What a call becomes is laid out like the template and
-/// the input that it comes from, with the indentation of the call.
+/// The Rust text with the calls of its own macros expanded. All else stays byte for byte, but for lines in which nothing is left. What a call
+/// becomes is laid out like the template and the input that it comes from, with the indentation of the call.
 ///
 /// An error has the byte of the text at which it shows. `expand_with` has options, and reports all findings.
 pub fn expand(text: &str) -> Result<String, Error> {

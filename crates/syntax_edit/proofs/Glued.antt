@@ -37,16 +37,20 @@ module _ (is_first is_last : Bool) (front back : List Chunk) (are : AreChunks fr
   tight s r (feed before blank is ends parts) = joined_tight s r (none_behind (last_of s) (slice_get r 0) 10 (ap last_of ends ∙ last_snoc before 10) refl)
   tight s r (edge is none) = joined_tight s r (ap (λ t. wants_space (last_of t) (slice_get r 0)) none)
 
-  pub glue : Made (connected is_first is_last (joined front) (joined back)) (means_of front ++ means_of back) (front ++ back)
+  -- both without that line
+  abbrev pub Glue : Type 0
+  Glue = Made (connected is_first is_last (joined front) (joined back)) (means_of front ++ means_of back) (front ++ back)
+
+  pub glue : Glue
   glue = by (before_line is_first (joined front)) (behind_line is_last (joined back)) refl refl
     where
-      plain : (before_line is_first (joined front) ≡ None) ⊎ (behind_line is_last (joined back) ≡ None) → Made (connected is_first is_last (joined front) (joined back)) (means_of front ++ means_of back) (front ++ back)
+      plain : (before_line is_first (joined front) ≡ None) ⊎ (behind_line is_last (joined back) ≡ None) → Glue
       plain none =
-          subst (λ t. Made t (means_of front ++ means_of back) (front ++ back)) (sym (no_line (before_line is_first (joined front)) (behind_line is_last (joined back)) (with_seam (joined front) (joined back)) none))
+          subst (λ t. Made t (means_of front ++ means_of back) (front ++ back))
+          (sym (no_line (before_line is_first (joined front)) (behind_line is_last (joined back)) (with_seam (joined front) (joined back)) none))
           (seam front back are sound line fine).0
 
-      goes : (s r : List ℕ) → before_line is_first (joined front) ≡ Some s → behind_line is_last (joined back) ≡ Some r → Back (joined front) s → Front (joined back) r
-          → Made (connected is_first is_last (joined front) (joined back)) (means_of front ++ means_of back) (front ++ back)
+      goes : (s r : List ℕ) → before_line is_first (joined front) ≡ Some s → behind_line is_last (joined back) ≡ Some r → Back (joined front) s → Front (joined back) r → Glue
       goes s r e f ended begun =
           let a = shorter s ended in
           let b = later r begun in
@@ -54,12 +58,14 @@ module _ (is_first is_last : Bool) (front back : List Chunk) (are : AreChunks fr
           record {
             new = it.new;
             are = it.are;
-            text_is = it.text_is ∙ ap₂ with_seam a.text_is b.text_is ∙ tight s r ended ∙ sym (ap₂ (λ o v. without_line o v (with_seam (joined front) (joined back))) e f);
+            text_is =
+                it.text_is ∙ ap₂ with_seam a.text_is b.text_is ∙ tight s r ended
+                ∙ sym (ap₂ (λ o v. without_line o v (with_seam (joined front) (joined back))) e f);
             means = it.means ∙ ap₂ (λ x y. x ++ y) a.means b.means;
             matches = λ before. it.matches before ∙ a.matches before b.new ∙ match_same front b.new back b.matches before;
           }
 
-      by : (o v : Option (List ℕ)) → before_line is_first (joined front) ≡ o → behind_line is_last (joined back) ≡ v → Made (connected is_first is_last (joined front) (joined back)) (means_of front ++ means_of back) (front ++ back)
+      by : (o v : Option (List ℕ)) → before_line is_first (joined front) ≡ o → behind_line is_last (joined back) ≡ v → Glue
       by None v e f = plain (inl e)
       by (Some s) None e f = plain (inr f)
       by (Some s) (Some r) e f = goes s r e f (back_of is_first (joined front) s e) (front_of is_last (joined back) r f)
