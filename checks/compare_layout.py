@@ -1,17 +1,18 @@
 #!/usr/bin/env python3
 """How much rustfmt changes in what `cuvolemin expand` lays out: compare_layout.py PROGRAM FOLDER..
 
-Each Rust file in a FOLDER is expanded twice, laid out and with --one-line. Both texts must have the same tokens, as PROGRAM prints tokens. Then
+Each Rust file in a FOLDER is expanded twice, laid out and with --one-line. Both texts must have the same tree, as PROGRAM prints trees. Then
 rustfmt formats both, and the file itself. It prints how many lines rustfmt changes in each, of the files that rustfmt reads and whose calls
-are expanded, and each file whose tokens differ. No part of the gate: it needs rustfmt and real sources.
+are expanded, and each file whose trees differ. No part of the gate: it needs rustfmt and real sources.
 """
 import difflib
 import multiprocessing
 import pathlib
+import re
 import subprocess
 import sys
 
-NO_TOKENS = ("Whitespace", "LineComment { doc_style: None }", "BlockComment { doc_style: None")
+PLACE = re.compile(r" \d+:\d+\.\.\d+:\d+")
 SECONDS = 60
 
 
@@ -24,10 +25,9 @@ def run(*words, given=b""):
     return done.returncode, done.stdout
 
 
-def tokens(program, text):
-    """The tokens of a text, but for white space and comments that document nothing."""
-    lines = run(program, "tokens", "-", given=text)[1].decode().splitlines()
-    return [line.split(" ", 1)[1] for line in lines if not line.split(" ", 1)[1].startswith(NO_TOKENS)]
+def tree(program, text):
+    """The lines of a text's tree without places, in which a comment that documents something is an attribute; empty if it has none."""
+    return PLACE.sub("", run(program, "tree", "-", given=text)[1].decode())
 
 
 def changed(text):
@@ -50,8 +50,8 @@ def judge(job):
     plain = run(program, "expand", "--one-line", "-", given=source)[1]
     if status != 0 or plain == source:
         return None
-    if tokens(program, laid) != tokens(program, plain):
-        return f"{path}: other tokens"
+    if tree(program, laid) != tree(program, plain):
+        return f"{path}: another tree"
     counts = [changed(text) for text in (source, laid, plain)]
     return None if None in counts else counts
 

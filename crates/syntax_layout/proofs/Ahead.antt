@@ -1,9 +1,10 @@
 -- What loops over the tokens of a text keep: any tokens of what is left complete those of the text.
-use Rattle.std.proofs.Common.{◌≡◌, ℕ, ◌+◌, ◌<◌, Bool, true, false, not, ◌==◌, is_some, ◌||◌, ◌&&◌, List, [], ◌∷◌, ◌++◌, length, take, drop, get_or, refl, sym, ap, ap₂, ◌∙◌, subst, arith, append_assoc, append-nil, if◌then◌else◌}
+use Rattle.std.proofs.Common.{◌≡◌, ℕ, ◌+◌, ◌<◌, Bool, true, false, not, ◌==◌, is_some, ◌||◌, ◌&&◌, List, [], ◌∷◌, ◌++◌, length, take, drop, get_or, refl, sym, ap, ap₂, ◌∙◌, subst, arith, append_assoc, if◌then◌else◌}
 use Rattle.std.proofs.lemmas.Bool.{false≢true}
+use Rattle.std.specs.Prelude.{OnOk, Result, Ok, Err}
 use Rattle.std.specs.Str.{chars, IsUtf8}
 use Rattle.syntax_layout.specs.Gap.{IsGap, are_blank, is_blank}
-use Rattle.syntax_layout.specs.Layout.{HasOthers, IsLaidOut, ahead, are_plain, ending, ends_before, joins, joins_before, laid, laid_out, put_before, touched, touches_surely}
+use Rattle.syntax_layout.specs.Layout.{HasOthers, IsLaidOut, ahead, are_plain, begins_parting, ending, ends_before, joins, joins_before, laid, laid_out, put_before, stays_before, touched, touches_surely}
 use Rattle.syntax_lex.proofs.FrontFacts.{chars-empty, empty_from_chars}
 use Rattle.syntax_lex.proofs.TokenFacts.{one_list}
 use Rattle.syntax_lex.specs.Reading.{AreTokensOf, first_token_of}
@@ -11,9 +12,10 @@ use Rattle.syntax_lex.specs.declared.token.Token.{Token}
 use Rattle.syntax_lex.specs.declared.token.TokenKind.{TokenKind}
 use Rattle.syntax_lex.specs.declared.token.TokenKind.TheVariants as kinds
 use Rattle.syntax_edit.specs.Whole.{is_whole}
-use Rattle.syntax_edit.specs.Kept.{ends_in_line, is_line}
+use Rattle.syntax_edit.specs.Kept.{ends_in_line, is_line, is_parting}
 use Rattle.syntax_parse.proofs.TextFacts.{cut, tokens_exist}
 use Rattle.syntax_parse.specs.Pieces.{punct_char}
+use Rattle.tt_base.specs.TreeText.{space_if}
 
 -- a token before the tokens of what is left behind it
 pub one_before : (rest behind : List ℕ) (token : Token) (more : List Token) → IsUtf8 rest → 0 < length rest → token ≡ first_token_of (chars rest) → behind ≡ drop token.len rest
@@ -215,3 +217,31 @@ touch_none touching kind before gap text (token ∷ tokens) alone some = go (is_
         → (if blank then touched false kind before gap (drop token.len text) tokens else (if touches_surely touching (joins kind token.kind) before gap word then word else [])) ≡ []
     go true rest = rest
     go false rest = ap (λ b. if b then word else []) apart
+
+-- what a token touches changes nothing before it, but after an empty gap that it does not end by itself
+pub unasked : (first touching joining : Bool) (before gap word ahead : List ℕ) → 0 < length word → (not first && ((length gap == 0) && (not joining && not (begins_parting word)))) ≡ false
+    → put_before first touching joining before gap word ≡ put_before first touching joining before gap (word ++ ahead)
+unasked true touching joining before gap word ahead some none = refl
+unasked false true true before gap word ahead some none = refl
+unasked false false true before [] word ahead some none = refl
+unasked false touching joining before (b ∷ gap) word ahead some none = same touching joining
+  where
+    same : (touching joining : Bool) → put_before false touching joining before (b ∷ gap) word ≡ put_before false touching joining before (b ∷ gap) (word ++ ahead)
+    same true true = refl
+    same true false = refl
+    same false joining = refl
+unasked false touching false before [] [] ahead some none = absurd (omega (arith, some))
+unasked false touching false before [] (b ∷ word) ahead some none = same touching
+  where
+    both : (parts stays longer : Bool) → not parts ≡ false → space_if (not (parts || stays)) ≡ space_if (not (parts || longer))
+    both true stays longer none = refl
+    both false stays longer none = absurd (false≢true (sym none))
+
+    same : (touching : Bool) → put_before false touching false before [] (b ∷ word) ≡ put_before false touching false before [] (b ∷ word ++ ahead)
+    same true = both (is_parting b) (stays_before before (b ∷ word)) (stays_before before (b ∷ word ++ ahead)) none
+    same false = both (is_parting b) (stays_before before (b ∷ word)) (stays_before before (b ∷ word ++ ahead)) none
+
+-- what follows of what a value has
+pub on_ok : {T E A B : Type 0} (result : Result T E) → (A → B) → OnOk result A → OnOk result B
+on_ok (Ok value) f h = f h
+on_ok (Err error) f h = h

@@ -1,10 +1,10 @@
 -- The chunks of a text that is laid out.
-use Rattle.std.proofs.Common.{◌≡◌, ◌⊎◌, inl, inr, ℕ, ◌+◌, Bool, true, false, ◌==◌, ◌||◌, ◌&&◌, not, List, [], ◌∷◌, ◌++◌, length, take, drop, get_or, Option, None, refl, sym, ap, ap₂, ◌∙◌, ⊎_elim, subst, arith, append_assoc, append-nil, if◌then◌else◌}
+use Rattle.std.proofs.Common.{◌≡◌, ◌⊎◌, inl, inr, ℕ, ◌+◌, Bool, true, false, ◌==◌, ◌||◌, ◌&&◌, not, List, [], ◌∷◌, ◌++◌, length, take, drop, get_or, Option, refl, sym, ap, ap₂, ◌∙◌, ⊎_elim, subst, arith, append_assoc, append-nil, if◌then◌else◌}
 use Rattle.std.proofs.lemmas.Bool.{false≢true, and_parts, eqb-true}
-use Rattle.std.proofs.lemmas.Str.{IsUtf8-append, IsUtf8-nil, chars-append, chars-nil}
+use Rattle.std.proofs.lemmas.Str.{IsUtf8-append, IsUtf8-nil, chars-append}
 use Rattle.std.proofs.Math.Seq.{drop-append_seam, take-append_seam}
 use Rattle.std.specs.Str.{chars, IsUtf8}
-use Rattle.syntax_edit.proofs.KindFacts.{SameBefore, pieces_same}
+use Rattle.syntax_edit.proofs.KindFacts.{pieces_same}
 use Rattle.syntax_edit.proofs.Seams.{empty_front, match_behind}
 use Rattle.syntax_edit.specs.Kept.{ends_in_line, is_line}
 use Rattle.syntax_edit.specs.Whole.{is_whole}
@@ -14,7 +14,6 @@ use Rattle.syntax_layout.proofs.GapChunks.{blank_kind, blank_means, blank_role, 
 use Rattle.syntax_layout.proofs.Words.{IsWord, ends_longer, word_is}
 use Rattle.syntax_layout.specs.Gap.{AreGaps, is_blank}
 use Rattle.syntax_layout.specs.Layout.{are_plain, between, ending, ends_before, joins, laid, parting, put_before, touched, touches_surely}
-use Rattle.syntax_lex.specs.Reading.{reading}
 use Rattle.syntax_lex.specs.declared.token.TokenKind.{TokenKind}
 use Rattle.syntax_lex.specs.declared.token.TokenKind.TheVariants as kinds
 use Rattle.syntax_parse.specs.Parsed.{next_kind}

@@ -4,6 +4,7 @@ pub mod GapChunks
 pub mod Between
 pub mod LaidChunks
 pub mod Ahead
+pub mod Blanks
 pub mod Plain
 pub mod Returns
 pub mod SpaceGaps

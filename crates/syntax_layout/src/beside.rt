@@ -173,6 +173,20 @@ pub fn name_start(source: &str, at: usize) -> usize {
     start
 }
 
+/// Returns whether a call begins at a place: only signs of a name or a path are before a `!`.
+pub fn begins_macro(source: &str, at: usize) -> bool {
+    let mut is_name = false;
+    for byte in behind(source, at).as_bytes() {
+        match *byte {
+            b'!' => return is_name,
+            b'$' | b':' => is_name = false,
+            byte if is_of_name(byte) => is_name = true,
+            _ => return false,
+        }
+    }
+    false
+}
+
 /// Returns whether a byte opens a bracket.
 pub fn opens(byte: u8) -> bool {
     matches!(byte, b'(' | b'[' | b'{')

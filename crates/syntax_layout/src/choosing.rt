@@ -4,8 +4,8 @@
 //! Elsewhere a variable, a round of a repetition, or what a call becomes begins or ends. The gap is then that of the template: behind the
 //! first token, if a variable, a repetition or a call is there, or before the second. Otherwise it is the space that rustfmt would choose.
 use crate::beside::{
-    MOST_GAP, begins_line, breaks, byte_at, byte_before, indentation, is_of_name, is_white, part,
-    space_start,
+    MOST_GAP, begins_line, begins_macro, breaks, byte_at, byte_before, indentation, is_of_name,
+    is_white, part, space_start,
 };
 use crate::gap::is_gap;
 use crate::indenting::{Gaps, Shift};
@@ -73,6 +73,8 @@ pub(crate) struct Chooser<'c, 's> {
     moved: HashMap<usize, usize>,
     /// The template that was entered last, and that indentation.
     pub(crate) here: (usize, usize),
+    // The indentation of the line in which a template began last.
+    begun: usize,
     /// Gaps of the source are chosen while they have at most so many bytes.
     pub(crate) most: usize,
     // Whether the call begins its line.
@@ -100,6 +102,7 @@ impl<'c, 's> Chooser<'c, 's> {
             before_input: 0,
             moved: HashMap::new(alloc),
             here: (usize::MAX, 0),
+            begun: line,
             most: plain
                 .len()
                 .saturating_mul(GAPS_FOR_BYTE)
@@ -189,6 +192,33 @@ impl<'c, 's> Chooser<'c, 's> {
         }
     }
 
+    // Remembers to which indentation the lines of a template move that is entered.
+    fn enter(&mut self, number: usize, to: usize) -> Result<(), AllocError> {
+        self.here = (number, to);
+        self.moved.insert(number, to)?;
+        Ok(())
+    }
+
+    // Enters a template behind its begin. If that is a call, its lines move as those of what the call becomes; `before` is the indentation of
+    // the line that was written.
+    fn enter_within(
+        &mut self,
+        number: usize,
+        template: Template,
+        before: usize,
+    ) -> Result<(), AllocError> {
+        match self.moved.get(&number) {
+            Some(to) => {
+                self.here = (number, *to);
+                Ok(())
+            }
+            None if begins_macro(self.sources.text, template.first) => self.enter(
+                number, self.begun,
+            ),
+            None => self.enter(number, before),
+        }
+    }
+
     // Remembers to which indentation the lines move that follow a token, which is not beside the one before it in the source. `before` is
     // the indentation of the line before the gap. Adds to the gap the comments at the beginning of a template, if the token is its first.
     fn follow(
@@ -212,17 +242,12 @@ impl<'c, 's> Chooser<'c, 's> {
                 if begins_line && template.comment < template.first {
                     self.open(template)?;
                 }
-                self.here = (number, self.gaps.line);
-                self.moved.insert(number, self.gaps.line)?;
+                self.begun = self.gaps.line;
+                self.enter(number, self.gaps.line)?;
             }
             _ if self.here.0 == number => {}
-            _ => match self.moved.get(&number) {
-                Some(to) => self.here = (number, *to),
-                None => {
-                    self.here = (number, before);
-                    self.moved.insert(number, before)?;
-                }
-            },
+            Some(template) => self.enter_within(number, template, before)?,
+            None => {}
         }
         Ok(())
     }

@@ -1,15 +1,18 @@
 //! A text with other gaps between its tokens.
-ghost use Rattle.std.specs.Prelude.{◌≡◌, ◌<◌, ◌≤◌, ◌+◌, ◌^◌, ◌++◌, [], List, IfOk, OnOk, MatchOption, false, true, length, map, string_bytes};
+ghost use Rattle.std.specs.Prelude.{◌≡◌, ◌<◌, ◌≤◌, ◌+◌, ◌^◌, ◌++◌, ◌==◌, ◌&&◌, [], List, IfOk, OnOk, MatchOption, false, not, true, length, map, slice_get, string_bytes};
+ghost use Rattle.std.specs.Char.{is_ascii_graphic};
 ghost use Rattle.std.specs.List.{slice_index_or};
 ghost use Rattle.std.specs.Str.{chars};
 ghost use Rattle.syntax_layout.specs.Gap.{AreGaps};
 ghost use Rattle.syntax_layout.specs.Layout.{HasOthers, IsLaidOut, begins_parting, ending, ends_before, joins, parting, put_before, stays_before, touched, touches_surely};
-ghost use Rattle.syntax_lex.specs.Reading.{AreTokensOf};
+ghost use Rattle.syntax_layout.specs.Passed.{is_next, is_there};
+ghost use Rattle.syntax_lex.specs.Reading.{AreTokensOf, first_token_of};
 ghost use Rattle.syntax_lex.specs.declared.token.Token.{Token};
 
 use crate::kinds::{is_blank, is_parting, is_whole, joins};
+use crate::passed::is_next;
 use std::alloc::{AllocError, Global};
-use syntax_lex::{TokenKind, first_token};
+use syntax_lex::{Token, TokenKind, first_token};
 use syntax_parse::punct_char;
 
 // Returns whether a token stays the same before two texts. `room` is for all three.
@@ -203,6 +206,70 @@ fn push_ending(
     laid.push_str(gap)
 }
 
+// Returns whether a byte is there and is a visible character of ASCII.
+fn is_visible(byte: Option<u8>) -> bool
+    ensures { result ≡ is_there is_ascii_graphic byte }
+{
+    match byte {
+        Some(byte) => byte.is_ascii_graphic(),
+        None => false,
+    }
+}
+
+// Returns whether a text begins with a space and a visible character of ASCII.
+fn begins_with_space(text: &str) -> bool
+    ensures { result ≡ (is_next (slice_get text.now 0) 32 && is_there is_ascii_graphic (slice_get text.now 1)) }
+{
+    let bytes = text.as_bytes();
+    is_next(bytes.first().copied(), b' ') && is_visible(bytes.get(1).copied())
+}
+
+// Returns the first token of a text. The lexer does not read a space between two tokens.
+fn next_token(text: &str) -> Token
+    requires some { 0 < length text.now }
+    requires fits { length text.now < 2 ^ 32 }
+    ensures { result ≡ first_token_of (chars text.now) }
+{
+    if begins_with_space(text) {
+        return Token {
+            kind: TokenKind::Whitespace,
+            len: 1,
+        };
+    }
+    first_token(text)
+}
+
+// Returns whether what a token certainly touches decides what precedes it.
+fn asks_ahead(last: Last<'_>, gap: &str, kind: TokenKind, word: &str) -> bool
+    ensures { result ≡ (not last.entry.is_none && ((length gap.now == 0) && (not (joins last.entry.kind kind) && not (begins_parting word.now)))) }
+{
+    !last.is_none && gap.is_empty() && !joins(last.kind, kind) && !begins_parting(word)
+}
+
+// Adds what precedes a token, and the token, which a gap and a text follow. Only what it certainly touches is read of that text, if need be.
+fn push_next(
+    laid: &mut String,
+    room: &mut String,
+    last: Last<'_>,
+    before: &str,
+    kind: TokenKind,
+    word: &str,
+    gap: &str,
+    behind: &str,
+) -> Result<(), AllocError>
+    requires some { last.is_none ≡ false → 0 < length last.text.now }
+    requires next { 0 < length word.now }
+    requires fits_gap { length last.text.now + length before.now < 2 ^ 32 }
+    requires fits_word { length last.text.now + (length word.now + length behind.now) < 2 ^ 32 }
+    ensures { OnOk result ((tokens : List Token) → AreTokensOf tokens (chars behind.now) → string_bytes laid.new ≡ string_bytes laid.old ++ (put_before last.entry.is_none last.entry.touches (joins last.entry.kind kind) last.entry.text.now before.now (word.now ++ touched true kind word.now gap.now behind.now tokens) ++ word.now)) }
+{
+    if asks_ahead(last, before, kind, word) {
+        let ahead = touched(room, kind, word, gap, behind)?;
+        return push_word(laid, room, last, before, kind, word, ahead);
+    }
+    push_word(laid, room, last, before, kind, word, "")
+}
+
 /// Returns the tokens of a text with other gaps between them: the n-th gap before the n-th token, and one more behind the last. If there
 /// are fewer gaps, the others are empty. A joint punct touches what follows it, and a space separates two tokens that would be read as others.
 ///
@@ -223,7 +290,7 @@ pub fn laid_out(alloc: Global, text: &str, gaps: &[&str]) -> Result<Option<Strin
     let mut used = 0;
     let mut rest = text;
     while !rest.is_empty() {
-        let token = first_token(rest);
+        let token = next_token(rest);
         let (word, behind) = rest.split_at(token.len as usize);
         if is_blank(token.kind) {
             last.touches = false;
@@ -231,11 +298,10 @@ pub fn laid_out(alloc: Global, text: &str, gaps: &[&str]) -> Result<Option<Strin
             if !is_whole(token.kind) {
                 return Ok(None);
             }
-            let gap = gap_at(gaps, used + 1);
-            let touched = touched(&mut room, token.kind, word, gap, behind)?;
             let before = gap_at(gaps, used);
-            push_word(
-                &mut laid, &mut room, last, before, token.kind, word, touched,
+            let gap = gap_at(gaps, used + 1);
+            push_next(
+                &mut laid, &mut room, last, before, token.kind, word, gap, behind,
             )?;
             last = Last {
                 is_none: false,

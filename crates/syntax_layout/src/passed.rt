@@ -34,8 +34,8 @@ pub fn start() -> Passed
     }
 }
 
-// Returns whether the byte after a token is this one.
-fn is_next(next: Option<u8>, byte: u8) -> bool
+/// Returns whether the byte after a token is this one.
+pub(crate) fn is_next(next: Option<u8>, byte: u8) -> bool
     ensures { result ≡ is_next next byte }
 {
     match next {

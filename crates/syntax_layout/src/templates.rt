@@ -133,20 +133,24 @@ impl<'s> Reader<'s> {
         }
     }
 
+    // Returns whether a line or the open template begins with this `$`, or with the repetition around it that begins with it.
+    fn begins(&self, start: usize, around: Option<&Repetition>) -> bool {
+        let start = match around {
+            Some(it) if it.first == start && !it.breaks => it.start,
+            _ => start,
+        };
+        begins_line(self.source, start) || self.begins_template(start)
+    }
+
     // Returns how many bytes the lines of a repetition are further indented that begins with this `$` and token.
     fn deeper(&self, start: usize, first: usize, outer: Option<usize>) -> usize {
-        let around = match outer {
-            Some(number) => match self.found.repetitions.get(number) {
-                Some(repetition) => repetition.deeper,
-                None => 0,
-            },
-            None => 0,
-        };
-        if !begins_line(self.source, start) && !self.begins_template(start) {
-            return around;
+        let around = outer.and_then(|number| self.found.repetitions.get(number));
+        let deeper = around.map_or(0, |it| it.deeper);
+        if !self.begins(start, around) {
+            return deeper;
         }
         let line = indentation(self.source, start);
-        around.saturating_add(indentation(self.source, first).saturating_sub(line))
+        deeper.saturating_add(indentation(self.source, first).saturating_sub(line))
     }
 
     // Opens a repetition whose `(` is at a place.
