@@ -1,5 +1,6 @@
 -- What is built of arms as they are read, and what is left of them.
-use Rattle.std.proofs.Common.{◌≡◌, ◌≤◌, ℕ, suc, Bool, true, false, List, [], ◌∷◌, map, refl, ap, ap₂, sym, ◌∙◌, arith, if◌then◌else◌}
+use Rattle.std.proofs.Common.{◌≡◌, ◌<◌, ◌≤◌, ℕ, zero, suc, Bool, true, false, List, [], ◌∷◌, map, refl, ap, ap₂, sym, ◌∙◌, arith, if◌then◌else◌}
+use Rattle.std.proofs.lemmas.Bool.{lt-ltb}
 use Rattle.std.specs.Prelude.{nat_lt}
 use Rattle.tt.specs.Building.{BuilderState, Stack, lowest, above, append, close_innermost, IsGrowthFault}
 use Rattle.tt.specs.Forest.{Forest, end, leaf, node, size}
@@ -35,7 +36,7 @@ work_left outer = built.work_left (map open_of outer)
 
 -- Trees that are passed leave nothing.
 passed_is : (root : List ℕ) (this : ArmPart) (n : ℕ) (trees : Forest) → prepared_behind root this n trees ≡ changed root this (after_trees n trees)
-passed_is root this 0 trees = refl
+passed_is root this zero trees = refl
 passed_is root this (suc n) end = passed_is root this n end
 passed_is root this (suc n) (leaf it rest) = passed_is root this n rest
 passed_is root this (suc n) (node delimiter children rest) = passed_is root this n rest
@@ -48,27 +49,34 @@ after_is root this it rest = by (is_crate_root it rest)
     by true = passed_is root this 1 rest
     by false = refl
 
+-- whether a number is more than none
+none_is : (n : ℕ) → n ≡ 0 → nat_lt 0 n ≡ false
+none_is n is = ap (nat_lt 0) is
+
+more_is : (n : ℕ) → 0 < n → nat_lt 0 n ≡ true
+more_is n some = lt-ltb 0 n some
+
 -- A leaf that stays is built.
 pub finished_leaf : (root : List ℕ) (outer : List Level) (this : ArmPart) (trees behind others : Forest) (it word : Leaf) (stack : Stack) → trees ≡ leaf it behind
-    → nat_lt 0 (left_out this it behind) ≡ false → others ≡ after_leaf it behind → word ≡ rooted_leaf root it behind
+    → left_out this it behind ≡ 0 → others ≡ after_leaf it behind → word ≡ rooted_leaf root it behind
     → finished root outer this trees stack ≡ finished root outer this others (append (leaf word end) stack)
 finished_leaf root outer this trees behind others it word stack begins stays left is =
     built.finished_step (changed root) (map open_of outer) this this trees others (leaf word end) stack (
     ap (changed root this) begins
     ∙ ap (λ b. if b then prepared_behind root this (left_out this it behind) behind
-        else leaf (rooted_leaf root it behind) (prepared_behind root this (if is_crate_root it behind then 1 else 0) behind)) stays
+    else leaf (rooted_leaf root it behind) (prepared_behind root this (if is_crate_root it behind then 1 else 0) behind)) (none_is (left_out this it behind) stays)
     ∙ ap₂ leaf (sym is) (after_is root this it behind ∙ ap (changed root this) (sym left))
     )
 
 -- A comment is left out.
 pub finished_comment : (root : List ℕ) (outer : List Level) (this : ArmPart) (trees behind others : Forest) (it : Leaf) (stack : Stack) → trees ≡ leaf it behind
-    → nat_lt 0 (left_out this it behind) ≡ true → others ≡ after_trees (left_out this it behind) behind
+    → 0 < left_out this it behind → others ≡ after_trees (left_out this it behind) behind
     → finished root outer this trees stack ≡ finished root outer this others stack
 finished_comment root outer this trees behind others it stack begins goes left =
     built.finished_step (changed root) (map open_of outer) this this trees others end stack (
     ap (changed root this) begins
     ∙ ap (λ b. if b then prepared_behind root this (left_out this it behind) behind
-        else leaf (rooted_leaf root it behind) (prepared_behind root this (if is_crate_root it behind then 1 else 0) behind)) goes
+    else leaf (rooted_leaf root it behind) (prepared_behind root this (if is_crate_root it behind then 1 else 0) behind)) (more_is (left_out this it behind) goes)
     ∙ passed_is root this (left_out this it behind) behind
     ∙ ap (changed root this) (sym left)
     )
@@ -100,13 +108,13 @@ module _ (root : List ℕ) (outer : List Level) (this : ArmPart) (trees all : Fo
   no_room : 1 ≤ size (changed root this trees) → IsTreeFault (under delimiter all) fault
   no_room some = built.no_room (changed root) (map open_of outer) this trees all it fault wrong delimiter whole some
 
-  pub leaf_no_room : (word : Leaf) (behind : Forest) → trees ≡ leaf word behind → nat_lt 0 (left_out this word behind) ≡ false → IsTreeFault (under delimiter all) fault
+  pub leaf_no_room : (word : Leaf) (behind : Forest) → trees ≡ leaf word behind → left_out this word behind ≡ 0 → IsTreeFault (under delimiter all) fault
   leaf_no_room word behind begins stays =
       no_room (omega (
         arith,
         ap (λ f. size (changed root this f)) begins
-        ∙ ap (λ b. size (if b then prepared_behind root this (left_out this word behind) behind
-            else leaf (rooted_leaf root word behind) (prepared_behind root this (if is_crate_root word behind then 1 else 0) behind))) stays,
+            ∙ ap (λ b. size (if b then prepared_behind root this (left_out this word behind) behind
+            else leaf (rooted_leaf root word behind) (prepared_behind root this (if is_crate_root word behind then 1 else 0) behind))) (none_is (left_out this word behind) stays),
       ))
 
   pub node_no_room : (header : Delimiter) (held behind : Forest) → trees ≡ node header held behind → IsTreeFault (under delimiter all) fault

@@ -1,5 +1,5 @@
 -- The arms of a macro as they are read.
-use Rattle.std.specs.Prelude.{◌&&◌, ◌==◌, ℕ, suc, Bool, true, false, List, codes, nat_lt, if◌then◌else◌}
+use Rattle.std.specs.Prelude.{◌&&◌, ◌==◌, ℕ, zero, suc, Bool, true, false, List, codes, nat_lt, if◌then◌else◌}
 use Rattle.tt.specs.Forest.{Forest, end, leaf, node}
 use Rattle.tt.specs.Moves.{after_tree}
 use Rattle.tt.specs.Span.{start_of}
@@ -71,10 +71,10 @@ abbrev pub prepared_behind : (root : List ℕ) → ArmPart → (passed : ℕ) �
 prepared_behind root this passed end = end
 prepared_behind root this (suc n) (leaf it rest) = prepared_behind root this n rest
 prepared_behind root this (suc n) (node delimiter children rest) = prepared_behind root this n rest
-prepared_behind root this 0 (leaf it rest) =
+prepared_behind root this zero (leaf it rest) =
     if nat_lt 0 (left_out this it rest) then prepared_behind root this (left_out this it rest) rest
     else leaf (rooted_leaf root it rest) (prepared_behind root this (if is_crate_root it rest then 1 else 0) rest)
-prepared_behind root this 0 (node delimiter children rest) =
+prepared_behind root this zero (node delimiter children rest) =
     node delimiter (prepared_behind root (inside this rest) 0 children) (prepared_behind root this 0 rest)
 
 -- the arms with the root's word for each `$crate`, and without the comments in patterns that document something

@@ -1,5 +1,6 @@
 //! The arms of a macro as they are read. The walk keeps the open subtrees in memory, so only memory limits the depth of a tree.
 ghost use Rattle.std.specs.Prelude.{◌≡◌, IfOk, IfErr, OnOk};
+ghost use Rattle.tt.specs.Gluing.{after_trees};
 ghost use Rattle.tt.specs.Iters.{rest_of};
 ghost use Rattle.tt.specs.Stored.{IsWithinLimits};
 ghost use Rattle.tt.specs.TreeFault.{under, IsTreeFault};
@@ -96,6 +97,13 @@ fn comment_len(leaf: &Leaf, behind: TtIter<'_>) -> usize
     }
 }
 
+// Passes so many trees behind a leaf, which are left out together with it.
+fn leave_out(_leaf: Leaf, count: usize, trees: &mut TtIter<'_>)
+    ensures { rest_of trees.new ≡ after_trees count (rest_of trees.old) }
+{
+    pass(trees, count);
+}
+
 impl ArmPart {
     ghost use Rattle.expand_text.specs.Prepared.{inside, left_out};
 
@@ -149,7 +157,7 @@ pub(crate) fn prepared(
             Some(TtElement::Leaf(leaf)) => {
                 let left_out = part.left_out(&leaf, rest.remaining().iter());
                 if left_out > 0 {
-                    pass(&mut rest, left_out);
+                    leave_out(leaf, left_out, &mut rest);
                 } else {
                     let leaf = rooted_leaf(leaf, &mut rest, root)?;
                     builder.push(leaf)?;

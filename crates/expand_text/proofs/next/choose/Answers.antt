@@ -16,8 +16,8 @@ use Rattle.expand_text.specs.Walks.{Level, Leads, first_level, outer_of}
 use Rattle.expand_text.proofs.Choosing.{advances, chosen_definition, chosen_inactive, plain_part}
 use Rattle.expand_text.proofs.next.choose.Goals as goal
 
-pub returns-in_ok-read_definition-in-Definition-clause-steps : goal.returns-in_ok-read_definition-in-Definition-clause-steps
-returns-in_ok-read_definition-in-Definition-clause-steps c =
+pub returns-in-Definition-clause-steps : goal.returns-in-Definition-clause-steps
+returns-in-Definition-clause-steps c =
     let walk = c.args.walk.now in
     let config = config_of c.args.config.now in
     let level : Level = first_level walk in
@@ -36,8 +36,8 @@ returns-in_ok-read_definition-in-Definition-clause-steps c =
     let more = advances level outer it.len less part refl false refl in
     omega (arith, more)
 
-pub returns-in_ok-read_definition-in-Definition-clause-chosen : goal.returns-in_ok-read_definition-in-Definition-clause-chosen
-returns-in_ok-read_definition-in-Definition-clause-chosen c before is =
+pub returns-in-Definition-clause-chosen : goal.returns-in-Definition-clause-chosen
+returns-in-Definition-clause-chosen c before is =
     let walk = c.args.walk.now in
     let config = config_of c.args.config.now in
     let level : Level = first_level walk in
@@ -111,8 +111,8 @@ returns-in-Ok-clause-chosen c before is =
     let (others, known, goes) = c.in-Ok.ensures.chosen before is in
     (others, known, goes (record { first = none; goes_on = sym is.is_over ∙ going; item = there }))
 
-pub returns-in-Err-clause-stop : goal.returns-in-Err-clause-stop
-returns-in-Err-clause-stop c =
+pub returns-in-Call-clause-stop : goal.returns-in-Call-clause-stop
+returns-in-Call-clause-stop c =
     let walk = c.args.walk.now in
     let config = config_of c.args.config.now in
     let level : Level = first_level walk in
@@ -169,8 +169,8 @@ returns-in-Inactive-clause-chosen c before is =
       λ in_text. chosen_inactive config in_text c.args.limit level outer before c.in-Inactive.len part (record { first = none; goes_on = sym is.is_over ∙ going; item = there }) is_part,
     )
 
-pub returns-in-Other-clause-chosen : goal.returns-in-Other-clause-chosen
-returns-in-Other-clause-chosen c before is =
+pub returns-clause-chosen : goal.returns-clause-chosen
+returns-clause-chosen c before is =
     let walk = c.args.walk.now in
     let config = config_of c.args.config.now in
     let level : Level = first_level walk in

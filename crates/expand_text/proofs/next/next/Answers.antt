@@ -44,7 +44,7 @@ none_first config levels (event.Leaf leaf) within = tt
 none_first config levels (event.Opens header) within = tt
 none_first config levels (event.Closes close) within = tt
 none_first config levels (event.Stays part) within = tt
-none_first config levels (event.Invocation it tree) within = omega (arith, (within 0 0).0)
+none_first config levels (event.Invocation it tree) within = absurd (omega (arith, (within 0 0).0))
 
 pub returns-in_ok-next_tree-in-Plain-clause-first : goal.returns-in_ok-next_tree-in-Plain-clause-first
 returns-in_ok-next_tree-in-Plain-clause-first c =

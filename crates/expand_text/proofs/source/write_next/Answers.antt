@@ -1,4 +1,5 @@
-use Rattle.std.proofs.Common.{true, refl, sym, subst}
+use Rattle.std.proofs.Common.{rules, ◌≡◌, true, refl, sym, subst}
+use Rattle.std.specs.Prelude.{Err}
 use Rattle.expand_text.specs.Contexts.{config_of}
 use Rattle.expand_text.specs.Events.{IsNext}
 use Rattle.expand_text.specs.Stops.{IsEventFirst, IsStop}
@@ -72,7 +73,8 @@ returns-in_err-write_call-in-Invocation-clause-stop c =
     let config = config_of c.args.config.now in
     let levels = levels_of c.args.walk.now in
     let first : IsEventFirst config levels (event.Invocation c.in-Invocation.call c.in-Invocation.tree) = subst (IsEventFirst config levels) c.in-Invocation.is c.in_ok-next.ensures.first in
-    subst (IsStop config levels) (sym c.in_err-write_call-in-Invocation.ensures.stop) first
+    let failed : c.from_residual-in_err-write_call-in-Invocation.result ≡ Err c.in_err-write_call-in-Invocation.field-0.0 = search rules in
+    rw failed (subst (IsStop config levels) (sym c.in_err-write_call-in-Invocation.ensures.stop) first)
 
 pub returns-in_ok-write_call-in-Invocation-clause-written : goal.returns-in_ok-write_call-in-Invocation-clause-written
 returns-in_ok-write_call-in-Invocation-clause-written c before is =

@@ -1,9 +1,14 @@
-use Rattle.std.proofs.Common.{◌≡◌, ◌∙◌, List, [], true, subst}
-use Rattle.std.specs.Prelude.{string_bytes}
+use Rattle.std.proofs.Common.{rules, ◌≡◌, ◌∙◌, ℕ, List, [], Option, None, Some, true, subst}
+use Rattle.std.specs.Prelude.{Err, string_bytes}
+use Rattle.tt.specs.Forest.{Root}
 use Rattle.expand_text.specs.Meaning.{ExpandsTo}
-use Rattle.expand_text.specs.Expansion.{config_by}
+use Rattle.expand_text.specs.Expansion.{config_by, IsOutOfMemory}
+use Rattle.expand_text.specs.Scopes.{Macro}
+use Rattle.expand_text.specs.Stops.{IsStopIn}
+use Rattle.expand_text.specs.declared.fault.ExpandTextError.TheVariants.{Memory}
+use Rattle.expand_text.specs.declared.options.ExpandOptions.{ExpandOptions}
 use Rattle.syntax_edit.specs.Places.{text_part}
-use Rattle.expand_text.specs.Contexts.{new_context}
+use Rattle.expand_text.specs.Contexts.{config_of, new_context}
 use Rattle.expand_text.specs.Exports.{AreExported}
 use Rattle.expand_items.specs.Positions.{begun as begun_among}
 use Rattle.expand_items.specs.declared.position.Siblings.TheVariants.{Items}
@@ -20,6 +25,12 @@ use Rattle.syntax_parse.specs.Parsed.{IsParse}
 use Rattle.syntax_parse.specs.Refusal.{IsFaultOf}
 use Rattle.syntax_parse.specs.Spelled.{spelled}
 
+-- Memory runs out in a walk through the trees of a text.
+out_of_memory : (options : ExpandOptions) (text : List ℕ) (tree : Root) (exported : List Macro) (call : Option ℕ) → IsParse text_part text tree → AreExported (config_by options) tree.children exported
+    → IsStopIn (config_by options) options.limit tree.children (new_context exported) call → IsOutOfMemory options text call
+out_of_memory options text tree exported None read exports stop = tt
+out_of_memory options text tree exported (Some at) read exports stop = record { tree = tree; read = read; exported = exported; exports = exports; call = stop }
+
 pub returns-clause-ok : goal.returns-clause-ok
 returns-clause-ok c =
     let text = c.args.text.now in
@@ -27,7 +38,7 @@ returns-clause-ok c =
     let options = c.args.options in
     let read : IsParse text_part text tree = c.in_ok-tree.ensures.ok in
     let (exported, exports, are) = c.in_ok-exported.ensures in
-    let (after, ready, source) = c.in_ok-text.ensures (new_context exported) (c.new-context.ensures exported are) in
+    let (after, ready, source) = c.in_ok-text.ensures.written (new_context exported) (c.new-context.ensures exported are) in
     let expands_to : ExpandsTo (config_by options) true options.limit (begun_among Items) 0 (new_context exported) tree.children after source.outcome =
     subst (λ s. ExpandsTo s true options.limit (begun_among Items) 0 (new_context exported) tree.children after source.outcome) c.in_ok-config.ensures source.expands_to in
     let splices : List Splice = source.splices in
@@ -55,3 +66,17 @@ returns-clause-ok c =
       findings = ready.findings;
       callers = ready.callers;
     }
+
+pub returns-in_err-text-clause-err : goal.returns-in_err-text-clause-err
+returns-in_err-text-clause-err c =
+    let text = c.args.text.now in
+    let tree = c.in_ok-tree.tree in
+    let options = c.args.options in
+    let call = c.in_err-text.field-0.0.call in
+    let (exported, exports, are) = c.in_ok-exported.ensures in
+    let stop : IsStopIn (config_of c.in_ok-config.config) options.limit tree.children (new_context exported) call =
+    c.in_err-text.ensures.stop (new_context exported) (c.new-context.ensures exported are) in
+    let failed : c.from_residual-in_err-text.result ≡ Err (Memory call) = search rules in
+    rw failed
+    (out_of_memory options text tree exported call c.in_ok-tree.ensures.ok (subst (λ s. AreExported s tree.children exported) c.in_ok-config.ensures exports)
+    (subst (λ s. IsStopIn s options.limit tree.children (new_context exported) call) c.in_ok-config.ensures stop))
