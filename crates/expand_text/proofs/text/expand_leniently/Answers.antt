@@ -1,11 +1,11 @@
-use Rattle.std.proofs.Common.{rules, ◌≡◌, ◌∙◌, ℕ, List, [], Option, None, Some, true, subst}
-use Rattle.std.specs.Prelude.{Err, string_bytes}
+use Rattle.std.proofs.Common.{◌≡◌, ◌∙◌, ℕ, List, [], Option, None, Some, true, subst}
+use Rattle.std.proofs.lemmas.Result.{err_from_is_err_and}
+use Rattle.std.specs.Prelude.{string_bytes}
 use Rattle.tt.specs.Forest.{Root}
 use Rattle.expand_text.specs.Meaning.{ExpandsTo}
 use Rattle.expand_text.specs.Expansion.{config_by, IsOutOfMemory}
 use Rattle.expand_text.specs.Scopes.{Macro}
 use Rattle.expand_text.specs.Stops.{IsStopIn}
-use Rattle.expand_text.specs.declared.fault.ExpandTextError.TheVariants.{Memory}
 use Rattle.expand_text.specs.declared.options.ExpandOptions.{ExpandOptions}
 use Rattle.syntax_edit.specs.Places.{text_part}
 use Rattle.expand_text.specs.Contexts.{config_of, new_context}
@@ -76,7 +76,7 @@ returns-in_err-text-clause-err c =
     let (exported, exports, are) = c.in_ok-exported.ensures in
     let stop : IsStopIn (config_of c.in_ok-config.config) options.limit tree.children (new_context exported) call =
     c.in_err-text.ensures.stop (new_context exported) (c.new-context.ensures exported are) in
-    let failed : c.from_residual-in_err-text.result ≡ Err (Memory call) = search rules in
-    rw failed
+    let failed = err_from_is_err_and c.from_residual-in_err-text.result c.from_residual-in_err-text.ensures.1 in
+    rw (failed.1, failed.2)
     (out_of_memory options text tree exported call c.in_ok-tree.ensures.ok (subst (λ s. AreExported s tree.children exported) c.in_ok-config.ensures exports)
     (subst (λ s. IsStopIn s options.limit tree.children (new_context exported) call) c.in_ok-config.ensures stop))
