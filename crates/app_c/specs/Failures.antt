@@ -1,5 +1,5 @@
 -- Why a call wrote no bytes, and where: the fault of this library for each fault of the libraries below.
-use Rattle.std.specs.Prelude.{ℕ}
+use Rattle.std.specs.Prelude.{ℕ, Option, None, Some}
 use Rattle.tt_base.specs.declared.fault.TtFault.{TtFault}
 use Rattle.tt_base.specs.declared.fault.TtFault.TheVariants as limit
 use Rattle.tt_bytes.specs.declared.fault.BytesFault.{BytesFault}

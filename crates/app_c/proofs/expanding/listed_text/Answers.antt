@@ -17,8 +17,8 @@ returns-in-Ok-clause-err c = if_err c.of.result (no_memory c.args.asked c.args.t
 
 pub returns-clause-err : goal.returns-clause-err
 returns-clause-err c =
-    not_read c.args.asked c.args.text.now c.in_ok-text.text.now c.in-Err.error c.expand_text_failure.result c.in_ok-text.ensures.ok.0
-    c.in-Err.ensures.err c.expand_text_failure.ensures
+    not_read c.args.asked c.options_of.result c.args.text.now c.in_ok-text.text.now c.in-Err.error c.expand_text_failure.result c.in_ok-text.ensures.ok.0
+    c.options_of.ensures c.in-Err.ensures.err c.expand_text_failure.ensures
 
 pub returns-in_err-cfg-clause-err : goal.returns-in_err-cfg-clause-err
 returns-in_err-cfg-clause-err c =
