@@ -179,7 +179,7 @@ class Maker:
         literals = ["-1i64", "-3i64", "4i64", "-0x2i64"]
         given = literals if kind == "literal" else [
             *literals, f"1i64 {self.operator()} 2", "P { a: 3 }.a", "P { a: 2 }.b(1)", "P::of(3).b(2)", "3 as i64", "i64::max(1, 2)", "[1i64, 2][0]", "(3i64)",
-            "T::<3>::N", "<T<3>>::N", "5i64 & 3 | 4", "!3i64", "(2i64, 3).1", "vec![3i64, 4][1]", "(|x: i64| x)(3)", "5i64 - 2 - 1", "*&4i64",
+            "T::<3>::N", "<T<3>>::N", "5i64 & 3 | 4", "!3i64", "(2i64, 3i64).1", "vec![3i64, 4][1]", "(|x: i64| x)(3)", "5i64 - 2 - 1", "*&4i64",
         ]
         blocks = ["{ 3i64 }", "{ 3i64 } + 1", "if true { 3i64 } else { 4 }", "if true { 3i64 } else { 4 } + 1", "match 3i64 { x => x }", "unsafe { 3i64 } + 1", "'b: { 3i64 }"]
         if calls and kind != "literal":
