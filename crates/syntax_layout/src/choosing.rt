@@ -4,16 +4,16 @@
 //! Elsewhere a variable, a round of a repetition, or what a call becomes begins or ends. The gap is then that of the template: behind the
 //! first token, if a variable, a repetition or a call is there, or before the second. Otherwise it is the space that rustfmt would choose.
 use crate::beside::{
-    MOST_GAP, begins_line, begins_macro, breaks, byte_at, byte_before, indentation, is_of_name,
-    is_white, part, space_start,
+    MOST_GAP, begins_line, breaks, byte_at, byte_before, indentation, is_of_name, is_white, part,
+    space_start,
 };
 use crate::gap::is_gap;
 use crate::indenting::{Gaps, Shift};
+use crate::moved::Moved;
 use crate::places::{Place, Written};
 use crate::spacer::Spacer;
-use crate::templates::{Template, Templates};
+use crate::templates::Templates;
 use std::alloc::{AllocError, Global};
-use std::collections::HashMap;
 
 // Gaps of a source are chosen while they have at most so many bytes, and so many more for each byte of the text.
 const MOST_GAPS: usize = 16_777_216;
@@ -69,12 +69,12 @@ pub(crate) struct Chooser<'c, 's> {
     pub(crate) input: Shift,
     /// The byte after the token of a template that precedes the latest token of the input.
     pub(crate) before_input: usize,
-    // The indentation to which the lines of each template move.
-    moved: HashMap<usize, usize>,
+    /// The indentation to which the lines of each template move.
+    pub(crate) moved: Moved,
     /// The template that was entered last, and that indentation.
     pub(crate) here: (usize, usize),
-    // The indentation of the line in which a template began last.
-    begun: usize,
+    /// The indentation of the line in which a template began last.
+    pub(crate) begun: usize,
     /// Gaps of the source are chosen while they have at most so many bytes.
     pub(crate) most: usize,
     // Whether the call begins its line.
@@ -100,7 +100,7 @@ impl<'c, 's> Chooser<'c, 's> {
             last: None,
             input: Shift { from: 0, to: line },
             before_input: 0,
-            moved: HashMap::new(alloc),
+            moved: Moved::new(alloc),
             here: (usize::MAX, 0),
             begun: line,
             most: plain
@@ -137,119 +137,19 @@ impl<'c, 's> Chooser<'c, 's> {
         let Some(number) = templates.template_at(target) else {
             return self.input;
         };
+        let (number, to) = if self.here.0 == number {
+            self.here
+        } else {
+            self.around(number)
+        };
         let indent = match templates.templates.get(number) {
             Some(template) => template.indent,
             None => 0,
-        };
-        let to = if self.here.0 == number {
-            self.here.1
-        } else {
-            match self.moved.get(&number) {
-                Some(to) => *to,
-                None => self.gaps.line,
-            }
         };
         Shift {
             from: indent.saturating_add(templates.deeper_at(target)),
             to,
         }
-    }
-
-    // Adds the comments at the beginning of a template to the gap before its first token.
-    fn open(&mut self, template: Template) -> Result<(), AllocError> {
-        let gap = part(self.sources.text, template.comment, template.first);
-        let shift = Shift {
-            from: template.indent,
-            to: self.gaps.line,
-        };
-        self.gaps.extend(gap, shift)
-    }
-
-    // Returns whether the second token is the first of a template, which may begin with a repetition.
-    fn begins(&self, last: Option<Place>, next: Place, number: usize, template: Template) -> bool {
-        let at = next.start as usize;
-        if template.first == at {
-            return true;
-        }
-        match self.sources.templates.begun_before(at) {
-            Some(repetition) => repetition.start == template.first
-                && repetition.first == at
-                && (self.moved.get(&number).is_none() || self.begins_other(last, next)),
-            None => false,
-        }
-    }
-
-    // Remembers where a token is in a template, if the input follows it and a template has comments at its end.
-    fn leave_template(&mut self, last: Option<Place>) {
-        let templates = &self.sources.templates;
-        match last {
-            Some(last)
-                if templates.have_closing && templates.template_at(last.start as usize).is_some() =>
-                {
-                    self.before_input = last.end as usize;
-                }
-            _ => {}
-        }
-    }
-
-    // Remembers to which indentation the lines of a template move that is entered.
-    fn enter(&mut self, number: usize, to: usize) -> Result<(), AllocError> {
-        self.here = (number, to);
-        self.moved.insert(number, to)?;
-        Ok(())
-    }
-
-    // Enters a template behind its begin. If that is a call, its lines move as those of what the call becomes; `before` is the indentation of
-    // the line that was written.
-    fn enter_within(
-        &mut self,
-        number: usize,
-        template: Template,
-        before: usize,
-    ) -> Result<(), AllocError> {
-        match self.moved.get(&number) {
-            Some(to) => {
-                self.here = (number, *to);
-                Ok(())
-            }
-            None if begins_macro(self.sources.text, template.first) => self.enter(
-                number, self.begun,
-            ),
-            None => self.enter(number, before),
-        }
-    }
-
-    // Remembers to which indentation the lines move that follow a token, which is not beside the one before it in the source. `before` is
-    // the indentation of the line before the gap. Adds to the gap the comments at the beginning of a template, if the token is its first.
-    fn follow(
-        &mut self,
-        last: Option<Place>,
-        next: Place,
-        before: usize,
-        begins_line: bool,
-    ) -> Result<(), AllocError> {
-        let at = next.start as usize;
-        let Some(number) = self.sources.templates.template_at(at) else {
-            self.input = Shift {
-                from: indentation(self.sources.text, at),
-                to: self.gaps.line,
-            };
-            self.leave_template(last);
-            return Ok(());
-        };
-        match self.sources.templates.templates.get(number).copied() {
-            Some(template) if self.begins(last, next, number, template) => {
-                if begins_line && template.comment < template.first {
-                    self.open(template)?;
-                }
-                self.begun = self.gaps.line;
-                self.enter(number, self.gaps.line)?;
-            }
-            _ if self.here.0 == number => {}
-            Some(template) => self.enter_within(number, template, before)?,
-            None => {}
-        }
-        Ok(())
     }
 
     // Adds the part of the source between two places as a gap, whose lines move. Returns whether it has line breaks.
@@ -272,12 +172,17 @@ impl<'c, 's> Chooser<'c, 's> {
     fn pass_apart(&mut self, last: Option<Place>, next: Option<Place>) -> Result<(), AllocError> {
         let before = self.gaps.line;
         let number = self.gaps.pieces.len();
+        let ended = if self.moved.is_again() {
+            self.end_template(last)?
+        } else {
+            None
+        };
         let choice = if number == 0 || self.gaps.len() > self.most {
             Choice::Spaced
         } else {
             self.between(last, next)
         };
-        self.close_before(last, next, choice)?;
+        self.close_before(last, next, choice, ended)?;
         let begins_line = match choice {
             Choice::Source(found) => self.push_part(found)?,
             Choice::Line(indentation) => {

@@ -6,6 +6,7 @@ use crate::beside::{
     space_start, tokens,
 };
 use crate::choosing::{Choice, Chooser};
+use crate::indenting::Shift;
 use crate::kinds::{is_blank, is_line};
 use crate::places::Place;
 use crate::templates::Template;
@@ -145,10 +146,15 @@ impl<'c, 's> Chooser<'c, 's> {
         }
     }
 
-    // Begins a gap with the comments at the end of a template.
-    fn push_closing(&mut self, template: Template, ends_line: bool) -> Result<(), AllocError> {
+    // Begins a gap with the comments at the end of a template, whose lines move as `ended` says, if that is known.
+    fn push_closing(
+        &mut self,
+        template: Template,
+        ends_line: bool,
+        ended: Option<Shift>,
+    ) -> Result<(), AllocError> {
         let comments = part(self.sources.text, template.last, template.closing);
-        let shift = self.shift_at(template.last);
+        let shift = ended.unwrap_or(self.shift_at(template.last));
         if ends_line {
             return self.gaps.push_comments(comments, shift, None);
         }
@@ -159,12 +165,14 @@ impl<'c, 's> Chooser<'c, 's> {
         self.gaps.push_comments(lines, shift, last)
     }
 
-    /// Begins the gap before a token with the comments at the end of a template, if it ends with the token before and with its line.
+    /// Begins the gap before a token with the comments at the end of a template, if it ends with the token before and with its line. `ended` is
+    /// how the lines of that template moved, if it is left.
     pub(crate) fn close_before(
         &mut self,
         last: Option<Place>,
         next: Option<Place>,
         choice: Choice,
+        ended: Option<Shift>,
     ) -> Result<(), AllocError> {
         let (Some(last), Some(next)) = (last, next) else {
             return Ok(());
@@ -179,7 +187,7 @@ impl<'c, 's> Chooser<'c, 's> {
             _ => false,
         };
         if ends || ends_line(source, next.start as usize) {
-            return self.push_closing(template, ends);
+            return self.push_closing(template, ends, ended);
         }
         Ok(())
     }
@@ -192,7 +200,7 @@ impl<'c, 's> Chooser<'c, 's> {
         };
         match self.ended(last, None) {
             Some(template) if ends_line(self.sources.text, call_end(self.sources.text, begin)) => {
-                self.push_closing(template, false)?;
+                self.push_closing(template, false, None)?;
                 self.gaps.push_space(false)
             }
             _ => Ok(()),

@@ -9,7 +9,7 @@
 //!
 //! `rust_text_laid` lays out what replaces a call of a macro. It takes the gaps from the source: `places` says where each token is in it,
 //! `Templates` where its templates and repetitions are, and `Chooser` which gap is before each token; where the source has none, `Spacer`
-//! finds the space. No contract fixes that choice: it changes nothing but the looks, since `pieces` leaves out each gap that is none. Then
+//! finds the space. `Moved` holds how far the lines of a template move. No contract fixes that choice: it changes nothing but the looks, since `pieces` leaves out each gap that is none. Then
 //! `documented` writes attributes that document something as comments: `replacement` finds those that a comment of one line can replace.
 #![tactic(auto)]
 
@@ -19,12 +19,15 @@ mod braces;
 mod choosing;
 mod closing;
 mod documenting;
+mod entering;
 mod gap;
 mod indenting;
 mod kinds;
 mod laid;
 pub mod laws;
 mod layout;
+mod lookups;
+mod moved;
 mod neighbours;
 mod part;
 mod passed;

@@ -3,13 +3,29 @@ use crate::beside::{
     blank_end, breaks, byte_at, byte_before, closes, ends_call, line_breaks, name_start, opens,
     part, space_start,
 };
-use crate::choosing::{Choice, Chooser};
+use crate::choosing::{Choice, Chooser, Part};
+use crate::indenting::Shift;
 use crate::places::Place;
 use crate::templates::Repetition;
 
 // Returns whether a byte begins what a call replaces: a name, a path or an attribute.
 fn begins_call(byte: u8) -> bool {
     byte.is_ascii_alphabetic() || byte >= 128 || matches!(byte, b'_' | b':' | b'#')
+}
+
+// Returns a gap whose lines are so many bytes further indented.
+fn further(choice: Choice, beyond: usize) -> Choice {
+    match choice {
+        Choice::Source(found) => Choice::Source(Part {
+            start: found.start,
+            end: found.end,
+            shift: Shift {
+                from: found.shift.from,
+                to: found.shift.to.saturating_add(beyond),
+            },
+        }),
+        choice => choice,
+    }
 }
 
 impl<'c, 's> Chooser<'c, 's> {
@@ -21,7 +37,10 @@ impl<'c, 's> Chooser<'c, 's> {
             return self.moved_part(repetition.inner, repetition.first, repetition.first);
         }
         if breaks(outside) {
-            self.moved_part(before, repetition.start, repetition.start)
+            further(
+                self.moved_part(before, repetition.start, repetition.start),
+                repetition.beyond,
+            )
         } else if is_first {
             self.first_round(repetition, before)
         } else if repetition.has_lines {

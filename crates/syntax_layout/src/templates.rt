@@ -8,10 +8,7 @@ use memchr::memmem;
 use std::alloc::{AllocError, Global};
 use syntax_lex::{Token, TokenKind};
 
-// A place is looked for in so many repetitions around it.
-const MOST_NESTED: usize = 64;
-
-/// A template of a macro, which is in no other one.
+/// A template of a macro.
 #[derive(Clone, Copy)]
 pub struct Template {
     /// The byte after its opening bracket.
@@ -26,8 +23,17 @@ pub struct Template {
     pub last: usize,
     /// The byte after the comments behind its last token, which document nothing; that after this token if there are none.
     pub closing: usize,
-    /// How many bytes of white space the line of its first token begins with.
+    /// How many bytes of white space the line of its first token begins with, beyond those that `deeper_at` counts.
     pub indent: usize,
+    /// The template around it.
+    pub outer: Option<usize>,
+}
+
+/// A place from which on the source is in another template, or in none.
+#[derive(Clone, Copy)]
+pub(crate) struct Border {
+    pub start: usize,
+    pub number: Option<usize>,
 }
 
 /// A repetition: `$(..)` with its separator and its operator.
@@ -49,14 +55,18 @@ pub struct Repetition {
     pub has_lines: bool,
     /// How many bytes its lines are further indented than that of the outermost repetition around it, as far as these begin their lines.
     pub deeper: usize,
+    /// How many bytes its rounds are further indented than its `$`, if that is no further indented than the line of the bracket around it.
+    pub beyond: usize,
     /// The repetition around it.
     pub outer: Option<usize>,
 }
 
-/// The templates of a source in order, and all repetitions in the order of their `$`.
+/// The templates of a source in the order of their opening brackets, and all repetitions in the order of their `$`.
 #[derive(Drop)]
 pub struct Templates {
     pub templates: Vec<Template>,
+    /// Where templates begin and end, in order.
+    pub(crate) borders: Vec<Border>,
     pub repetitions: Vec<Repetition>,
     /// The numbers of the repetitions in the order of their closing brackets.
     pub closed: Vec<usize>,
@@ -86,7 +96,8 @@ enum Opened {
     Rules,
     Template(usize),
     Repetition(usize),
-    Other,
+    // another bracket, at this place
+    Other(usize),
 }
 
 #[derive(Drop)]
@@ -99,8 +110,8 @@ struct Reader<'s> {
     innermost: Option<usize>,
     // The repetition that was closed last, if its operator is to come.
     closed: Option<usize>,
-    // Whether a template is open.
-    is_inside: bool,
+    // The templates that are open.
+    inside: Vec<usize>,
     // The byte after the latest token.
     behind: usize,
 }
@@ -112,7 +123,7 @@ fn latest_behind(latest: Latest, kind: TokenKind, word: &str) -> Latest {
         (_, TokenKind::Eq) => Latest::Equals,
         (Latest::Equals, TokenKind::Gt) => Latest::Arrow,
         (Latest::Rules, TokenKind::Bang) => Latest::RulesBang,
-        (Latest::RulesBang, TokenKind::Ident) => Latest::RulesName,
+        (Latest::RulesBang, TokenKind::Ident | TokenKind::RawIdent) => Latest::RulesName,
         (_, TokenKind::Ident) => {
             if word == "macro_rules" {
                 Latest::Rules
@@ -125,10 +136,13 @@ fn latest_behind(latest: Latest, kind: TokenKind, word: &str) -> Latest {
 }
 
 impl<'s> Reader<'s> {
-    // Returns whether the open template begins at a place.
+    // Returns whether the innermost open template begins at a place.
     fn begins_template(&self, at: usize) -> bool {
-        match self.found.templates.last() {
-            Some(template) => self.is_inside && template.first == at,
+        match self.inside.last() {
+            Some(number) => match self.found.templates.get(*number) {
+                Some(template) => template.first == at,
+                None => false,
+            },
             None => false,
         }
     }
@@ -153,6 +167,19 @@ impl<'s> Reader<'s> {
         deeper.saturating_add(indentation(self.source, first).saturating_sub(line))
     }
 
+    // Returns how many bytes the first token of a repetition is further indented than its `$`, if that begins a line which is no further
+    // indented than that of the bracket around it.
+    fn beyond(&self, start: usize, first: usize) -> usize {
+        let line = indentation(self.source, start);
+        match self.opened.last() {
+            Some(Opened::Other(at))
+                if begins_line(self.source, start) && line <= indentation(self.source, *at) => {
+                indentation(self.source, first).saturating_sub(line)
+            }
+            _ => 0,
+        }
+    }
+
     // Opens a repetition whose `(` is at a place.
     fn open_repetition(&mut self, at: usize) -> Result<Opened, AllocError> {
         let start = at.saturating_sub(1);
@@ -160,8 +187,9 @@ impl<'s> Reader<'s> {
         let first = blank_end(self.source, inner);
         let outer = self.innermost;
         let breaks = breaks(part(self.source, inner, first));
+        let beyond = if breaks { self.beyond(start, first) } else { 0 };
         let deeper = if breaks {
-            self.deeper(start, first, outer)
+            self.deeper(start, first, outer).saturating_sub(beyond)
         } else {
             self.deeper(start, start, outer)
         };
@@ -175,10 +203,18 @@ impl<'s> Reader<'s> {
             breaks,
             has_lines: false,
             deeper,
+            beyond,
             outer,
         })?;
         self.innermost = Some(number);
         Ok(Opened::Repetition(number))
+    }
+
+    // Remembers that the innermost open template goes on from a place.
+    fn begin(&mut self, start: usize) -> Result<(), AllocError> {
+        let number = self.inside.last().copied();
+        self.found.borders.push(Border { start, number })?;
+        Ok(())
     }
 
     // Opens a template whose bracket is at a place.
@@ -186,6 +222,11 @@ impl<'s> Reader<'s> {
         let start = at.saturating_add(1);
         let first = blank_end(self.source, start);
         let number = self.found.templates.len();
+        let around = match self.innermost {
+            Some(innermost) => self.found.repetitions.get(innermost),
+            None => None,
+        };
+        let deeper = around.map_or(0, |it| it.deeper);
         self.found.templates.push(Template {
             start,
             end: self.source.len(),
@@ -193,9 +234,11 @@ impl<'s> Reader<'s> {
             first,
             last: start,
             closing: start,
-            indent: indentation(self.source, first),
+            indent: indentation(self.source, first).saturating_sub(deeper),
+            outer: self.inside.last().copied(),
         })?;
-        self.is_inside = true;
+        self.inside.push(number)?;
+        self.begin(start)?;
         Ok(Opened::Template(number))
     }
 
@@ -205,9 +248,9 @@ impl<'s> Reader<'s> {
         let in_rules = matches!(self.opened.last(), Some(Opened::Rules));
         let opened = match self.latest {
             Latest::Dollar if kind == TokenKind::OpenParen => self.open_repetition(at)?,
-            Latest::Arrow if in_rules && !self.is_inside => self.open_template(at)?,
+            Latest::Arrow if in_rules => self.open_template(at)?,
             Latest::RulesName => Opened::Rules,
-            _ => Opened::Other,
+            _ => Opened::Other(at),
         };
         self.opened.push(opened)?;
         Ok(())
@@ -221,8 +264,9 @@ impl<'s> Reader<'s> {
     }
 
     // Closes a template whose closing bracket is at a place. Comments that are longer than a gap do not count.
-    fn close_template(&mut self, number: usize, at: usize) {
-        self.is_inside = false;
+    fn close_template(&mut self, number: usize, at: usize) -> Result<(), AllocError> {
+        let _inside = self.inside.pop();
+        self.begin(at)?;
         let last = self.behind;
         let stop = space_start(self.source, at);
         if let Some(template) = self.found.templates.get_mut(number) {
@@ -237,6 +281,7 @@ impl<'s> Reader<'s> {
                 self.found.have_closing = true;
             }
         }
+        Ok(())
     }
 
     // Closes a bracket.
@@ -259,10 +304,7 @@ impl<'s> Reader<'s> {
                 self.found.closed.push(number)?;
                 Ok(())
             }
-            Some(Opened::Template(number)) => {
-                self.close_template(number, at);
-                Ok(())
-            }
+            Some(Opened::Template(number)) => self.close_template(number, at),
             _ => Ok(()),
         }
     }
@@ -315,7 +357,8 @@ impl<'s> Reader<'s> {
         }
         self.opened.clear();
         self.innermost = None;
-        self.is_inside = false;
+        self.inside.clear();
+        self.begin(self.source.len())?;
         Ok(at)
     }
 }
@@ -327,6 +370,7 @@ impl Templates {
             source,
             found: Templates {
                 templates: Vec::new(alloc),
+                borders: Vec::new(alloc),
                 repetitions: Vec::new(alloc),
                 closed: Vec::new(alloc),
                 have_closing: false,
@@ -335,7 +379,7 @@ impl Templates {
             opened: Vec::new(alloc),
             innermost: None,
             closed: None,
-            is_inside: false,
+            inside: Vec::new(alloc),
             behind: 0,
         };
         let mut end = 0;
@@ -345,55 +389,5 @@ impl Templates {
             }
         }
         Ok(reader.found)
-    }
-
-    /// Returns the number of the template that a place is in.
-    pub fn template_at(&self, at: usize) -> Option<usize> {
-        let number = self
-            .templates
-            .as_slice()
-            .partition_point(|template| template.end <= at);
-        match self.templates.get(number) {
-            Some(template) if template.start <= at => Some(number),
-            _ => None,
-        }
-    }
-
-    /// Returns the repetition whose closing bracket is the last before a place.
-    pub fn closed_before(&self, at: usize) -> Option<Repetition> {
-        let all = self.repetitions.as_slice();
-        let count = self.closed.as_slice().partition_point(|number| {
-            match all.get(*number) {
-                Some(repetition) => repetition.close < at,
-                None => false,
-            }
-        });
-        let number = *self.closed.get(count.checked_sub(1)?)?;
-        all.get(number).copied()
-    }
-
-    /// Returns the repetition that begins last before a place.
-    pub fn begun_before(&self, at: usize) -> Option<Repetition> {
-        let all = self.repetitions.as_slice();
-        let count = all.partition_point(|repetition| repetition.start < at);
-        all.get(count.checked_sub(1)?).copied()
-    }
-
-    /// Returns how many bytes the line of a place is further indented than the outermost repetition around it.
-    pub fn deeper_at(&self, at: usize) -> usize {
-        let mut next = self.begun_before(at);
-        for _ in 0..MOST_NESTED {
-            let Some(repetition) = next else {
-                return 0;
-            };
-            if at <= repetition.close {
-                return repetition.deeper;
-            }
-            next = match repetition.outer {
-                Some(number) => self.repetitions.get(number).copied(),
-                None => None,
-            };
-        }
-        0
     }
 }
