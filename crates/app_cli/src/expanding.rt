@@ -5,8 +5,8 @@ use crate::dropping::{Drops, without_definitions};
 use crate::options::Options;
 use crate::report::{Report, report_on, summary};
 use app_files::{
-    Failure, Input, Mentions, error_text_at, grammar_failure, shebang_of, style_of, syntax_failure,
-    tree_of, without_shebang,
+    Failure, Input, Mentions, error_text_at, grammar_failure, is_file, shebang_of, style_of,
+    syntax_failure, tree_of, without_shebang,
 };
 use expand_text::{ExpandOptions, ExpandTextError, expand_leniently};
 use mbe_grammar::{ParsedFile, parse_file};
@@ -59,6 +59,9 @@ fn syntax_counts(
     source: &str,
 ) -> Result<Counts, Failure> {
     let tree = tree_of(rt, name, source)?;
+    if is_file(rt.alloc(), tree.token_trees())? {
+        return Ok(Counts::NONE);
+    }
     match parse_file(rt.alloc(), tree.token_trees())? {
         ParsedFile::Whole(_) => Ok(Counts::NONE),
         ParsedFile::Refused(error) => {

@@ -8,6 +8,7 @@ pub mod Blanks
 pub mod Plain
 pub mod Returns
 pub mod SpaceGaps
+pub mod LineGaps
 pub mod AttributeChunks
 pub mod CommentChunks
 pub mod DocumentedChunks

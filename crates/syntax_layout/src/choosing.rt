@@ -8,7 +8,7 @@ use crate::beside::{
     space_start,
 };
 use crate::gap::is_gap;
-use crate::indenting::{Gaps, Shift};
+use crate::indenting::{Gaps, Shift, breaks_before_spaces};
 use crate::moved::Moved;
 use crate::places::{Place, Written};
 use crate::spacer::Spacer;
@@ -155,6 +155,12 @@ impl<'c, 's> Chooser<'c, 's> {
     // Adds the part of the source between two places as a gap, whose lines move. Returns whether it has line breaks.
     fn push_part(&mut self, found: Part) -> Result<bool, AllocError> {
         let gap = part(self.sources.text, found.start, found.end);
+        let lines = breaks_before_spaces(gap).unwrap_or(0);
+        if lines > 0 {
+            self.gaps
+                .push_breaks(lines, gap.len().saturating_sub(lines), found.shift)?;
+            return Ok(true);
+        }
         let has_breaks = breaks(gap);
         if has_breaks || self.gaps.have_comments() {
             self.gaps.push_text(gap, found.shift)?;
@@ -169,6 +175,7 @@ impl<'c, 's> Chooser<'c, 's> {
     }
 
     // Chooses the gap before a token that is not beside the one before it.
+    #[inline(never)]
     fn pass_apart(&mut self, last: Option<Place>, next: Option<Place>) -> Result<(), AllocError> {
         let before = self.gaps.line;
         let number = self.gaps.pieces.len();
@@ -204,30 +211,44 @@ impl<'c, 's> Chooser<'c, 's> {
         }
     }
 
-    // Adds the part of the source between two tokens as the gap, if it is one. Returns whether it is.
-    fn pass_beside(&mut self, end: usize, start: usize) -> Result<bool, AllocError> {
-        let gap = part(self.sources.text, end, start);
-        match gap.as_bytes() {
-            [] => {
-                if end < start {
-                    return Ok(false);
-                }
-                self.gaps.push_space(false)?;
-            }
-            [b' '] => self.gaps.push_space(true)?,
-            _ => {
-                if gap.len() > MOST_GAP || !(is_white(gap) || is_gap(gap)) {
-                    return Ok(false);
-                }
-                if breaks(gap) {
-                    let shift = self.shift_at(start);
-                    self.gaps.push_text(gap, shift)?;
-                } else {
-                    self.gaps.push_part(end, start)?;
-                }
-            }
+    // Adds white space or comments between two tokens as the gap, which has at least two bytes. Returns whether it is one.
+    #[inline(never)]
+    fn push_beside(&mut self, gap: &str, end: usize, start: usize) -> Result<bool, AllocError> {
+        let lines = breaks_before_spaces(gap).unwrap_or(0);
+        if lines > 0 {
+            let shift = self.shift_at(start);
+            self.gaps
+                .push_breaks(lines, gap.len().saturating_sub(lines), shift)?;
+            return Ok(true);
+        }
+        if gap.len() > MOST_GAP || !(is_white(gap) || is_gap(gap)) {
+            return Ok(false);
+        }
+        if breaks(gap) {
+            let shift = self.shift_at(start);
+            self.gaps.push_text(gap, shift)?;
+        } else {
+            self.gaps.push_part(end, start)?;
         }
         Ok(true)
+    }
+
+    // Adds the part of the source between two tokens as the gap, if it is one. Returns whether it is.
+    fn pass_beside(&mut self, end: usize, start: usize) -> Result<bool, AllocError> {
+        let len = start.saturating_sub(end);
+        if len == 0 {
+            self.gaps.push_space(false)?;
+            return Ok(true);
+        }
+        if len == 1 && byte_at(self.sources.text, end) == Some(b' ') {
+            self.gaps.push_space(true)?;
+            return Ok(true);
+        }
+        let gap = part(self.sources.text, end, start);
+        if gap.is_empty() {
+            return Ok(false);
+        }
+        self.push_beside(gap, end, start)
     }
 
     // Returns whether a block begins with a token, whatever was written before.
@@ -265,7 +286,8 @@ impl<'c, 's> Chooser<'c, 's> {
             (Some(last), Some(next)) => self.begins_block(last, next),
             _ => false,
         };
-        self.spacer.go_over(token.len, number, begins_block);
+        self.spacer
+            .go_over(token.len as usize, number, begins_block);
         Ok(())
     }
 }

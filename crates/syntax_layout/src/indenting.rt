@@ -1,18 +1,15 @@
 //! Gaps with line breaks, moved to another indentation.
-use crate::beside::{breaks, part};
-use crate::pieces::Piece;
+use crate::beside::{breaks, is_white, part};
+use crate::pieces::{MOST_SPACES, Piece, line_of};
 use std::alloc::{AllocError, Global};
 
 // Lines are not moved further to the right.
 const MOST_INDENTATION: usize = 256;
 
 // White space of so many bytes.
-const FILLED: usize = 32;
+const FILLED: usize = MOST_SPACES;
 
 const SPACES: &str = "                                ";
-
-// A line break, and white space of so many bytes.
-const LINE: &str = "\n                                ";
 
 const TABS: &str = "\t\t\t\t\t\t\t\t\t\t\t\t\t\t\t\t\t\t\t\t\t\t\t\t\t\t\t\t\t\t\t\t";
 
@@ -42,13 +39,23 @@ pub struct Gaps {
 
 // Returns the white space at the begin of a line, and what follows it.
 fn indentation_of(line: &str) -> (&str, &str) {
-    let body = line.trim_start_matches([' ', '\t']);
-    let white = line.get(..line.len().saturating_sub(body.len()));
-    (white.unwrap_or(""), body)
+    let mut end: usize = 0;
+    for byte in line.as_bytes() {
+        if !matches!(*byte, b' ' | b'\t') {
+            break;
+        }
+        end = end.saturating_add(1);
+    }
+    (part(line, 0, end), part(line, end, line.len()))
 }
 
-// Returns how many line breaks a text begins with, if only spaces follow them.
-fn breaks_before_spaces(text: &str) -> Option<usize> {
+// Returns a place in a source, or a number of bytes. No text has more bytes.
+fn small(number: usize) -> u32 {
+    u32::try_from(number).unwrap_or(u32::MAX)
+}
+
+/// Returns how many line breaks a text begins with, if only spaces follow them.
+pub fn breaks_before_spaces(text: &str) -> Option<usize> {
     let mut breaks: usize = 0;
     let mut is_behind = false;
     for byte in text.as_bytes() {
@@ -117,12 +124,13 @@ impl Gaps {
     fn push_front(&mut self, front: &str, shift: Shift) -> Result<(), AllocError> {
         for (number, line) in front.split('\n').enumerate() {
             let (white, body) = indentation_of(line);
+            let is_empty = is_white(body);
             if number > 0 {
                 self.moved.push('\n')?;
             }
-            if number > 0 && !body.trim_start().is_empty() {
+            if number > 0 && !is_empty {
                 self.indent(white, shift)?;
-            } else if !body.trim_start().is_empty() {
+            } else if !is_empty {
                 self.moved.push_str(white)?;
             }
             self.moved.push_str(body)?;
@@ -130,16 +138,17 @@ impl Gaps {
         Ok(())
     }
 
-    // Adds so many line breaks, and the indentation of a line that had so many spaces.
-    fn push_white(&mut self, breaks: usize, spaces: usize, shift: Shift) -> Result<(), AllocError> {
+    // Returns where a line begins that had so many spaces: by so many bytes of white space of the file, and so many spaces beyond.
+    fn moved_spaces(spaces: usize, shift: Shift) -> (usize, usize) {
         let missing = shift.from.saturating_sub(spaces);
         let moved = shift.to.saturating_sub(missing).min(MOST_INDENTATION);
-        let beyond = spaces.saturating_sub(shift.from);
-        let line = moved.saturating_add(beyond);
-        self.line = line;
-        if breaks == 1 && self.has_spaces && line <= FILLED {
-            return self.moved.push_str(part(LINE, 0, line.saturating_add(1)));
-        }
+        (moved, spaces.saturating_sub(shift.from))
+    }
+
+    // Adds so many line breaks, and the indentation of a line that had so many spaces.
+    fn push_white(&mut self, breaks: usize, spaces: usize, shift: Shift) -> Result<(), AllocError> {
+        let (moved, beyond) = Gaps::moved_spaces(spaces, shift);
+        self.line = moved.saturating_add(beyond);
         for _ in 0..breaks {
             self.moved.push('\n')?;
         }
@@ -174,11 +183,16 @@ impl Gaps {
         let start = self.comments.unwrap_or(start);
         self.comments = None;
         let end = self.moved.len();
-        self.push(Piece::Moved(start, end), end.saturating_sub(start))
+        self.push(
+            Piece::Moved(small(start), small(end)),
+            end.saturating_sub(start),
+        )
     }
 
     // Adds a text whose lines move, if it has several.
     fn push_any(&mut self, text: &str, shift: Shift) -> Result<(), AllocError> {
+        self.moved
+            .reserve(text.len().saturating_add(MOST_INDENTATION))?;
         if breaks(text) {
             self.push_lines(text, shift)
         } else {
@@ -226,7 +240,36 @@ impl Gaps {
 
     /// Adds a part of the source without line breaks.
     pub fn push_part(&mut self, start: usize, end: usize) -> Result<(), AllocError> {
-        self.push(Piece::Source(start, end), end.saturating_sub(start))
+        self.push(
+            Piece::Source(small(start), small(end)),
+            end.saturating_sub(start),
+        )
+    }
+
+    // Returns whether so many line breaks and bytes of white space of the file are a piece of their own.
+    fn is_line(&self, breaks: usize, indentation: usize) -> bool {
+        breaks <= 2 && self.has_spaces && indentation <= MOST_SPACES && self.comments.is_none()
+    }
+
+    /// Adds so many line breaks, at least one, and so many spaces, which move.
+    pub fn push_breaks(
+        &mut self,
+        breaks: usize,
+        spaces: usize,
+        shift: Shift,
+    ) -> Result<(), AllocError> {
+        let (moved, beyond) = Gaps::moved_spaces(spaces, shift);
+        let line = moved.saturating_add(beyond);
+        if self.is_line(breaks, line) {
+            self.line = line;
+            return self.push(
+                Piece::Line(breaks == 2, small(line)),
+                breaks.saturating_add(line),
+            );
+        }
+        let start = self.moved.len();
+        self.push_white(breaks, spaces, shift)?;
+        self.push_moved(start)
     }
 
     /// Adds a gap, whose lines move if it has several.
@@ -238,17 +281,26 @@ impl Gaps {
 
     /// Adds a line break and an indentation.
     pub fn push_line(&mut self, indentation: usize) -> Result<(), AllocError> {
+        let line = indentation.min(MOST_INDENTATION);
+        self.line = line;
+        if self.is_line(1, line) {
+            return self.push(Piece::Line(false, small(line)), line.saturating_add(1));
+        }
         let start = self.moved.len();
         self.moved.push('\n')?;
-        self.line = indentation.min(MOST_INDENTATION);
-        self.begin_line(self.line)?;
+        self.begin_line(line)?;
         self.push_moved(start)
     }
 
     /// Adds a text to the last gap, which is empty or has line breaks.
     pub fn extend(&mut self, text: &str, shift: Shift) -> Result<(), AllocError> {
         let start = match self.pieces.pop() {
-            Some(Piece::Moved(start, _)) => start,
+            Some(Piece::Moved(start, _)) => start as usize,
+            Some(Piece::Line(is_apart, spaces)) => {
+                let start = self.moved.len();
+                self.moved.push_str(line_of(is_apart, spaces as usize))?;
+                start
+            }
             _ => self.moved.len(),
         };
         self.push_lines(text, shift)?;

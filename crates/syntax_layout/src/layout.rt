@@ -279,8 +279,8 @@ pub fn laid_out(alloc: Global, text: &str, gaps: &[&str]) -> Result<Option<Strin
     requires gaps { AreGaps (map (λ g. g.now) gaps.now) }
     ensures { IfOk result (λ found. MatchOption found (HasOthers text.now) (λ laid. IsLaidOut text.now (map (λ g. g.now) gaps.now) (string_bytes laid))) }
 {
-    let mut laid = String::new(alloc);
-    let mut room = String::new(alloc);
+    let mut laid = String::with_capacity(alloc, 2 * text.len())?;
+    let mut room = String::with_capacity(alloc, 64)?;
     let mut last = Last {
         is_none: true,
         touches: false,

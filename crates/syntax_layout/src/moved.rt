@@ -15,7 +15,10 @@ struct Level {
 /// The indentations, by the numbers of the templates.
 #[derive(Drop)]
 pub(crate) struct Moved {
-    latest: HashMap<usize, usize>,
+    // The template that was entered first.
+    first: Option<(usize, usize)>,
+    // The other ones.
+    others: HashMap<usize, usize>,
     // The templates that were entered again and did not end, as those of macros that call themselves.
     again: Vec<Level>,
 }
@@ -24,14 +27,29 @@ impl Moved {
     /// Returns no indentations.
     pub(crate) fn new(alloc: Global) -> Moved {
         Moved {
-            latest: HashMap::new(alloc),
+            first: None,
+            others: HashMap::new(alloc),
             again: Vec::new(alloc),
         }
     }
 
     /// Returns the indentation to which the lines of a template move, if it was entered.
     pub(crate) fn get(&self, number: usize) -> Option<usize> {
-        self.latest.get(&number).copied()
+        match self.first {
+            Some((first, to)) if first == number => Some(to),
+            _ => self.others.get(&number).copied(),
+        }
+    }
+
+    // Remembers the indentation to which the lines of a template move.
+    fn set(&mut self, number: usize, to: usize) -> Result<(), AllocError> {
+        match self.first {
+            Some((first, _)) if first != number => {
+                self.others.insert(number, to)?;
+            }
+            _ => self.first = Some((number, to)),
+        }
+        Ok(())
     }
 
     /// Enters a template, whose lines move to an indentation.
@@ -39,8 +57,7 @@ impl Moved {
         if let Some(before) = self.get(number) {
             self.again.push(Level { number, before })?;
         }
-        self.latest.insert(number, to)?;
-        Ok(())
+        self.set(number, to)
     }
 
     /// Returns whether a template was entered again and did not end.
@@ -68,7 +85,7 @@ impl Moved {
         };
         for _ in at..self.again.len() {
             if let Some(level) = self.again.pop() {
-                self.latest.insert(level.number, level.before)?;
+                self.set(level.number, level.before)?;
             }
         }
         Ok(self.get(number))

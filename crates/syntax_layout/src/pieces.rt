@@ -6,6 +6,12 @@ use crate::beside::part;
 use crate::trees::or_empty;
 use std::alloc::{AllocError, Global};
 
+/// A piece of a line break and spaces has at most so many spaces.
+pub const MOST_SPACES: usize = 32;
+
+// Two line breaks, and so many spaces.
+const LINES: &str = "\n\n                                ";
+
 /// A gap that was chosen.
 #[derive(Clone, Copy)]
 pub enum Piece {
@@ -13,10 +19,24 @@ pub enum Piece {
     Empty,
     /// A space.
     Space,
+    /// A line break and so many spaces, behind an empty line or not.
+    Line(bool, u32),
     /// A part of the source, from a byte to another.
-    Source(usize, usize),
+    Source(u32, u32),
     /// A part of the gaps whose lines moved.
-    Moved(usize, usize),
+    Moved(u32, u32),
+}
+
+/// Returns a line break and so many spaces, behind an empty line or not; an empty text if these are too many.
+pub fn line_of(is_apart: bool, spaces: usize) -> &'static str
+    ensures gap { IsGap result.now }
+    ensures short { length result.now < 2 ^ 31 }
+{
+    let start = if is_apart { 0 } else { 1 };
+    match LINES.get(start..spaces.saturating_add(2)) {
+        Some(line) => line,
+        None => "",
+    }
 }
 
 // Returns the text of a gap; an empty one if that text is none.
@@ -27,8 +47,9 @@ fn gap_of<'g>(source: &'g str, moved: &'g str, piece: Piece) -> &'g str
     match piece {
         Piece::Empty => "",
         Piece::Space => " ",
-        Piece::Source(start, end) => or_empty(part(source, start, end)),
-        Piece::Moved(start, end) => or_empty(part(moved, start, end)),
+        Piece::Line(is_apart, spaces) => line_of(is_apart, spaces as usize),
+        Piece::Source(start, end) => or_empty(part(source, start as usize, end as usize)),
+        Piece::Moved(start, end) => or_empty(part(moved, start as usize, end as usize)),
     }
 }
 

@@ -20,7 +20,7 @@ pub struct Written {
     /// Where it is in the source.
     pub place: Option<Place>,
     /// How many bytes it has; 0 if that is not known.
-    pub len: usize,
+    pub len: u32,
 }
 
 // A subtree that was entered.
@@ -84,13 +84,15 @@ fn is_ident(source: &str, place: Place, ident: &Ident) -> bool {
     }
 }
 
-// Returns how many bytes an ident has.
-fn len_of(ident: &Ident) -> usize {
-    ident
-        .is_raw
-        .as_str()
-        .len()
-        .saturating_add(ident.sym.as_str().len())
+// Returns how many bytes an ident has; 0 if these are too many.
+fn len_of(ident: &Ident) -> u32 {
+    let raw = ident.is_raw.as_str().len();
+    u32::try_from(raw.saturating_add(ident.sym.as_str().len())).unwrap_or(0)
+}
+
+// Returns how many bytes a character has.
+fn len_of_char(char: char) -> u32 {
+    u32::try_from(char.len_utf8()).unwrap_or(0)
 }
 
 // Returns the signs of brackets.
@@ -219,7 +221,7 @@ impl<'s> Walk<'s> {
                 }
                 (
                     is_punct(self.source, place, punct.char),
-                    punct.char.len_utf8(),
+                    len_of_char(punct.char),
                 )
             }
             Leaf::Ident(ident) => (is_ident(self.source, place, ident), len_of(ident)),

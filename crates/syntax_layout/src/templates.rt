@@ -222,11 +222,10 @@ impl<'s> Reader<'s> {
         let start = at.saturating_add(1);
         let first = blank_end(self.source, start);
         let number = self.found.templates.len();
-        let around = match self.innermost {
-            Some(innermost) => self.found.repetitions.get(innermost),
-            None => None,
-        };
-        let deeper = around.map_or(0, |it| it.deeper);
+        let deeper = self
+            .innermost
+            .and_then(|number| self.found.repetitions.get(number))
+            .map_or(0, |it| it.deeper);
         self.found.templates.push(Template {
             start,
             end: self.source.len(),
