@@ -11,7 +11,7 @@ use Rattle.tt.specs.Types.DelimiterKind.{DelimiterKind}
 use Rattle.tt.specs.Types.DelimiterKind.TheVariants as delimited
 use Rattle.tt_base.proofs.Joins.{join-assoc}
 use Rattle.expand_items.proofs.ManyTrees.{after_more}
-use Rattle.expand_items.specs.Expressions.{begins_block, block_goes_on, has_no_block, has_semicolon, is_at_block, is_at_braces, is_invisible, is_last_semicolon, without_semicolon}
+use Rattle.expand_items.specs.Expressions.{begins_block, block_goes_on, ends_with_semicolon, has_no_block, has_semicolon, is_at_block, is_at_braces, is_invisible, is_last_semicolon, without_semicolon}
 use Rattle.mbe_pattern.proofs.Passing.{front_is}
 use Rattle.mbe_pattern.specs.Units.{front_trees, is_at_punct, is_at_word, is_brace}
 
@@ -71,6 +71,22 @@ pub no_semicolon : (trees : Forest) → is_end trees ≡ true → has_semicolon 
 no_semicolon end e = refl
 no_semicolon (leaf it rest) e = absurd (false≢true e)
 no_semicolon (node delimiter children rest) e = absurd (false≢true e)
+
+-- A `;` at the end ends the search for one; another tree goes on with it.
+pub last_found : (trees : Forest) → is_last_semicolon trees ≡ true → ends_with_semicolon trees ≡ true
+last_found end e = absurd (false≢true e)
+last_found (leaf it rest) e = ap (λ b. b || ends_with_semicolon rest) e
+last_found (node delimiter children rest) e = absurd (false≢true e)
+
+pub not_last_yet : (trees : Forest) → is_last_semicolon trees ≡ false → ends_with_semicolon trees ≡ ends_with_semicolon (after_tree trees)
+not_last_yet end e = refl
+not_last_yet (leaf it rest) e = ap (λ b. b || ends_with_semicolon rest) e
+not_last_yet (node delimiter children rest) e = refl
+
+pub none_last : (trees : Forest) → is_end trees ≡ true → ends_with_semicolon trees ≡ false
+none_last end e = refl
+none_last (leaf it rest) e = absurd (false≢true e)
+none_last (node delimiter children rest) e = absurd (false≢true e)
 
 -- What follows other trees decides.
 pub passed_on : (trees : Forest) → ends_block trees ≡ false → block_goes_on trees ≡ block_goes_on (after_tree trees)

@@ -199,18 +199,60 @@ behind_item = refl
 in_parentheses : (first_in Parenthesis (behind_word (codes "mod") (begun Items))).siblings ≡ Others
 in_parentheses = refl
 
--- Among items the `;` of `m!();` is a part of it, and that of `m!{};` is not; among statements it is not.
-item_semicolon : takes_semicolon Parenthesis (alone 59 end) (begun Items) ≡ true
+-- Among items the `;` of `m!();` is a part of it, whatever an arm made, and that of `m!{};` is not.
+item_semicolon : takes_semicolon 0 Parenthesis (alone 59 end) (word (codes "a") end) (begun Items) ≡ true
 item_semicolon = refl
 
-braces_semicolon : takes_semicolon Brace (alone 59 end) (begun Items) ≡ false
+braces_semicolon : takes_semicolon 0 Brace (alone 59 end) (word (codes "a") end) (begun Items) ≡ false
 braces_semicolon = refl
 
-statement_semicolon : takes_semicolon Parenthesis (alone 59 end) (begun Statements) ≡ false
-statement_semicolon = refl
-
-later_semicolon : takes_semicolon Parenthesis (alone 59 end) (behind_word (codes "a") (begun Items)) ≡ false
+later_semicolon : takes_semicolon 0 Parenthesis (alone 59 end) (word (codes "a") end) (behind_word (codes "a") (begun Items)) ≡ false
 later_semicolon = refl
+
+item_under : takes_semicolon 2 Parenthesis (alone 59 end) (word (codes "a") end) (begun Items) ≡ true
+item_under = refl
+
+-- `a;`, `{ ; }`, and `; a`
+abbrev ended : Forest
+ended = word (codes "a") (alone 59 end)
+
+abbrev ended_inside : Forest
+ended_inside = join (subtree Brace (alone 59 end)) end
+
+abbrev ended_before : Forest
+ended_before = alone 59 (word (codes "a") end)
+
+-- Among statements it is if an arm made `a;`, or made nothing and something follows; it is not if an arm made `a`, `{ ; }` or `; a`.
+ended_made : takes_semicolon 0 Parenthesis (alone 59 end) ended (begun Statements) ≡ true
+ended_made = refl
+
+nothing_made : takes_semicolon 0 Parenthesis (alone 59 (word (codes "a") end)) end (begun Statements) ≡ true
+nothing_made = refl
+
+nothing_at_end : takes_semicolon 0 Parenthesis (alone 59 end) end (begun Statements) ≡ false
+nothing_at_end = refl
+
+expression_made : takes_semicolon 0 Parenthesis (alone 59 end) (word (codes "a") end) (begun Statements) ≡ false
+expression_made = refl
+
+block_made : takes_semicolon 0 Parenthesis (alone 59 end) ended_inside (begun Statements) ≡ false
+block_made = refl
+
+others_made : takes_semicolon 0 Parenthesis (alone 59 end) ended_before (begun Statements) ≡ false
+others_made = refl
+
+-- It is not after attributes or braces, if a statement has begun before, or if there is none.
+statement_under : takes_semicolon 2 Parenthesis (alone 59 end) ended (begun Statements) ≡ false
+statement_under = refl
+
+statement_braces : takes_semicolon 0 Brace (alone 59 end) ended (begun Statements) ≡ false
+statement_braces = refl
+
+later_statement : takes_semicolon 0 Parenthesis (alone 59 end) ended (behind_word (codes "a") (begun Statements)) ≡ false
+later_statement = refl
+
+no_semicolon : takes_semicolon 0 Parenthesis end ended (begun Statements) ≡ false
+no_semicolon = refl
 
 -- `m!();` among items expands to items, and `m!() + ..` among statements expands to neither.
 items_come : siblings_of_call 0 Parenthesis (alone 59 end) (begun Items) ≡ Items

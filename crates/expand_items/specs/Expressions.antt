@@ -135,6 +135,17 @@ without_semicolon end = end
 without_semicolon (leaf it rest) = if is_last_semicolon (leaf it rest) then end else leaf it (without_semicolon rest)
 without_semicolon (node delimiter children rest) = node delimiter children (without_semicolon rest)
 
+-- the last of the trees is a `;`
+abbrev pub ends_with_semicolon : Forest → Bool
+ends_with_semicolon end = false
+ends_with_semicolon (leaf it rest) = is_last_semicolon (leaf it rest) || ends_with_semicolon rest
+ends_with_semicolon (node delimiter children rest) = ends_with_semicolon rest
+
+-- a statement of these trees needs no `;` behind them, if a `;` and others follow: the last of the trees is a `;`; or there are none, and the
+-- `;` does not end a block, since it keeps an expression before it from being the value of the block
+abbrev pub needs_no_semicolon : (trees behind : Forest) → Bool
+needs_no_semicolon trees behind = if is_end trees then not (is_end (after_tree behind)) else ends_with_semicolon trees
+
 -- one of the trees is a `;`
 abbrev pub has_semicolon : Forest → Bool
 has_semicolon end = false

@@ -19,7 +19,7 @@ use Rattle.expand_items.specs.declared.head.Head.TheVariants as head
 use Rattle.expand_items.specs.declared.position.Position.{Position}
 use Rattle.expand_items.specs.declared.position.Siblings.{Siblings}
 use Rattle.expand_items.specs.declared.position.Siblings.TheVariants as siblings
-use Rattle.expand_items.specs.Expressions.{are_statements, enclosure_at_start, fits_before, goes_on, is_invisible}
+use Rattle.expand_items.specs.Expressions.{are_statements, enclosure_at_start, fits_before, goes_on, is_invisible, needs_no_semicolon}
 use Rattle.expand_items.specs.Fronts.{front_behind, front_behind_ident, front_of_expansion, is_arrow, is_at_start, is_free}
 use Rattle.mbe_pattern.specs.Units.{is_at_word, is_brace, is_at_punct}
 use Rattle.mbe_pattern.specs.Spelling.{is_parenthesis}
@@ -237,9 +237,12 @@ ends_statement attributes kind behind it =
 abbrev pub is_statement : (attributes : ℕ) → DelimiterKind → (behind : Forest) → Position → Bool
 is_statement attributes kind behind it = it.is_start && ends_statement attributes kind behind it
 
--- the `;` after a call is a part of it: among items, because no `;` may come alone there
-abbrev pub takes_semicolon : DelimiterKind → (behind : Forest) → Position → Bool
-takes_semicolon kind behind it = is_items it.siblings && (it.is_start && (not (is_brace kind) && is_at_punct (codes ";") behind))
+-- the `;` after a call, of which an arm made these trees, is a part of it: at an item, because no `;` may come alone among items; and at a
+-- statement without attributes, if the trees need none
+abbrev pub takes_semicolon : (attributes : ℕ) → DelimiterKind → (behind made : Forest) → Position → Bool
+takes_semicolon attributes kind behind made it =
+    it.is_start && (not (is_brace kind) && (is_at_punct (codes ";") behind
+    && (is_items it.siblings || ((attributes == 0) && needs_no_semicolon made behind))))
 
 -- what the trees that a call expands to are: its siblings, if it is a statement or an item
 abbrev pub siblings_of_call : (attributes : ℕ) → DelimiterKind → (behind : Forest) → Position → Siblings

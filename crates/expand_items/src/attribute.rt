@@ -2,7 +2,7 @@
 ghost use Rattle.std.specs.Prelude.{◌≡◌, ◌+◌, ◌<◌, ◌^◌, IfOk, false};
 ghost use Rattle.tt.specs.Forest.{size};
 ghost use Rattle.tt.specs.Iters.{rest_of};
-ghost use Rattle.expand_items.specs.Attributes.{attributes_len, is_at_attribute, is_at_condition, is_attribute_sign, item_at, item_behind, with_attributes};
+ghost use Rattle.expand_items.specs.Attributes.{attributes_len, begins_attributes, is_at_attribute, is_at_condition, is_attribute_sign, item_at, item_behind, with_attributes};
 ghost use Rattle.expand_items.specs.Cfg.{known_of};
 ghost use Rattle.expand_items.specs.Inactive.{IsItemAt};
 ghost use Rattle.expand_items.specs.Items.{call_of, item_in, item_meant};
@@ -143,12 +143,19 @@ fn item_behind<'a>(
     }
 }
 
+// Returns whether the first attribute of a statement or an item comes first at a position.
+fn begins_attributes(position: Position, trees: TtIter<'_>) -> bool
+    ensures { result ≡ begins_attributes position (rest_of trees.entry) }
+{
+    position.is_start && !position.is_attributed && is_attribute(trees)
+}
+
 // Returns what comes first at a position, whatever attributes say: a call that is a statement or an item contains the attributes before it.
 fn active_item_at<'a>(position: Position, mut trees: TtIter<'a>, root: &str) -> Item<'a>
     requires { position.is_verbatim ≡ false }
     ensures { item_meant result ≡ item_at root.now position (rest_of trees.entry) }
 {
-    if !position.begins_attributes(trees.remaining().iter()) {
+    if !begins_attributes(position, trees.remaining().iter()) {
         return item_in(trees, root);
     }
     let attributes = attributes_len(trees.remaining().iter());

@@ -6,7 +6,7 @@ ghost use Rattle.tt.specs.Moves.{after_tree};
 ghost use Rattle.tt.specs.Siblings.{is_end};
 ghost use Rattle.tt.specs.Views.{trees_of};
 ghost use Rattle.mbe_pattern.specs.Units.{is_brace};
-ghost use Rattle.expand_items.specs.Expressions.{are_statements, begins_block, begins_with_block, block_goes_on, enclosure_at_start, fits_before, goes_on, has_no_block, has_semicolon, is_at_arrow, is_at_assignment, is_at_block, is_at_braces, is_at_call, is_at_invisible, is_at_subtree, is_invisible, is_last_semicolon, is_split, may_end, takes_block, without_semicolon};
+ghost use Rattle.expand_items.specs.Expressions.{are_statements, begins_block, begins_with_block, block_goes_on, enclosure_at_start, ends_with_semicolon, fits_before, goes_on, has_no_block, has_semicolon, is_at_arrow, is_at_assignment, is_at_block, is_at_braces, is_at_call, is_at_invisible, is_at_subtree, is_invisible, is_last_semicolon, is_split, may_end, needs_no_semicolon, takes_block, without_semicolon};
 
 use mbe_pattern::{is_at_punct, is_at_word, take, unit_size};
 use tt::{DelimiterKind, IdentIsRaw, Leaf, TokenTreesView, TtElement, TtIter};
@@ -275,6 +275,32 @@ pub(crate) fn are_statements(trees: TtIter<'_>) -> bool
     ensures { result ≡ are_statements (rest_of trees.entry) }
 {
     is_at_word(trees.remaining().iter(), "let") || has_semicolon(trees)
+}
+
+// Returns whether the last of these trees is a `;`.
+fn ends_with_semicolon(mut trees: TtIter<'_>) -> bool
+    ensures { result ≡ ends_with_semicolon (rest_of trees.entry) }
+{
+    while !trees.is_empty() {
+        if is_last_semicolon(trees.remaining().iter()) {
+            return true;
+        }
+        trees.next();
+    }
+    false
+}
+
+/// Returns whether a statement of these trees needs no `;` behind them, if a `;` and others follow: the last of the trees is a `;`; or there
+/// are none, and the `;` does not end a block, since it keeps an expression before it from being the value of the block.
+pub(crate) fn needs_no_semicolon(trees: TtIter<'_>, mut behind: TtIter<'_>) -> bool
+    ensures { result ≡ needs_no_semicolon (rest_of trees.entry) (rest_of behind.entry) }
+{
+    if trees.is_empty() {
+        behind.next();
+        !behind.is_empty()
+    } else {
+        ends_with_semicolon(trees)
+    }
 }
 
 /// Returns the trees without a `;` at their end: the compiler drops it from an expansion that is an expression.

@@ -3,14 +3,14 @@ ghost use Rattle.std.specs.Prelude.{◌≡◌, IfOk, length};
 ghost use Rattle.tt.specs.Iters.{rest_of};
 ghost use Rattle.tt.specs.Siblings.{list_of};
 ghost use Rattle.expand_items.specs.Cfg.{known_of};
-ghost use Rattle.expand_items.specs.Inactive.{IsInactive, is_part_inactive, is_rest_inactive};
+ghost use Rattle.expand_items.specs.Inactive.{IsInactive, begins_sign, is_part_inactive, is_rest_inactive};
 
 use crate::attribute::{is_at_inner, is_attribute};
 use crate::cfg::CfgOptions;
 use crate::condition::{attributes_say, brackets_say};
 use crate::part::part_in;
 use crate::position::Position;
-use mbe_pattern::pass;
+use mbe_pattern::{is_at_punct, pass};
 use std::alloc::{AllocError, Global};
 use tt::TtIter;
 
@@ -55,6 +55,13 @@ fn is_part_inactive(
     Ok(attributes_say(alloc, options, trees)? == Some(false))
 }
 
+// Returns whether `#` comes first at a position, and the first attribute of a statement or an item may begin there.
+fn begins_sign(position: Position, trees: TtIter<'_>) -> bool
+    ensures { result ≡ begins_sign position (rest_of trees.entry) }
+{
+    position.is_start && !position.is_attributed && is_at_punct(trees, '#')
+}
+
 /// Returns the number of trees under a false condition that come first at a position, if there are some: all that are left after an inner
 /// attribute, or those of a statement or an item.
 pub(crate) fn inactive_len(
@@ -65,7 +72,7 @@ pub(crate) fn inactive_len(
 ) -> Result<Option<usize>, AllocError>
     ensures { IfOk result (IsInactive (known_of options.now) position (rest_of trees.entry)) }
 {
-    if !position.begins_sign(trees.remaining().iter()) {
+    if !begins_sign(position, trees.remaining().iter()) {
         return Ok(None);
     }
     if is_rest_inactive(alloc, options, trees.remaining().iter())? {

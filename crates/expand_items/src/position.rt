@@ -2,12 +2,11 @@
 ghost use Rattle.std.specs.Prelude.{◌≡◌, true};
 ghost use Rattle.tt.specs.Iters.{rest_of};
 ghost use Rattle.expand_items.specs.Positions.{angles_behind, is_block, begun, siblings_in, first_in, first_inside, behind, behind_attribute_sign, behind_punct, behind_ident, behind_leaf, behind_subtree, keeps_macros, ends_statement, is_statement, takes_semicolon, first_of_call, enclosure};
-ghost use Rattle.expand_items.specs.Attributes.{begins_attributes};
-ghost use Rattle.expand_items.specs.Inactive.{begins_sign};
 
-use crate::attribute::{begins_with_attribute, is_at_attribute_of, is_at_brackets, is_attribute};
+use crate::attribute::{begins_with_attribute, is_at_attribute_of, is_at_brackets};
 use crate::expression::{
     Enclosure, are_statements, enclosure_at_start, fits_before, goes_on, is_invisible,
+    needs_no_semicolon,
 };
 use crate::front::Front;
 use crate::head::Head;
@@ -30,7 +29,7 @@ pub enum Siblings {
 pub struct Position {
     siblings: Siblings,
     /// Whether a statement or an item may begin here.
-    is_start: bool,
+    pub(crate) is_start: bool,
     /// What the words since the beginning of the item say.
     head: Head,
     /// The number of `<` of the item's header that are open here: braces in them are generic arguments.
@@ -38,7 +37,7 @@ pub struct Position {
     /// Whether `#[macro_use]` precedes, with nothing but attributes, idents and parentheses between.
     is_used: bool,
     /// Whether an attribute precedes, with nothing but attributes between.
-    is_attributed: bool,
+    pub(crate) is_attributed: bool,
     /// Whether `#[macro_export]` precedes, with nothing but attributes between.
     is_exported: bool,
     /// Whether `#[rustc_builtin_macro]` does, or `#[rustc_builtin_macro(..)]`.
@@ -330,14 +329,22 @@ impl Position {
         self.is_start && self.ends_statement(attributes, kind, behind)
     }
 
-    /// Returns whether the `;` after such a call is a part of it: it is among items, because no `;` may come alone there.
-    pub fn takes_semicolon(self, kind: DelimiterKind, behind: TtIter<'_>) -> bool
-        ensures { result ≡ takes_semicolon kind (rest_of behind.entry) self }
+    /// Returns whether the `;` after such a call, of which an arm made these trees, is a part of it: at an item, because no `;` may come alone
+    /// among items; and at a statement without attributes, if the trees need none.
+    pub fn takes_semicolon(
+        self,
+        attributes: usize,
+        kind: DelimiterKind,
+        behind: TtIter<'_>,
+        made: TtIter<'_>,
+    ) -> bool
+        ensures { result ≡ takes_semicolon attributes kind (rest_of behind.entry) (rest_of made.entry) self }
     {
-        self.siblings == Siblings::Items
-            && self.is_start
+        self.is_start
             && kind != DelimiterKind::Brace
-            && is_at_punct(behind, ';')
+            && is_at_punct(behind.remaining().iter(), ';')
+            && (self.siblings == Siblings::Items
+                || attributes == 0 && needs_no_semicolon(made, behind))
     }
 
     /// Returns the position before the first of the trees that such a call expands to.
@@ -381,19 +388,5 @@ impl Position {
         } else {
             Enclosure::Opaque
         }
-    }
-
-    /// Returns whether the first attribute of a statement or an item comes first.
-    pub(crate) fn begins_attributes(self, trees: TtIter<'_>) -> bool
-        ensures { result ≡ begins_attributes self (rest_of trees.entry) }
-    {
-        self.is_start && !self.is_attributed && is_attribute(trees)
-    }
-
-    /// Returns whether `#` comes first, and the first attribute of a statement or an item may begin there.
-    pub(crate) fn begins_sign(self, trees: TtIter<'_>) -> bool
-        ensures { result ≡ begins_sign self (rest_of trees.entry) }
-    {
-        self.is_start && !self.is_attributed && is_at_punct(trees, '#')
     }
 }
