@@ -7,6 +7,21 @@ pub(crate) const MOST_NESTED: usize = 64;
 impl Templates {
     /// Returns the number of the innermost template that a place is in.
     pub fn template_at(&self, at: usize) -> Option<usize> {
+        if !self.borders.is_empty() {
+            return self.inner_template_at(at);
+        }
+        let number = self
+            .templates
+            .as_slice()
+            .partition_point(|template| template.end <= at);
+        match self.templates.get(number) {
+            Some(template) if template.start <= at => Some(number),
+            _ => None,
+        }
+    }
+
+    // Returns the same, by the borders of the templates.
+    fn inner_template_at(&self, at: usize) -> Option<usize> {
         let count = self
             .borders
             .as_slice()

@@ -65,7 +65,7 @@ pub struct Repetition {
 #[derive(Drop)]
 pub struct Templates {
     pub templates: Vec<Template>,
-    /// Where templates begin and end, in order.
+    /// Where templates begin and end, in order; none if no template is in another one.
     pub(crate) borders: Vec<Border>,
     pub repetitions: Vec<Repetition>,
     /// The numbers of the repetitions in the order of their closing brackets.
@@ -112,6 +112,8 @@ struct Reader<'s> {
     closed: Option<usize>,
     // The templates that are open.
     inside: Vec<usize>,
+    // Whether a template is in another one.
+    has_inner: bool,
     // The byte after the latest token.
     behind: usize,
 }
@@ -138,13 +140,9 @@ fn latest_behind(latest: Latest, kind: TokenKind, word: &str) -> Latest {
 impl<'s> Reader<'s> {
     // Returns whether the innermost open template begins at a place.
     fn begins_template(&self, at: usize) -> bool {
-        match self.inside.last() {
-            Some(number) => match self.found.templates.get(*number) {
-                Some(template) => template.first == at,
-                None => false,
-            },
-            None => false,
-        }
+        let number = self.inside.last().copied();
+        let template = number.and_then(|number| self.found.templates.get(number));
+        template.is_some_and(|it| it.first == at)
     }
 
     // Returns whether a line or the open template begins with this `$`, or with the repetition around it that begins with it.
@@ -222,10 +220,12 @@ impl<'s> Reader<'s> {
         let start = at.saturating_add(1);
         let first = blank_end(self.source, start);
         let number = self.found.templates.len();
-        let deeper = self
+        let around = self
             .innermost
-            .and_then(|number| self.found.repetitions.get(number))
-            .map_or(0, |it| it.deeper);
+            .and_then(|number| self.found.repetitions.get(number));
+        let deeper = around.map_or(0, |it| it.deeper);
+        let outer = self.inside.last().copied();
+        self.has_inner = self.has_inner || outer.is_some();
         self.found.templates.push(Template {
             start,
             end: self.source.len(),
@@ -234,7 +234,7 @@ impl<'s> Reader<'s> {
             last: start,
             closing: start,
             indent: indentation(self.source, first).saturating_sub(deeper),
-            outer: self.inside.last().copied(),
+            outer,
         })?;
         self.inside.push(number)?;
         self.begin(start)?;
@@ -379,6 +379,7 @@ impl Templates {
             innermost: None,
             closed: None,
             inside: Vec::new(alloc),
+            has_inner: false,
             behind: 0,
         };
         let mut end = 0;
@@ -386,6 +387,9 @@ impl Templates {
             if start >= end {
                 end = reader.definition(start)?;
             }
+        }
+        if !reader.has_inner {
+            reader.found.borders.clear();
         }
         Ok(reader.found)
     }
