@@ -79,9 +79,9 @@ def documented(tokens):
     return found
 
 
-def without_second(tokens):
-    """The tokens, but for each `;` right behind a `;`: a statement that is nothing."""
-    return [it for n, it in enumerate(tokens) if it != ";" or n == 0 or tokens[n - 1] != ";"]
+def without_empty(tokens):
+    """The tokens, but for each `;` right behind a `;` or a brace: a statement that is nothing, or the end of one that has braces there."""
+    return [it for n, it in enumerate(tokens) if it != ";" or n == 0 or tokens[n - 1] not in (";", "{", "}")]
 
 
 def without_parentheses(tokens):
@@ -90,8 +90,8 @@ def without_parentheses(tokens):
 
 
 def without_braces(tokens):
-    """The tokens without braces: under a condition, an expression among statements is in braces."""
-    return without_second([it for it in tokens if it not in ("{", "}")])
+    """The tokens without braces and `;`: under a condition, an expression among statements is in braces."""
+    return [it for it in tokens if it not in ("{", "}", ";")]
 
 
 def class_of(program, ours, theirs):
@@ -99,14 +99,14 @@ def class_of(program, ours, theirs):
     ours, theirs = tokens_of(program, ours), tokens_of(program, theirs)
     if ours == theirs:
         return "agree"
-    ours, theirs = without_second(ours), without_second(theirs)
-    if ours == theirs:
-        return "agree but for a second `;`"
+    if without_empty(ours) == without_empty(theirs):
+        return "agree but for a `;`"
     ours, theirs = without_parentheses(ours), without_parentheses(theirs)
-    if ours == theirs:
+    if without_empty(ours) == without_empty(theirs):
         return "agree but for parentheses"
     if without_braces(ours) == without_braces(theirs):
         return "agree but for braces"
+    ours, theirs = without_empty(ours), without_empty(theirs)
     at = next((n for n, (a, b) in enumerate(zip(ours, theirs)) if a != b), min(len(ours), len(theirs)))
     return f"DIFFER: {' '.join(ours[max(0, at - 8) : at + 6])} | {' '.join(theirs[max(0, at - 8) : at + 6])}"
 

@@ -110,16 +110,16 @@ module _ (config : Config) (in_text : Bool) (limit : ℕ) (position : Position) 
   abbrev pub Changes : (left : ℕ) → Call → Forest → Root → (noted inside : Context) → (held : Outcome) → Type 0
   Changes left it trees tree noted inside held =
       (put : Forest) × (others : Outcome) × PutIn in_text (site_in position it trees tree) (trees_left held) put × MayBePut in_text it.delimiter put
-      × ExpandsTo config in_text (suc left) (behind_in position it trees) 0 (outside_call noted inside) (rest_in position it trees) after others
-      × (outcome ≡ becomes_in position it trees put others)
+      × ExpandsTo config in_text (suc left) (behind_in position it trees tree) 0 (outside_call noted inside) (rest_in position it trees tree) after others
+      × (outcome ≡ becomes_in position it trees tree put others)
 
   -- a call with that expansion stays
   abbrev pub Stays : (left : ℕ) → Call → Forest → Root → (noted inside : Context) → (held : Outcome) → Type 0
   Stays left it trees tree noted inside held =
       (macro : Macro) × (at : ℕ) × (fault : MacroFault) × (others : Outcome) × (called_by config context it ≡ Some macro)
       × IsKept in_text (site_in position it trees tree) (trees_left held) (start_of (begin_in it trees).range) at fault
-      × ExpandsTo config in_text (suc left) (behind_in position it trees) 0 (with_finding (found_of it macro at fault) (outside_call noted inside)) (rest_in position it trees) after others
-      × (outcome ≡ stays_in position it trees others)
+      × ExpandsTo config in_text (suc left) (behind_in position it trees tree) 0 (with_finding (found_of it macro at fault) (outside_call noted inside)) (rest_in position it trees tree) after others
+      × (outcome ≡ stays_in position it trees tree others)
 
   -- the one or the other
   abbrev pub Settles : (left : ℕ) → Call → Forest → Root → (noted inside : Context) → (held : Outcome) → Type 0
@@ -200,10 +200,10 @@ begins {config = config} (on_faulty_call {in_text = in_text} {limit = limit} {po
     calls_by config in_text limit position context after (stays (front_trees it.len trees) others) it (Some arms) trees going is (ap arms_of called ∙ expands)
     (inl (macro, at, fault, others, called, bad, expected, wanted, behind, refl))
 begins {config = config} (on_call {in_text = in_text} {limit = left} {position = position} {context = context} {noted = noted} {inside = inside} {after = after} {it = it} {macro = macro} {arms = arms} {trees = trees} {held = held} {others = others} tree put going is called expands makes captures within so may behind) =
-    calls_by config in_text (suc left) position context after (becomes_in position it trees put others) it (Some arms) trees going is (ap arms_of called ∙ expands)
+    calls_by config in_text (suc left) position context after (becomes_in position it trees tree put others) it (Some arms) trees going is (ap arms_of called ∙ expands)
     (inr (tree, macro, noted, inside, held, called, makes, captures, within, inl (put, others, so, may, behind, refl)))
 begins {config = config} (on_kept_call {in_text = in_text} {limit = left} {position = position} {context = context} {noted = noted} {inside = inside} {after = after} {it = it} {macro = macro} {arms = arms} {trees = trees} {held = held} {others = others} tree at fault going is called expands makes captures within kept behind) =
-    calls_by config in_text (suc left) position context after (stays_in position it trees others) it (Some arms) trees going is (ap arms_of called ∙ expands)
+    calls_by config in_text (suc left) position context after (stays_in position it trees tree others) it (Some arms) trees going is (ap arms_of called ∙ expands)
     (inr (tree, macro, noted, inside, held, called, makes, captures, within, inr (macro, at, fault, others, called, kept, behind, refl)))
 
 -- The item that comes first is known.

@@ -1,22 +1,26 @@
 -- The parts of a call: its attributes, what follows them, and what follows the call.
-use Rattle.std.proofs.Common.{◌≡◌, ◌+◌, ℕ, zero, suc, Bool, true, false, List, refl, ap, ap₂, sym, subst, ◌∙◌, arith, cond}
+use Rattle.std.proofs.Common.{◌≡◌, ◌+◌, ℕ, zero, suc, Bool, true, false, List, codes, refl, ap, ap₂, sym, subst, ◌∙◌, arith, cond}
+use Rattle.std.proofs.lemmas.Bool.{false≢true}
+use Rattle.std.specs.Prelude.{◌==◌, ◌&&◌, ◌||◌, not}
 use Rattle.tt.specs.Forest.{Forest, Root, end, leaf, node, join}
 use Rattle.tt.specs.Gluing.{after_trees}
 use Rattle.tt.specs.Moves.{after_tree}
+use Rattle.tt.specs.Types.Span.{Span}
 use Rattle.tt_base.proofs.Joins.{join-assoc}
 use Rattle.syntax_edit.specs.Places.{begin_at}
 use Rattle.expand_items.proofs.ManyTrees.{after_both, after_more}
 use Rattle.expand_text.specs.CallSites.{CallSite}
-use Rattle.expand_text.specs.Meaning.{attributes_in, begin_in, behind_call, end_in, len_in, rest_in, site_in, takes_in, whole_in}
+use Rattle.expand_text.specs.Meaning.{begin_in, behind_call, len_in, rest_in, site_in, takes_in, whole_in}
 use Rattle.expand_items.proofs.Conditions.{IsCallBehind, call_at}
 use Rattle.expand_items.proofs.Shapes.{EndsClosed, by_subtree, by_semicolon, call_closed}
 use Rattle.expand_items.specs.Attributes.{item_at, with_attributes}
 use Rattle.expand_items.specs.Items.{Call, calls}
-use Rattle.expand_items.specs.Positions.{takes_semicolon}
+use Rattle.expand_items.specs.Expressions.{needs_no_semicolon}
+use Rattle.expand_items.specs.Positions.{is_items}
 use Rattle.expand_items.specs.declared.expression.Enclosure.{Enclosure}
 use Rattle.expand_items.specs.declared.position.Position.{Position}
 use Rattle.mbe_pattern.proofs.Passing.{front_joined, after_end}
-use Rattle.mbe_pattern.specs.Units.{front_trees}
+use Rattle.mbe_pattern.specs.Units.{front_trees, is_at_punct, is_brace}
 
 -- No trees have no first trees.
 front_end : (n : ℕ) → front_trees n end ≡ end
@@ -57,18 +61,42 @@ closed_join front closed (by_subtree before delimiter children is) =
 closed_join front closed (by_semicolon before punct semicolon is) =
     by_semicolon (join front before) punct semicolon (ap (join front) is ∙ sym (join-assoc front before _))
 
-module _ (position : Position) (it : Call) (trees : Forest) where
+-- where a call ends, how many trees it is, what follows it, and all its trees, with the `;` after it or without
+abbrev pub end_if : (takes : Bool) → Call → (trees : Forest) → Span
+end_if takes it trees = cond takes (begin_at (behind_call it trees) it.delimiter.close) it.delimiter.close
+
+abbrev pub len_if : (takes : Bool) → Call → ℕ
+len_if takes it = cond takes (suc it.len) it.len
+
+abbrev pub rest_if : (takes : Bool) → Call → (trees : Forest) → Forest
+rest_if takes it trees = cond takes (after_tree (behind_call it trees)) (behind_call it trees)
+
+abbrev pub whole_if : (takes : Bool) → Call → (trees : Forest) → Forest
+whole_if takes it trees = front_trees (len_if takes it) trees
+
+module _ (position : Position) (it : Call) (trees : Forest) (tree : Root) where
   -- After a call with its `;`, the trees are those after so many trees,
-  pub rest_behind : rest_in position it trees ≡ after_trees (len_in position it trees) trees
-  rest_behind = by (takes_in position it trees)
+  pub rest_behind : rest_in position it trees tree ≡ after_trees (len_in position it trees tree) trees
+  rest_behind = by (takes_in position it trees tree)
     where
-      by : (takes : Bool) → cond takes (after_tree (after_trees it.len trees)) (after_trees it.len trees) ≡ after_trees (cond takes (suc it.len) it.len) trees
+      by : (takes : Bool) → rest_if takes it trees ≡ after_trees (len_if takes it) trees
       by true = sym (after_more it.len trees)
       by false = refl
 
   -- and all trees are the call and those.
-  pub split_in : trees ≡ join (whole_in position it trees) (rest_in position it trees)
-  split_in = front_joined (len_in position it trees) trees ∙ ap (join (whole_in position it trees)) (sym rest_behind)
+  pub split_in : trees ≡ join (whole_in position it trees tree) (rest_in position it trees tree)
+  split_in = front_joined (len_in position it trees tree) trees ∙ ap (join (whole_in position it trees tree)) (sym rest_behind)
+
+  -- A `;` that is a part of the call is there.
+  pub semicolon_there : takes_in position it trees tree ≡ true → is_at_punct (codes ";") (behind_call it trees) ≡ true
+  semicolon_there = third_of position.is_start (not (is_brace it.delimiter.kind)) (is_at_punct (codes ";") (behind_call it trees))
+      (is_items position.siblings || ((it.attributes == 0) && needs_no_semicolon tree.children (behind_call it trees)))
+    where
+      third_of : (a b c d : Bool) → (a && (b && (c && d))) ≡ true → c ≡ true
+      third_of true true true d is = refl
+      third_of true true false d is = is
+      third_of true false c d is = absurd (false≢true is)
+      third_of false b c d is = absurd (false≢true is)
 
   -- the place of a call that has these trees, this enclosure, and this position of its expansion
   abbrev site_made : Forest → Enclosure → Position → CallSite
@@ -76,16 +104,16 @@ module _ (position : Position) (it : Call) (trees : Forest) where
       record { attributes = front_trees it.attributes whole; len = it.attributes; enclosure = enclosure; position = first; delimiter = it.delimiter }
 
   -- If these values are those of the call, this is the place of the call.
-  pub site_same : (tree : Root) (whole : Forest) (enclosure : Enclosure) (first : Position) → whole ≡ whole_in position it trees
+  pub site_same : (whole : Forest) (enclosure : Enclosure) (first : Position) → whole ≡ whole_in position it trees tree
       → enclosure ≡ (site_in position it trees tree).enclosure → first ≡ (site_in position it trees tree).position
       → site_made whole enclosure first ≡ site_in position it trees tree
-  site_same tree whole enclosure first all one begins =
+  site_same whole enclosure first all one begins =
       let site = site_in position it trees tree in
-      ap (λ f. site_made f enclosure first) all ∙ ap (λ e. site_made (whole_in position it trees) e first) one
-      ∙ ap (site_made (whole_in position it trees) site.enclosure) begins
+      ap (λ f. site_made f enclosure first) all ∙ ap (λ e. site_made (whole_in position it trees tree) e first) one
+      ∙ ap (site_made (whole_in position it trees tree) site.enclosure) begins
 
 -- A call with attributes is the call alone after them.
-module _ (position : Position) (attributes : ℕ) (bare : Call) (trees : Forest) where
+module _ (attributes : ℕ) (bare : Call) (trees : Forest) where
   -- the call with them, and what follows them
   abbrev whole : Call
   whole = with_attributes attributes bare
@@ -96,29 +124,25 @@ module _ (position : Position) (attributes : ℕ) (bare : Call) (trees : Forest)
   same_behind : behind_call whole trees ≡ behind_call bare behind
   same_behind = after_both attributes bare.len trees
 
-  same_takes : takes_in position whole trees ≡ takes_in position bare behind
-  same_takes = ap (λ f. takes_semicolon bare.delimiter.kind f position) same_behind
+  module _ (takes : Bool) where
+    same_len : len_if takes whole ≡ attributes + len_if takes bare
+    same_len = by takes
+      where
+        by : (takes : Bool) → cond takes (suc (attributes + bare.len)) (attributes + bare.len) ≡ attributes + cond takes (suc bare.len) bare.len
+        by true = omega arith
+        by false = refl
 
-  same_len : len_in position whole trees ≡ attributes + len_in position bare behind
-  same_len = by (takes_in position whole trees) (takes_in position bare behind) same_takes
-    where
-      by : (a b : Bool) → a ≡ b → cond a (suc (attributes + bare.len)) (attributes + bare.len) ≡ attributes + cond b (suc bare.len) bare.len
-      by true true e = omega arith
-      by false false e = refl
-      by true false e = absurd (cc e)
-      by false true e = absurd (cc e)
+    same_end : end_if takes whole trees ≡ end_if takes bare behind
+    same_end = ap (λ f. cond takes (begin_at f bare.delimiter.close) bare.delimiter.close) same_behind
 
-  same_end : end_in position whole trees ≡ end_in position bare behind
-  same_end = ap₂ (λ t f. cond t (begin_at f bare.delimiter.close) bare.delimiter.close) same_takes same_behind
+    same_rest : rest_if takes whole trees ≡ rest_if takes bare behind
+    same_rest = ap (λ f. cond takes (after_tree f) f) same_behind
 
-  same_rest : rest_in position whole trees ≡ rest_in position bare behind
-  same_rest = ap₂ (λ t f. cond t (after_tree f) f) same_takes same_behind
+    same_call : after_trees attributes (whole_if takes whole trees) ≡ whole_if takes bare behind
+    same_call = ap (λ n. after_trees attributes (front_trees n trees)) same_len ∙ after_front attributes (len_if takes bare) trees
 
-  same_call : after_trees attributes (whole_in position whole trees) ≡ whole_in position bare behind
-  same_call = ap (λ n. after_trees attributes (front_trees n trees)) same_len ∙ after_front attributes (len_in position bare behind) trees
-
-  same_attributes : attributes_in position whole trees ≡ front_trees attributes trees
-  same_attributes = ap (λ n. front_trees attributes (front_trees n trees)) same_len ∙ front_front attributes (len_in position bare behind) trees
+    same_attributes : front_trees attributes (whole_if takes whole trees) ≡ front_trees attributes trees
+    same_attributes = ap (λ n. front_trees attributes (front_trees n trees)) same_len ∙ front_front attributes (len_if takes bare) trees
 
 -- The same holds for a call that comes first.
 module _ (root : List ℕ) (position : Position) (trees : Forest) (it : Call) (is : item_at root position trees ≡ calls it) where
@@ -132,19 +156,29 @@ module _ (root : List ℕ) (position : Position) (trees : Forest) (it : Call) (i
   pub begin_alone : begin_in it trees ≡ begin_at past alone.bare.name.span
   begin_alone = ap (λ c. begin_at past c.name.span) alone.same
 
-  pub end_alone : end_in position it trees ≡ end_in position alone.bare past
-  end_alone = subst (λ c. end_in position c trees ≡ end_in position alone.bare past) (sym alone.same) (same_end position it.attributes alone.bare trees)
+  -- what holds for the call alone with its attributes holds for the call
+  by_alone : (P : Call → Type 0) → P (with_attributes it.attributes alone.bare) → P it
+  by_alone P = subst P (sym alone.same)
 
-  pub rest_alone : rest_in position it trees ≡ rest_in position alone.bare past
-  rest_alone = subst (λ c. rest_in position c trees ≡ rest_in position alone.bare past) (sym alone.same) (same_rest position it.attributes alone.bare trees)
+  pub semicolon_alone : (tree : Root) → takes_in position it trees tree ≡ true → is_at_punct (codes ";") (behind_call alone.bare past) ≡ true
+  semicolon_alone tree takes =
+      let same = by_alone (λ c. behind_call c trees ≡ behind_call alone.bare past) (same_behind it.attributes alone.bare trees) in
+      ap (is_at_punct (codes ";")) (sym same) ∙ semicolon_there position it trees tree takes
 
-  pub call_alone : after_trees it.attributes (whole_in position it trees) ≡ whole_in position alone.bare past
-  call_alone =
-      subst (λ c. after_trees it.attributes (whole_in position c trees) ≡ whole_in position alone.bare past) (sym alone.same) (same_call position it.attributes alone.bare trees)
+  module _ (takes : Bool) where
+    pub end_alone : end_if takes it trees ≡ end_if takes alone.bare past
+    end_alone = by_alone (λ c. end_if takes c trees ≡ end_if takes alone.bare past) (same_end it.attributes alone.bare trees takes)
 
-  pub attributes_alone : attributes_in position it trees ≡ front_trees it.attributes trees
-  attributes_alone =
-      subst (λ c. front_trees it.attributes (whole_in position c trees) ≡ front_trees it.attributes trees) (sym alone.same) (same_attributes position it.attributes alone.bare trees)
+    pub rest_alone : rest_if takes it trees ≡ rest_if takes alone.bare past
+    rest_alone = by_alone (λ c. rest_if takes c trees ≡ rest_if takes alone.bare past) (same_rest it.attributes alone.bare trees takes)
+
+    pub call_alone : after_trees it.attributes (whole_if takes it trees) ≡ whole_if takes alone.bare past
+    call_alone =
+        by_alone (λ c. after_trees it.attributes (whole_if takes c trees) ≡ whole_if takes alone.bare past) (same_call it.attributes alone.bare trees takes)
+
+    pub attributes_alone : front_trees it.attributes (whole_if takes it trees) ≡ front_trees it.attributes trees
+    attributes_alone =
+        by_alone (λ c. front_trees it.attributes (whole_if takes c trees) ≡ front_trees it.attributes trees) (same_attributes it.attributes alone.bare trees takes)
 
   -- The call ends with its subtree.
   pub ends_alone : EndsClosed (front_trees it.len trees)

@@ -1,28 +1,27 @@
 -- Where a call lies in a text.
 use Rattle.std.proofs.Common.{◌≡◌, ◌≤◌, ℕ, suc, Bool, true, false, List, refl, ap, sym, subst, ◌∙◌, arith, cond, codes}
-use Rattle.std.specs.Prelude.{◌&&◌, ◌||◌, ◌==◌, not}
+use Rattle.std.specs.Prelude.{◌||◌, ◌==◌}
 use Rattle.std.specs.Str.{IsCharBoundary}
-use Rattle.tt.specs.Forest.{Forest, end, leaf, node}
+use Rattle.tt.specs.Forest.{Forest, Root, end, leaf, node}
 use Rattle.tt.specs.Gluing.{after_trees}
 use Rattle.tt.specs.Moves.{after_tree}
 use Rattle.tt.specs.Span.{start_of, end_of}
 use Rattle.tt.specs.Types.Delimiter.{Delimiter}
 use Rattle.tt.specs.Types.Leaf.TheVariants as leaf_of
 use Rattle.tt.specs.Types.Span.{Span}
-use Rattle.expand_text.specs.Meaning.{begin_in, takes_in, end_in, rest_in}
+use Rattle.expand_text.specs.Meaning.{begin_in, behind_call, takes_in, end_in, rest_in}
 use Rattle.syntax_edit.specs.Places.{begin_at}
 use Rattle.expand_items.specs.Items.{Call, calls, item_in}
 use Rattle.syntax_edit.specs.Laid.{Lies, Laid, lies_end, lies_leaf, lies_node}
 use Rattle.expand_items.proofs.Shapes.{call_ends}
 use Rattle.syntax_edit.proofs.LaidFacts.{laid_behind, laid_order, laid_past, starts_before}
-use Rattle.expand_text.proofs.CallParts.{alone, begin_alone, end_alone, rest_alone}
+use Rattle.expand_text.proofs.CallParts.{alone, begin_alone, end_alone, end_if, rest_alone, rest_if, semicolon_alone}
 use Rattle.expand_items.proofs.ManyTrees.{after_more}
 use Rattle.expand_items.proofs.Conditions.{IsCallBehind}
 use Rattle.expand_items.specs.Attributes.{item_at}
 use Rattle.mbe_pattern.proofs.Passing.{after_end}
-use Rattle.expand_items.specs.Positions.{is_items}
 use Rattle.expand_items.specs.declared.position.Position.{Position}
-use Rattle.mbe_pattern.specs.Units.{is_brace, is_at_punct}
+use Rattle.mbe_pattern.specs.Units.{is_at_punct}
 
 -- A subtree that lies in a text after a byte closes after it, and the trees after the subtree lie there.
 past_subtree : {text : List ℕ} {place to : ℕ} {delimiter : Delimiter} {children rest trees : Forest} → trees ≡ node delimiter children rest → Laid text place trees to
@@ -86,48 +85,29 @@ with_semicolon {text} {to = to} other (leaf (leaf_of.Punct it) rest) is lies (li
         by true is = refl
         by false is = is
 
--- If four tests are true, the last is.
-pub last_of : (a b c d : Bool) → (a && (b && (c && d))) ≡ true → d ≡ true
-last_of true true true d is = is
-last_of true true false d is = absurd (cc is)
-last_of true false c d is = absurd (cc is)
-last_of false b c d is = absurd (cc is)
-
 -- A call without attributes is a range of the text, from where its first token begins to
 -- where it ends. The trees after it lie after that.
-bare_laid : {text : List ℕ} {from to : ℕ} (root : List ℕ) (trees : Forest) (it : Call) (position : Position) → item_in root trees ≡ calls it
-    → Laid text from trees to
-    → Lies text from (start_of (begin_at trees it.name.span).range) (end_of (end_in position it trees).range)
-    × Laid text (end_of (end_in position it trees).range) (rest_in position it trees) to
-bare_laid {text} {from} {to} root trees it position is laid = by (takes_in position it trees) refl
-  where
-    rest : Forest
-    rest = after_trees it.len trees
-
-    close : Span
-    close = it.delimiter.close
-
-    here : Lies text from (start_of (begin_at trees it.name.span).range) (end_of close.range) × Laid text (end_of close.range) rest to
-    here = subtree_laid root trees it is laid
-
-    by : (takes : Bool) → takes_in position it trees ≡ takes
-        → Lies text from (start_of (begin_at trees it.name.span).range) (end_of (cond takes (begin_at rest close) close).range)
-        × Laid text (end_of (cond takes (begin_at rest close) close).range) (cond takes (after_tree rest) rest) to
-    by true takes =
-        with_semicolon close rest (last_of (is_items position.siblings) position.is_start (not (is_brace it.delimiter.kind)) (is_at_punct (codes ";") rest) takes) here.0 here.1
-    by false takes = here
+bare_laid : {text : List ℕ} {from to : ℕ} (root : List ℕ) (trees : Forest) (it : Call) (takes : Bool) → (takes ≡ true → is_at_punct (codes ";") (behind_call it trees) ≡ true)
+    → item_in root trees ≡ calls it → Laid text from trees to
+    → Lies text from (start_of (begin_at trees it.name.span).range) (end_of (end_if takes it trees).range)
+    × Laid text (end_of (end_if takes it trees).range) (rest_if takes it trees) to
+bare_laid root trees it true there is laid =
+    let (lies, behind) = subtree_laid root trees it is laid in
+    with_semicolon it.delimiter.close (behind_call it trees) (there refl) lies behind
+bare_laid root trees it false there is laid = subtree_laid root trees it is laid
 
 -- The same holds for a call after its attributes.
-pub call_laid : {text : List ℕ} {from to : ℕ} (root : List ℕ) (trees : Forest) (it : Call) (position : Position) → item_at root position trees ≡ calls it
+pub call_laid : {text : List ℕ} {from to : ℕ} (root : List ℕ) (trees : Forest) (it : Call) (position : Position) (tree : Root) → item_at root position trees ≡ calls it
     → Laid text from trees to
-    → Lies text from (start_of (begin_in it trees).range) (end_of (end_in position it trees).range)
-    × Laid text (end_of (end_in position it trees).range) (rest_in position it trees) to
-call_laid {text} {from} {to} root trees it position is laid =
+    → Lies text from (start_of (begin_in it trees).range) (end_of (end_in position it trees tree).range)
+    × Laid text (end_of (end_in position it trees tree).range) (rest_in position it trees tree) to
+call_laid {text} {from} {to} root trees it position tree is laid =
     let at : IsCallBehind root trees it = alone root position trees it is in
     let behind : Forest = after_trees it.attributes trees in
-    let (lies, rest) = bare_laid root behind at.bare position at.shape (laid_behind it.attributes laid) in (
-      subst (λ s. Lies text from (start_of s.range) (end_of (end_in position it trees).range)) (sym (begin_alone root position trees it is))
-          (subst (λ s. Lies text from (start_of (begin_at behind at.bare.name.span).range) (end_of s.range)) (sym (end_alone root position trees it is)) lies),
-      subst (λ f. Laid text (end_of (end_in position it trees).range) f to) (sym (rest_alone root position trees it is))
-          (subst (λ s. Laid text (end_of s.range) (rest_in position at.bare behind) to) (sym (end_alone root position trees it is)) rest),
+    let takes : Bool = takes_in position it trees tree in
+    let (lies, rest) = bare_laid root behind at.bare takes (semicolon_alone root position trees it is tree) at.shape (laid_behind it.attributes laid) in (
+      subst (λ s. Lies text from (start_of s.range) (end_of (end_if takes it trees).range)) (sym (begin_alone root position trees it is))
+          (subst (λ s. Lies text from (start_of (begin_at behind at.bare.name.span).range) (end_of s.range)) (sym (end_alone root position trees it is takes)) lies),
+      subst (λ f. Laid text (end_of (end_if takes it trees).range) f to) (sym (rest_alone root position trees it is takes))
+          (subst (λ s. Laid text (end_of s.range) (rest_if takes at.bare behind) to) (sym (end_alone root position trees it is takes)) rest),
     )

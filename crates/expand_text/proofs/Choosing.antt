@@ -76,7 +76,7 @@ module _ (config : Config) (in_text : Bool) (limit : ℕ) (rest : Forest) (now :
       whole : Forest
       whole = front_in i.part (level ∷ outer)
 
-      whole_is : whole ≡ whole_in now.position it rest
+      whole_is : whole ≡ whole_in now.position it rest tree
       whole_is = ap (λ p. front_in p (level ∷ outer)) is.part
 
       site_is : site_of whole i ≡ site_in now.position it rest tree
@@ -86,13 +86,13 @@ module _ (config : Config) (in_text : Bool) (limit : ℕ) (rest : Forest) (now :
       begin = begin_in it rest
 
       end : Span
-      end = end_in now.position it rest
+      end = end_in now.position it rest tree
 
       site : CallSite
       site = site_in now.position it rest tree
 
       nexts : List Level
-      nexts = past_call it level ∷ outer
+      nexts = past_call it tree level ∷ outer
 
       passed : (takes : Bool) → past_in (call_part now it takes) (level ∷ outer)
           ≡ record level {
@@ -103,8 +103,8 @@ module _ (config : Config) (in_text : Bool) (limit : ℕ) (rest : Forest) (now :
 
       nexts_are : past_in i.part (level ∷ outer) ≡ nexts
       nexts_are =
-          ap (λ p. past_in p (level ∷ outer)) is.part ∙ passed (takes_in now.position it rest)
-          ∙ ap (λ f. record level { rest = f; position = (call_part now it (takes_in now.position it rest)).position } ∷ outer) (sym (rest_behind now.position it rest))
+          ap (λ p. past_in p (level ∷ outer)) is.part ∙ passed (takes_in now.position it rest tree)
+          ∙ ap (λ f. record level { rest = f; position = (call_part now it (takes_in now.position it rest tree)).position } ∷ outer) (sym (rest_behind now.position it rest tree))
 
       found : (at : ℕ) (fault : MacroFault) → found_by i at fault ≡ found_of it from.macro at fault
       found at fault = ap₂ finding is.name (is.defined ∙ sym from.defined)
@@ -155,8 +155,8 @@ module _ (config : Config) (in_text : Bool) (limit : ℕ) (rest : Forest) (now :
               → Leads config in_text limit (level ∷ outer) context (first_stay whole) nexts (with_finding (found_by i at fault) after_it)
           stays at fault kept =
               subst (λ f. Leads config in_text limit (level ∷ outer) context (first_stay f) nexts (with_finding (found_by i at fault) after_it)) (sym whole_is)
-              (subst (λ n. Leads config in_text n (level ∷ outer) context (first_stay (whole_in now.position it rest)) nexts (with_finding (found_by i at fault) after_it)) (sym from.fits)
-              (subst (λ f. Leads config in_text (suc from.left) (level ∷ outer) context (first_stay (whole_in now.position it rest)) nexts (with_finding f after_it)) (sym (found at fault))
+              (subst (λ n. Leads config in_text n (level ∷ outer) context (first_stay (whole_in now.position it rest tree)) nexts (with_finding (found_by i at fault) after_it)) (sym from.fits)
+              (subst (λ f. Leads config in_text (suc from.left) (level ∷ outer) context (first_stay (whole_in now.position it rest tree)) nexts (with_finding f after_it)) (sym (found at fault))
               (leads_kept config in_text from.left level outer context there.first there.goes_on it from.macro from.arms tree there.item
               from.called from.expands from.makes others inside held noted came at fault
               (subst (λ s. IsKept in_text site (trees_left held) (start_of s.range) at fault) is.first

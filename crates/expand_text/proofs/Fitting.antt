@@ -40,10 +40,10 @@ comes_follow (on_inactive {len = len} going is others) laid (stayed are) = comes
 comes_follow (into_attributes going is some unexpanded others) laid are = comes_follow others laid are
 comes_follow (on_faulty_call {it = it} at fault expected going is called some faulty wanted others) laid (stayed are) = comes_follow others (laid_behind it.len laid) are
 comes_follow {config = config} (on_call {position = position} {it = it} {trees = trees} tree put going is called some expands noted held so may others) laid (stayed (became spells are)) =
-    let (lies, behind) = call_laid config.root trees it position (calls_at is) laid in
+    let (lies, behind) = call_laid config.root trees it position tree (calls_at is) laid in
     next lies (comes_follow others behind are)
 comes_follow {config = config} (on_kept_call {position = position} {it = it} {trees = trees} tree at fault going is called some expands noted held kept others) laid (stayed are) =
-    let (lies, behind) = call_laid config.root trees it position (calls_at is) laid in
+    let (lies, behind) = call_laid config.root trees it position tree (calls_at is) laid in
     follow_from (omega (arith, lies.after, lies.range.order)) (comes_follow others behind are)
 
 -- The texts of all splices of a whole text fit into it.

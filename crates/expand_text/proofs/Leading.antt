@@ -144,26 +144,26 @@ module _ (config : Config) (in_text : Bool) (left : ℕ) (level : Level) (outer 
   -- The expansion takes the place of the call.
   pub leads_call : (put : Forest) → PutIn in_text (site_in level.position it level.rest tree) (trees_left held) put → MayBePut in_text it.delimiter put
       → Leads config in_text (suc left) (level ∷ outer) context
-      (first_becomes (attributes_in level.position it level.rest) (begin_in it level.rest) (end_in level.position it level.rest) put) (past_call it level ∷ outer) (outside_call noted within)
+      (first_becomes (attributes_in level.position it level.rest tree) (begin_in it level.rest) (end_in level.position it level.rest tree) put) (past_call it tree level ∷ outer) (outside_call noted within)
   leads_call put so may after [] e = absurd e
   leads_call put so may after (others ∷ more) (beyond, then, behind) = (
     beyond,
     subst (λ n. ExpandsTo config in_text (suc left) level.position n context level.rest beyond
-        (stays (attributes_in level.position it level.rest) (becomes (begin_in it level.rest) (end_in level.position it level.rest) put others))) (sym first)
+        (stays (attributes_in level.position it level.rest tree) (becomes (begin_in it level.rest) (end_in level.position it level.rest tree) put others))) (sym first)
         (on_call tree put goes_on there called expands makes captures expands_to so may
-        (subst (λ n. ExpandsTo config in_text (suc left) (behind_in level.position it level.rest) n (outside_call noted within) (rest_in level.position it level.rest) beyond others) first then)),
+        (subst (λ n. ExpandsTo config in_text (suc left) (behind_in level.position it level.rest tree) n (outside_call noted within) (rest_in level.position it level.rest tree) beyond others) first then)),
     behind,
   )
 
   -- The call stays, if the expansion does not fit there or is not written.
   pub leads_kept : (at : ℕ) (fault : MacroFault) → IsKept in_text (site_in level.position it level.rest tree) (trees_left held) (start_of (begin_in it level.rest).range) at fault
-      → Leads config in_text (suc left) (level ∷ outer) context (first_stay (whole_in level.position it level.rest)) (past_call it level ∷ outer) (with_finding (found_of it macro at fault) (outside_call noted within))
+      → Leads config in_text (suc left) (level ∷ outer) context (first_stay (whole_in level.position it level.rest tree)) (past_call it tree level ∷ outer) (with_finding (found_of it macro at fault) (outside_call noted within))
   leads_kept at fault kept after [] e = absurd e
   leads_kept at fault kept after (others ∷ more) (beyond, then, behind) = (
     beyond,
-    subst (λ n. ExpandsTo config in_text (suc left) level.position n context level.rest beyond (stays (whole_in level.position it level.rest) others)) (sym first)
+    subst (λ n. ExpandsTo config in_text (suc left) level.position n context level.rest beyond (stays (whole_in level.position it level.rest tree) others)) (sym first)
         (on_kept_call tree at fault goes_on there called expands makes captures expands_to kept
-        (subst (λ n. ExpandsTo config in_text (suc left) (behind_in level.position it level.rest) n (with_finding (found_of it macro at fault) (outside_call noted within)) (rest_in level.position it level.rest) beyond others) first then)),
+        (subst (λ n. ExpandsTo config in_text (suc left) (behind_in level.position it level.rest tree) n (with_finding (found_of it macro at fault) (outside_call noted within)) (rest_in level.position it level.rest tree) beyond others) first then)),
     behind,
   )
 

@@ -165,7 +165,7 @@ one_outcome {config = config} {in_text = in_text} {again = again} {that = that} 
     (same_settled config in_text position context again that arms it trees (suc left) left tree go.0 noted go.2 inside go.3 held go.4 filled same_there one.0 one.1 go.9) in
     let placed : put ≡ so.0 = one_shown in_text (site_in position it trees tree) (trees_left held) put so.0 fits so.2 in
     let same = one_outcome behind so.4 x y in
-    (same.0, ap₂ (becomes_in position it trees) placed same.1 ∙ sym so.5)
+    (same.0, ap₂ (becomes_in position it trees tree) placed same.1 ∙ sym so.5)
 one_outcome {config = config} {in_text = in_text} {again = again} {that = that} (on_kept_call {limit = left} {position = position} {context = context} {noted = noted} {inside = inside} {it = it} {macro = macro} {arms = arms} {trees = trees} {held = held} tree at fault going is called expands makes captures within kept behind) second x y =
     let go = tries_only config in_text position context again that arms it trees left tree makes y (begins_call second it (Some arms) going is (ap arms_of called ∙ expands)) in
     let filled = one_tree (tokens_left config context) arms it tree go.0 makes.0 go.6.0 in
@@ -180,4 +180,4 @@ one_outcome {config = config} {in_text = in_text} {again = again} {that = that} 
     let reason = one_kept (site_in position it trees tree) (trees_left held) in_text (start_of (begin_in it trees).range) at so.1 fault so.2 kept so.5 first.1 none in
     let known = same_found it (outside_call noted inside) macro so.0 at so.1 fault so.2 None None (one_called config context it macro so.0 called so.4) reason refl in
     let same = one_outcome behind (moved known so.6) x y in
-    (same.0, ap (stays_in position it trees) same.1 ∙ sym so.7)
+    (same.0, ap (stays_in position it trees tree) same.1 ∙ sym so.7)

@@ -3,7 +3,7 @@ use Rattle.std.proofs.Common.{◌≡◌, ◌<◌, ◌-◌, ◌++◌, ℕ, zero, 
 use Rattle.std.proofs.Math.Nat.{le-max_left, le-max_right}
 use Rattle.std.proofs.lemmas.Bool.{eqb-true, false≢true}
 use Rattle.std.specs.Prelude.{◌==◌, ◌||◌, ◌&&◌, not}
-use Rattle.tt.specs.Forest.{Forest, end, leaf, node, join, size}
+use Rattle.tt.specs.Forest.{Forest, Root, end, leaf, node, join, size}
 use Rattle.tt.specs.Gluing.{after_trees}
 use Rattle.tt.specs.Span.{start_of, end_of}
 use Rattle.tt.specs.Types.Delimiter.{Delimiter}
@@ -12,13 +12,12 @@ use Rattle.tt.specs.Types.Leaf.{Leaf}
 use Rattle.tt.specs.Types.Leaf.TheVariants as leaf_of
 use Rattle.tt.specs.Types.Spacing.{Spacing}
 use Rattle.syntax_edit.specs.Places.{begin_at}
-use Rattle.expand_text.proofs.CallPlaces.{last_of}
-use Rattle.expand_text.proofs.CallParts.{alone, attributes_alone, begin_alone, call_alone, closed_join, end_alone, ends_alone, split_in}
+use Rattle.expand_text.proofs.CallParts.{alone, attributes_alone, begin_alone, call_alone, closed_join, end_alone, end_if, ends_alone, len_if, semicolon_alone, split_in, whole_if}
 use Rattle.expand_items.proofs.Conditions.{IsCallBehind, attributes_closed, definition_at}
 use Rattle.expand_items.specs.Attributes.{item_at}
 use Rattle.expand_items.proofs.Shapes.{EndsClosed, by_subtree, by_semicolon, BeginsWithName, call_begins, call_ends, call_closed, definition_closed, punct_first, ends_by_punct, ends_by_subtree}
 use Rattle.expand_items.proofs.ItemsAt.{calls_at, defines_at, inactive_less}
-use Rattle.expand_text.specs.Meaning.{ExpandsTo, ends, on_leaf, on_node, on_definition, on_inactive, on_other_call, into_other_call, into_attributes, on_faulty_call, on_call, on_kept_call, attributes_in, begin_in, end_in, len_in, is_closing, named_behind, plain_behind, plain_behind_part, rest_in, takes_in, whole_in}
+use Rattle.expand_text.specs.Meaning.{ExpandsTo, ends, on_leaf, on_node, on_definition, on_inactive, on_other_call, into_other_call, into_attributes, on_faulty_call, on_call, on_kept_call, attributes_in, begin_in, behind_call, end_in, is_closing, named_behind, plain_behind, plain_behind_part, rest_in, takes_in, whole_in}
 use Rattle.expand_text.specs.Contexts.{Config, Context, asks_for}
 use Rattle.expand_text.specs.Macros.{called_by, named_by}
 use Rattle.expand_text.specs.Outcomes.{Outcome}
@@ -28,10 +27,9 @@ use Rattle.expand_text.specs.Scopes.{Macro}
 use Rattle.expand_items.specs.Items.{Call, calls, is_elsewhere, item_in}
 use Rattle.expand_items.specs.declared.item.MacroPath.{MacroPath}
 use Rattle.expand_items.specs.declared.item.MacroPath.TheVariants as path
-use Rattle.expand_items.specs.Positions.{is_items}
 use Rattle.expand_items.specs.declared.position.Position.{Position}
 use Rattle.mbe_pattern.proofs.Passing.{front_joined}
-use Rattle.mbe_pattern.specs.Units.{front_trees, is_brace, is_at_punct}
+use Rattle.mbe_pattern.specs.Units.{front_trees, is_at_punct}
 use Rattle.syntax_edit.proofs.CallCuts.{behind_pieces}
 use Rattle.syntax_edit.specs.Calls.{BeginsCall, EndsCall, IsTaken, IsWoven, ends as woven_end, keeps, gives_way, follows_value, may_begin}
 use Rattle.syntax_edit.specs.Splices.{Splice}
@@ -135,25 +133,20 @@ spelled_front : (trees front rest : Forest) (more : List Piece) → trees ≡ jo
 spelled_front trees front rest more is = sym (append_assoc (spelled front) (spelled rest) more) ∙ ap (λ ps. ps ++ more) (sym (spelled-join front rest) ∙ ap spelled (sym is))
 
 -- A call without attributes ends with its subtree, or with its `;`.
-module _ (root : List ℕ) (trees : Forest) (position : Position) (it : Call) (is : item_in root trees ≡ calls it) where
+module _ (root : List ℕ) (trees : Forest) (it : Call) (is : item_in root trees ≡ calls it) (takes : Bool) (semicolon : takes ≡ true → is_at_punct (codes ";") (behind_call it trees) ≡ true) where
   -- where it ends, and how
-  bare_end : EndsClosed (front_trees (len_in position it trees) trees) × EndsCall (end_of (end_in position it trees).range) (spelled (front_trees (len_in position it trees) trees))
-  bare_end = by (takes_in position it trees) refl
+  bare_end : EndsClosed (whole_if takes it trees) × EndsCall (end_of (end_if takes it trees).range) (spelled (whole_if takes it trees))
+  bare_end = by takes semicolon
     where
-      rest : Forest
-      rest = after_trees it.len trees
-
-      by : (takes : Bool) → takes_in position it trees ≡ takes
-          → EndsClosed (front_trees (cond takes (suc it.len) it.len) trees)
-          × EndsCall (end_of (cond takes (begin_at rest it.delimiter.close) it.delimiter.close).range) (spelled (front_trees (cond takes (suc it.len) it.len) trees))
-      by false e =
+      by : (takes : Bool) → (takes ≡ true → is_at_punct (codes ";") (behind_call it trees) ≡ true)
+          → EndsClosed (whole_if takes it trees) × EndsCall (end_of (end_if takes it trees).range) (spelled (whole_if takes it trees))
+      by false there =
           let (front, same) = call_closed root trees it is in (
             by_subtree front it.delimiter it.input same,
             (spelled front ++ at_span (opening it.delimiter.kind) it.delimiter.open_span ∷ spelled it.input, at_span (closing it.delimiter.kind) it.delimiter.close, ap spelled same ∙ spelled_subtree front it.delimiter it.input, refl, refl),
           )
-      by true e =
-          let semicolon = last_of (is_items position.siblings) position.is_start (not (is_brace it.delimiter.kind)) (is_at_punct (codes ";") rest) e in
-          let (punct, others, shape, same) = punct_first 59 rest semicolon in
+      by true there =
+          let (punct, others, shape, same) = punct_first 59 (behind_call it trees) (there refl) in
           let front = front_trees it.len trees in
           let all = ends_by_punct it.len trees punct others shape in (
             by_semicolon front punct same all,
@@ -161,70 +154,73 @@ module _ (root : List ℕ) (trees : Forest) (position : Position) (it : Call) (i
           )
 
   -- Its pieces are taken.
-  bare_taken : is_elsewhere it.path ≡ false → IsTaken (spelled (front_trees (len_in position it trees) trees)) (start_of (begin_at trees it.name.span).range) (end_of (end_in position it trees).range)
-  bare_taken here = record { trees = front_trees (len_in position it trees) trees; spelled = refl; begins = begun; ends = bare_end.1 }
+  bare_taken : is_elsewhere it.path ≡ false → IsTaken (spelled (whole_if takes it trees)) (start_of (begin_at trees it.name.span).range) (end_of (end_if takes it trees).range)
+  bare_taken here = record { trees = whole_if takes it trees; spelled = refl; begins = begun; ends = bare_end.1 }
     where
-      begun : BeginsCall (start_of (begin_at trees it.name.span).range) (spelled (front_trees (len_in position it trees) trees))
+      begun : BeginsCall (start_of (begin_at trees it.name.span).range) (spelled (whole_if takes it trees))
       begun =
           let call = call_ends root trees it is in
           let name = call_begins root trees it is here in
           subst (λ n. BeginsCall (start_of (begin_at trees it.name.span).range) (spelled (front_trees n trees))) (long call.len) (by name)
         where
-          long : {n : ℕ} → it.len ≡ suc (suc n) → suc (suc (len_in position it trees - 2)) ≡ len_in position it trees
-          long {n} e = more (takes_in position it trees)
+          long : {n : ℕ} → it.len ≡ suc (suc n) → suc (suc (len_if takes it - 2)) ≡ len_if takes it
+          long {n} e = more takes
             where
               more : (takes : Bool) → suc (suc (cond takes (suc it.len) it.len - 2)) ≡ cond takes (suc it.len) it.len
               more true = omega (arith, e)
               more false = omega (arith, e)
 
-          by : BeginsWithName trees → BeginsCall (start_of (begin_at trees it.name.span).range) (spelled (front_trees (suc (suc (len_in position it trees - 2))) trees))
+          by : BeginsWithName trees → BeginsCall (start_of (begin_at trees it.name.span).range) (spelled (front_trees (suc (suc (len_if takes it - 2))) trees))
           by name =
-              subst (λ f. BeginsCall (start_of (begin_at f it.name.span).range) (spelled (front_trees (suc (suc (len_in position it trees - 2))) f))) (sym name.shape)
+              subst (λ f. BeginsCall (start_of (begin_at f it.name.span).range) (spelled (front_trees (suc (suc (len_if takes it - 2))) f))) (sym name.shape)
               (refl, refl, name.sign)
 
 -- The same holds for a call after its attributes.
-module _ (root : List ℕ) (trees : Forest) (position : Position) (it : Call) (is : item_at root position trees ≡ calls it) where
-  -- the call alone, and what follows the attributes
+module _ (root : List ℕ) (trees : Forest) (position : Position) (it : Call) (tree : Root) (is : item_at root position trees ≡ calls it) where
+  -- the call alone, what follows the attributes, and whether the `;` is a part of the call
   abbrev at : IsCallBehind root trees it
   at = alone root position trees it is
 
   abbrev behind : Forest
   behind = after_trees it.attributes trees
 
+  abbrev takes : Bool
+  takes = takes_in position it trees tree
+
   -- Its pieces after the attributes are taken.
   call_taken : is_elsewhere it.path ≡ false
-      → IsTaken (spelled (after_trees it.attributes (whole_in position it trees))) (start_of (begin_in it trees).range) (end_of (end_in position it trees).range)
+      → IsTaken (spelled (after_trees it.attributes (whole_in position it trees tree))) (start_of (begin_in it trees).range) (end_of (end_in position it trees tree).range)
   call_taken here =
       let named : is_elsewhere at.bare.path ≡ false = ap (λ c. is_elsewhere c.path) (sym at.same) ∙ here in
-      subst (λ f. IsTaken (spelled f) (start_of (begin_in it trees).range) (end_of (end_in position it trees).range)) (sym (call_alone root position trees it is))
-      (subst (λ s. IsTaken (spelled (whole_in position at.bare behind)) (start_of s.range) (end_of (end_in position it trees).range)) (sym (begin_alone root position trees it is))
-      (subst (λ s. IsTaken (spelled (whole_in position at.bare behind)) (start_of (begin_at behind at.bare.name.span).range) (end_of s.range)) (sym (end_alone root position trees it is))
-      (bare_taken root behind position at.bare at.shape named)))
+      subst (λ f. IsTaken (spelled f) (start_of (begin_in it trees).range) (end_of (end_if takes it trees).range)) (sym (call_alone root position trees it is takes))
+      (subst (λ s. IsTaken (spelled (whole_if takes at.bare behind)) (start_of s.range) (end_of (end_if takes it trees).range)) (sym (begin_alone root position trees it is))
+      (subst (λ s. IsTaken (spelled (whole_if takes at.bare behind)) (start_of (begin_at behind at.bare.name.span).range) (end_of s.range)) (sym (end_alone root position trees it is takes))
+      (bare_taken root behind at.bare at.shape takes (semicolon_alone root position trees it is tree) named)))
 
   -- All of its trees end with a subtree or a `;`.
-  whole_closed : EndsClosed (whole_in position it trees)
+  whole_closed : EndsClosed (whole_in position it trees tree)
   whole_closed =
-      subst EndsClosed (sym (front_joined it.attributes (whole_in position it trees)))
-      (closed_join (attributes_in position it trees) (after_trees it.attributes (whole_in position it trees))
-      (subst EndsClosed (sym (call_alone root position trees it is)) (bare_end root behind position at.bare at.shape).0))
+      subst EndsClosed (sym (front_joined it.attributes (whole_in position it trees tree)))
+      (closed_join (attributes_in position it trees tree) (after_trees it.attributes (whole_in position it trees tree))
+      (subst EndsClosed (sym (call_alone root position trees it is takes)) (bare_end root behind at.bare at.shape takes (semicolon_alone root position trees it is tree)).0))
 
   -- After its attributes a call may begin if one may before them.
-  held_attributes : (before : List Sort) → IsHeld before trees 0 → may_begin (behind_pieces (spelled (attributes_in position it trees)) before) ≡ true
+  held_attributes : (before : List Sort) → IsHeld before trees 0 → may_begin (behind_pieces (spelled (attributes_in position it trees tree)) before) ≡ true
   held_attributes before held = by (attributes_closed root position trees it is)
     where
       by : (it.attributes ≡ 0) ⊎ ((front : Forest) × (delimiter : Delimiter) × (children : Forest) × (front_trees it.attributes trees ≡ join front (node delimiter children end)))
-          → may_begin (behind_pieces (spelled (attributes_in position it trees)) before) ≡ true
-      by (inl none) = ap (λ n. may_begin (behind_pieces (spelled (front_trees n (whole_in position it trees))) before)) none ∙ held.begins refl
+          → may_begin (behind_pieces (spelled (attributes_in position it trees tree)) before) ≡ true
+      by (inl none) = ap (λ n. may_begin (behind_pieces (spelled (front_trees n (whole_in position it trees tree))) before)) none ∙ held.begins refl
       by (inr (front, delimiter, children, same)) =
-          (held_closed (attributes_in position it trees) (by_subtree front delimiter children (attributes_alone root position trees it is ∙ same)) before behind 0).begins refl
+          (held_closed (attributes_in position it trees tree) (by_subtree front delimiter children (attributes_alone root position trees it is takes ∙ same)) before behind 0).begins refl
 
   -- The trees are its attributes, the rest of it, and the trees after it.
   spelled_parts : (more : List Piece)
-      → spelled (attributes_in position it trees) ++ (spelled (after_trees it.attributes (whole_in position it trees)) ++ (spelled (rest_in position it trees) ++ more)) ≡ spelled trees ++ more
+      → spelled (attributes_in position it trees tree) ++ (spelled (after_trees it.attributes (whole_in position it trees tree)) ++ (spelled (rest_in position it trees tree) ++ more)) ≡ spelled trees ++ more
   spelled_parts more =
-      spelled_front (whole_in position it trees) (attributes_in position it trees) (after_trees it.attributes (whole_in position it trees)) (spelled (rest_in position it trees) ++ more)
-      (front_joined it.attributes (whole_in position it trees))
-      ∙ spelled_front trees (whole_in position it trees) (rest_in position it trees) more (split_in position it trees)
+      spelled_front (whole_in position it trees tree) (attributes_in position it trees tree) (after_trees it.attributes (whole_in position it trees tree)) (spelled (rest_in position it trees tree) ++ more)
+      (front_joined it.attributes (whole_in position it trees tree))
+      ∙ spelled_front trees (whole_in position it trees tree) (rest_in position it trees tree) more (split_in position it trees tree)
 
 -- A macro is called by its own name or with the crate's root, not by another path.
 called_here : (config : Config) (context : Context) (it : Call) (macro : Macro) → called_by config context it ≡ Some macro → is_elsewhere it.path ≡ false
@@ -312,19 +308,19 @@ module _ (config : Config) where
       (λ b h. comes_woven expands_to are b h more others woven then))
   comes_woven {one_line = one_line} (on_call {position = position} {context = context} {it = it} {macro = macro} {trees = trees} {others = behind} tree put goes_on is called some makes noted expands_to so may past) (stayed (became {splices = splices} {text = text} spells are)) before held more others woven then =
       let at = calls_at is in
-      let attributes = attributes_in position it trees in
-      let call = after_trees it.attributes (whole_in position it trees) in
-      let rest = rest_in position it trees in
-      moved (spelled_parts config.root trees position it at more) refl
+      let attributes = attributes_in position it trees tree in
+      let call = after_trees it.attributes (whole_in position it trees tree) in
+      let rest = rest_in position it trees tree in
+      moved (spelled_parts config.root trees position it tree at more) refl
       (ap (λ ws. sorts (spelled attributes) ++ ws) (sym (append_assoc (settled (marks 0 put)) (sorts_left behind) woven))
       ∙ sym (append_assoc (sorts (spelled attributes)) (settled (marks 0 put) ++ sorts_left behind) woven))
-      (keeps_all (spelled attributes) before (spelled call ++ (spelled rest ++ more)) (splice (begin_in it trees) (end_in position it trees) put text ∷ (splices ++ others))
+      (keeps_all (spelled attributes) before (spelled call ++ (spelled rest ++ more)) (splice (begin_in it trees) (end_in position it trees tree) put text ∷ (splices ++ others))
       (settled (marks 0 put) ++ (sorts_left behind ++ woven))
-      (gives_way (held_attributes config.root trees position it at before held) (call_taken config.root trees position it at (called_here config context it macro called)) (spelling_of one_line put text may.1 spells)
+      (gives_way (held_attributes config.root trees position it tree at before held) (call_taken config.root trees position it tree at (called_here config context it macro called)) (spelling_of one_line put text may.1 spells)
       (comes_woven past are [] (held_none rest 0) more others woven then)))
   comes_woven (on_kept_call {position = position} {it = it} {trees = trees} {others = behind} tree at fault goes_on is called some makes noted expands_to kept past) (stayed {splices = splices} are) before held more others woven then =
-      moved refl refl (sym (append_assoc (sorts (spelled (whole_in position it trees))) (sorts_left behind) woven))
-      (stays_woven trees (whole_in position it trees) (rest_in position it trees) (split_in position it trees) (whole_closed config.root trees position it (calls_at is)) before more (splices ++ others) (sorts_left behind ++ woven)
+      moved refl refl (sym (append_assoc (sorts (spelled (whole_in position it trees tree))) (sorts_left behind) woven))
+      (stays_woven trees (whole_in position it trees tree) (rest_in position it trees tree) (split_in position it trees tree) (whole_closed config.root trees position it tree (calls_at is)) before more (splices ++ others) (sorts_left behind ++ woven)
       (λ b h. comes_woven past are b h more others woven then))
 
   -- What a whole text expands to is woven into its pieces.

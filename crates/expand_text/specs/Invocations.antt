@@ -52,8 +52,8 @@ pub record IsInvocation (level : rust.Level) (trees : Forest) (it : Call) (tree 
   pub name : invocation.name ≡ it.name.sym
   pub defined : invocation.defined_at ≡ defined_at
   pub first : invocation.first_span ≡ begin_in it trees
-  pub last : invocation.last_span ≡ end_in level.position it trees
-  pub part : invocation.part ≡ call_part level it (takes_in level.position it trees)
-  pub site : (whole : Forest) → whole ≡ whole_in level.position it trees → site_of whole invocation ≡ site_in level.position it trees tree
+  pub last : invocation.last_span ≡ end_in level.position it trees tree
+  pub part : invocation.part ≡ call_part level it (takes_in level.position it trees tree)
+  pub site : (whole : Forest) → whole ≡ whole_in level.position it trees tree → site_of whole invocation ≡ site_in level.position it trees tree
   pub begins : invocation.position ≡ begun_by level.position it trees
   pub makes : body_of invocation tree ≡ body_in level.position it trees tree

@@ -61,25 +61,25 @@ context_after false before inside = record inside { macros = take (length before
 abbrev pub behind_call : Call → (trees : Forest) → Forest
 behind_call it trees = after_trees it.len trees
 
--- the `;` after the call is a part of it
-abbrev pub takes_in : Position → Call → (trees : Forest) → Bool
-takes_in position it trees = takes_semicolon it.delimiter.kind (behind_call it trees) position
+-- the `;` after the call, of which an arm made that tree, is a part of it
+abbrev pub takes_in : Position → Call → (trees : Forest) → Root → Bool
+takes_in position it trees tree = takes_semicolon it.attributes it.delimiter.kind (behind_call it trees) tree.children position
 
 -- where the call ends then
-abbrev pub end_in : Position → Call → (trees : Forest) → Span
-end_in position it trees = if takes_in position it trees then begin_at (behind_call it trees) it.delimiter.close else it.delimiter.close
+abbrev pub end_in : Position → Call → (trees : Forest) → Root → Span
+end_in position it trees tree = if takes_in position it trees tree then begin_at (behind_call it trees) it.delimiter.close else it.delimiter.close
 
 -- how many trees the call is then
-abbrev pub len_in : Position → Call → (trees : Forest) → ℕ
-len_in position it trees = if takes_in position it trees then suc it.len else it.len
+abbrev pub len_in : Position → Call → (trees : Forest) → Root → ℕ
+len_in position it trees tree = if takes_in position it trees tree then suc it.len else it.len
 
 -- the trees after the call then, and the position after the call
-abbrev pub rest_in : Position → Call → (trees : Forest) → Forest
-rest_in position it trees = if takes_in position it trees then after_tree (behind_call it trees) else behind_call it trees
+abbrev pub rest_in : Position → Call → (trees : Forest) → Root → Forest
+rest_in position it trees tree = if takes_in position it trees tree then after_tree (behind_call it trees) else behind_call it trees
 
-abbrev pub behind_in : Position → Call → (trees : Forest) → Position
-behind_in position it trees =
-    if takes_in position it trees then behind true (behind (is_brace it.delimiter.kind) position) else behind (is_brace it.delimiter.kind) position
+abbrev pub behind_in : Position → Call → (trees : Forest) → Root → Position
+behind_in position it trees tree =
+    if takes_in position it trees tree then behind true (behind (is_brace it.delimiter.kind) position) else behind (is_brace it.delimiter.kind) position
 
 -- the position before the first of the trees that the call expands to
 abbrev pub begun_by : Position → Call → (trees : Forest) → Position
@@ -94,17 +94,17 @@ abbrev pub body_in : Position → Call → (trees : Forest) → Root → Forest
 body_in position it trees tree = body (is_statement it.attributes it.delimiter.kind (behind_call it trees) position) tree
 
 -- all trees of the call then, and the attributes before it
-abbrev pub whole_in : Position → Call → (trees : Forest) → Forest
-whole_in position it trees = front_trees (len_in position it trees) trees
+abbrev pub whole_in : Position → Call → (trees : Forest) → Root → Forest
+whole_in position it trees tree = front_trees (len_in position it trees tree) trees
 
-abbrev pub attributes_in : Position → Call → (trees : Forest) → Forest
-attributes_in position it trees = front_trees it.attributes (whole_in position it trees)
+abbrev pub attributes_in : Position → Call → (trees : Forest) → Root → Forest
+attributes_in position it trees tree = front_trees it.attributes (whole_in position it trees tree)
 
--- the place of the call, of which an arm made that tree
+-- the place of the call then
 abbrev pub site_in : Position → Call → (trees : Forest) → Root → CallSite
 site_in position it trees tree =
     record {
-      attributes = attributes_in position it trees;
+      attributes = attributes_in position it trees tree;
       len = it.attributes;
       enclosure = enclosure it.attributes it.delimiter.kind (behind_call it trees) (body_in position it trees tree) position;
       position = begun_by position it trees;
@@ -120,12 +120,12 @@ abbrev pub entered_in : Config → Call → (trees : Forest) → Root → Contex
 entered_in config it trees tree context = inside_call config it.name.sym (start_of (begin_in it trees).range) (size tree.children) context
 
 -- its attributes stay, and these trees replace the call
-abbrev pub becomes_in : Position → Call → (trees put : Forest) → Outcome → Outcome
-becomes_in position it trees put others = stays (attributes_in position it trees) (becomes (begin_in it trees) (end_in position it trees) put others)
+abbrev pub becomes_in : Position → Call → (trees : Forest) → Root → (put : Forest) → Outcome → Outcome
+becomes_in position it trees tree put others = stays (attributes_in position it trees tree) (becomes (begin_in it trees) (end_in position it trees tree) put others)
 
 -- the call stays, with its attributes and the `;` that is a part of it
-abbrev pub stays_in : Position → Call → (trees : Forest) → Outcome → Outcome
-stays_in position it trees others = stays (whole_in position it trees) others
+abbrev pub stays_in : Position → Call → (trees : Forest) → Root → Outcome → Outcome
+stays_in position it trees tree others = stays (whole_in position it trees tree) others
 
 -- what trees of the text itself, or of an expansion, expand to, with at most so many nested expansions: at a position, with so many plain
 -- trees, and from what is known before; and what is known then. The expansion of a call replaces it, and is written there in the text. If
@@ -195,8 +195,8 @@ pub data ExpandsTo (config : Config) : (in_text : Bool) → (limit : ℕ) → Po
       → ExpandsTo config false limit (begun_by position it trees) 0 (entered_in config it trees tree noted) (body_in position it trees tree) inside held
       → PutIn in_text (site_in position it trees tree) (trees_left held) put
       → MayBePut in_text it.delimiter put
-      → ExpandsTo config in_text (suc limit) (behind_in position it trees) 0 (outside_call noted inside) (rest_in position it trees) after others
-      → ExpandsTo config in_text (suc limit) position 0 context trees after (becomes_in position it trees put others)
+      → ExpandsTo config in_text (suc limit) (behind_in position it trees tree) 0 (outside_call noted inside) (rest_in position it trees tree) after others
+      → ExpandsTo config in_text (suc limit) position 0 context trees after (becomes_in position it trees tree put others)
   on_kept_call : {in_text : Bool} {limit : ℕ} {position : Position} {context noted inside after : Context} {it : Call} {macro : Macro} {arms : List Arm} {trees : Forest} {held others : Outcome} (tree : Root) (at : ℕ) (fault : MacroFault)
       → context.is_over ≡ false
       → IsItemAt config.known config.root position trees (calls it)
@@ -206,5 +206,5 @@ pub data ExpandsTo (config : Config) : (in_text : Bool) → (limit : ℕ) → Po
       → IsCaptureFound macro.defined_at it (begun_by position it trees) (body_in position it trees tree) context noted
       → ExpandsTo config false limit (begun_by position it trees) 0 (entered_in config it trees tree noted) (body_in position it trees tree) inside held
       → IsKept in_text (site_in position it trees tree) (trees_left held) (start_of (begin_in it trees).range) at fault
-      → ExpandsTo config in_text (suc limit) (behind_in position it trees) 0 (with_finding (found_of it macro at fault) (outside_call noted inside)) (rest_in position it trees) after others
-      → ExpandsTo config in_text (suc limit) position 0 context trees after (stays_in position it trees others)
+      → ExpandsTo config in_text (suc limit) (behind_in position it trees tree) 0 (with_finding (found_of it macro at fault) (outside_call noted inside)) (rest_in position it trees tree) after others
+      → ExpandsTo config in_text (suc limit) position 0 context trees after (stays_in position it trees tree others)

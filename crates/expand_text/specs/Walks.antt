@@ -1,6 +1,6 @@
 -- A walk through trees that define and call macros.
 use Rattle.std.specs.Prelude.{◌≡◌, ◌+◌, ◌*◌, ◌-◌, ℕ, Bool, true, false, suc, List, [], ◌∷◌, map, reverse, Option, None, Some, if◌then◌else◌}
-use Rattle.tt.specs.Forest.{Forest, end, size}
+use Rattle.tt.specs.Forest.{Forest, Root, end, size}
 use Rattle.tt.specs.Gluing.{after_trees}
 use Rattle.tt.specs.Moves.{after_tree}
 use Rattle.tt.specs.TreeWalks.{innermost, outer_levels}
@@ -80,10 +80,10 @@ abbrev pub past_part : (len : ℕ) → Level → Level
 past_part len level =
     record level { rest = after_trees len level.rest; position = behind true level.position; plain = plain_behind_part len level.rest }
 
--- a call is passed, and the `;` after it if that is a part of it
-abbrev pub past_call : Call → Level → Level
-past_call it level =
-    past_semicolon (takes_in level.position it level.rest) (past it.len (is_brace it.delimiter.kind) level)
+-- a call, of which an arm made that tree, is passed, and the `;` after it if that is a part of it
+abbrev pub past_call : Call → Root → Level → Level
+past_call it tree level =
+    past_semicolon (takes_in level.position it level.rest tree) (past it.len (is_brace it.delimiter.kind) level)
 
 -- a part that comes first, and the levels behind it
 abbrev pub front_in : Part → List Level → Forest

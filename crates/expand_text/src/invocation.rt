@@ -120,7 +120,8 @@ pub(crate) fn invocation_of(
     let behind = rest.remaining();
     let is_statement = position.is_statement(attributes, kind, behind.iter());
     let expansion = body(is_statement, tree).iter();
-    let takes = position.takes_semicolon(kind, behind.iter());
+    let made = tree.token_trees().iter();
+    let takes = position.takes_semicolon(attributes, kind, behind.iter(), made);
     Ok(Invocation {
         name,
         defined_at,
