@@ -1,0 +1,25 @@
+//! Laws of programs: each is the contract of a function without effect.
+ghost use Rattle.std.specs.Prelude.{◌≡◌, ◌↔◌, List};
+ghost use Rattle.tt.specs.Forest.{Forest};
+ghost use Rattle.mbe_matcher.specs.Marks.{Note, notes_of};
+ghost use Rattle.mbe_matcher.specs.Readings.{Reading, IsInstance, IsNoInstance, IsReadBy, IsAmbiguous};
+ghost use Rattle.mbe_pattern.specs.Patterns.{Pattern};
+ghost use Rattle.mbe_program.specs.Answers.{HasNoRun, HasOneRun, HasTwoRuns};
+ghost use Rattle.mbe_program.specs.Program.{program_of};
+ghost use Rattle.mbe_program.specs.Runs.{IsRun};
+
+/// States that the runs of a pattern's program are the readings of the pattern, with the same notes: each reading is a run, each run is a
+/// reading, and readings that differ have notes that differ.
+pub fn runs_are_readings()
+    ensures runs { (pattern : Pattern) → (input : Forest) → (reading : Reading) → IsInstance pattern input reading → IsRun (program_of pattern) input (notes_of pattern reading) }
+    ensures reads { (pattern : Pattern) → (input : Forest) → (notes : List Note) → IsRun (program_of pattern) input notes → (reading : Reading) × IsInstance pattern input reading × (notes ≡ notes_of pattern reading) }
+    ensures differ { (pattern : Pattern) → (input : Forest) → (one other : Reading) → IsInstance pattern input one → IsInstance pattern input other → notes_of pattern one ≡ notes_of pattern other → one ≡ other }
+{}
+
+/// States that an input is an instance of a pattern in as many ways as the pattern's program runs through it: in none, in exactly one, or in
+/// two and maybe more.
+pub fn as_many_runs()
+    ensures none { (pattern : Pattern) → (input : Forest) → HasNoRun (program_of pattern) input ↔ IsNoInstance pattern input }
+    ensures one { (pattern : Pattern) → (input : Forest) → (notes : List Note) → HasOneRun (program_of pattern) input notes ↔ ((reading : Reading) × IsReadBy pattern input reading × (notes ≡ notes_of pattern reading)) }
+    ensures two { (pattern : Pattern) → (input : Forest) → HasTwoRuns (program_of pattern) input ↔ IsAmbiguous pattern input }
+{}
