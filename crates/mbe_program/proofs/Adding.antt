@@ -105,13 +105,13 @@ module _ (Cell Note : Type 0) (start : Cell) (Hop : Cell → Cell → List Note 
   added_kept ways new_ways log new_log Done it kept source new (inl (way, set, log_is)) =
       subst (λ log. Kept new_ways log (Plus Done it)) (sym log_is)
       (pushed_kept Cell Note start Hop tells decide ways log Done kept new_ways it it.is_many source (λ does. does) set
-        (source_two Cell Note start Hop tells decide ways log Done kept it.before it.cell it.notes it.is_many source)
-        (λ lacks. kept.not_yet it.cell way))
+      (source_two Cell Note start Hop tells decide ways log Done kept it.before it.cell it.notes it.is_many source)
+      (λ lacks. kept.not_yet it.cell way))
   added_kept ways new_ways log new_log Done it kept source new (inr (inl (way, set, log_is))) =
       subst (λ log. Kept new_ways log (Plus Done it)) (sym log_is)
       (pushed_kept Cell Note start Hop tells decide ways log Done kept new_ways (record it { is_many = true }) it.is_many source (λ does. refl) set
-        (λ does. meets Cell Note start Hop tells decide ways log Done kept it source new way)
-        (λ lacks. let same : true ≡ false = lacks in absurd (cc same)))
+      (λ does. meets Cell Note start Hop tells decide ways log Done kept it source new way)
+      (λ lacks. let same : true ≡ false = lacks in absurd (cc same)))
   added_kept ways new_ways log new_log Done it kept source new (inr (inr (way, all, log_is))) =
       subst (λ log. Kept new_ways log (Plus Done it)) (sym log_is)
       (kept_often ways new_ways log Done it kept (source_within Cell Note start Hop tells decide log it.before it.cell it.notes it.is_many source) way all)
@@ -142,7 +142,7 @@ module _ (Cell Note : Type 0) (start : Cell) (Hop : Cell → Cell → List Note 
       goes : (before : ℕ) (to : Cell) (notes : List Note) → Done before to notes → Tried Cell Note start Hop (log ++ more) (suc i) before to notes
       goes before to notes done =
           elim (only before to notes done) [
-            inl tried ↦ older before to notes tried
+            | inl tried ↦ older before to notes tried
             | inr (same, hop) ↦ subst (λ before. Tried Cell Note start Hop (log ++ more) (suc i) before to notes) (sym same) (omega arith, (from, at_grown Cell Note log more i from there, hop))
           ]
 
@@ -154,9 +154,9 @@ module _ (Cell Note : Type 0) (start : Cell) (Hop : Cell → Cell → List Note 
       comes (suc j) to notes (lt, (source, is, hop)) =
           let within = at_within Cell Note log i from there in
           elim (either j lt) [
-            inl less ↦ olds (suc j) to notes (less, (source, at_back Cell Note log more j source (omega (arith, less, within)) is, hop))
+            | inl less ↦ olds (suc j) to notes (less, (source, at_back Cell Note log more j source (omega (arith, less, within)) is, hop))
             | inr same ↦
-              let own = at_back Cell Note log more j source (omega (arith, same, within)) is in
-              let one : source ≡ from = at_once Cell Note log i source from (subst (λ j. IsAt Cell Note log j source) same own) there in
-              subst (λ n. Done (suc n) to notes) (sym same) (news to notes (subst (λ (it : Coming Cell Note). Hop it.cell to notes) one hop))
+                let own = at_back Cell Note log more j source (omega (arith, same, within)) is in
+                let one : source ≡ from = at_once Cell Note log i source from (subst (λ j. IsAt Cell Note log j source) same own) there in
+                subst (λ n. Done (suc n) to notes) (sym same) (news to notes (subst (λ (it : Coming Cell Note). Hop it.cell to notes) one hop))
           ]

@@ -108,7 +108,7 @@ module _ (program : List Instruction) (input : Forest) (table : Table) (is : IsT
         differ = λ same.
             two.differ
             (same_count program two.n two.m program (input ∷ []) two.notes (comes_runs two.n two.notes two.one)
-              (subst (Goes program IsOver two.m program (input ∷ [])) (sym same) (comes_runs two.m two.others two.other)))
+            (subst (Goes program IsOver two.m program (input ∷ [])) (sym same) (comes_runs two.m two.others two.other)))
             same;
         one_runs = (two.n, comes_runs two.n two.notes two.one);
         other_runs = (two.m, comes_runs two.m two.others two.other);

@@ -24,13 +24,13 @@ module _ (Cell Note : Type 0) (start : Cell) (Hop : Cell → Cell → List Note 
   seen zero to notes (at_start, none) way = (kept.not_yet to way).0 0 [] (subst (λ cell. Done 0 cell []) (sym at_start) begins)
   seen (suc n) to notes (from, before, its, comes, hop, same) way =
       elim (either_way from) [
-        inl not_seen ↦ seen n from before comes not_seen
+        | inl not_seen ↦ seen n from before comes not_seen
         | inr (inl single) ↦
-          let known = kept.only from single in
-          gone known.0 known.1 known.2 known.3
+            let known = kept.only from single in
+            gone known.0 known.1 known.2 known.3
         | inr (inr double) ↦
-          let known = kept.many from double in
-          gone known.0 known.1 known.2 known.3
+            let known = kept.many from double in
+            gone known.0 known.1 known.2 known.3
       ]
     where
       gone : (k : ℕ) (it : Coming Cell Note) → IsAt Cell Note log k it → it.cell ≡ from → ⊥
@@ -40,7 +40,7 @@ module _ (Cell Note : Type 0) (start : Cell) (Hop : Cell → Cell → List Note 
   pub reached : (n : ℕ) (to : Cell) (notes : List Note) → Comes Cell Note start Hop n to notes → (k : ℕ) × (it : Coming Cell Note) × IsAt Cell Note log k it × (it.cell ≡ to)
   reached n to notes comes =
       elim (either_way to) [
-        inl not_seen ↦ absurd (seen n to notes comes not_seen)
+        | inl not_seen ↦ absurd (seen n to notes comes not_seen)
         | inr (inl single) ↦ let known = kept.only to single in (known.0, known.1, known.2, known.3)
         | inr (inr double) ↦ let known = kept.many to double in (known.0, known.1, known.2, known.3)
       ]
@@ -53,17 +53,17 @@ module _ (Cell Note : Type 0) (start : Cell) (Hop : Cell → Cell → List Note 
       (known.0, known.1, [], refl, known.2, (sym first.0, refl), none ∙ first.1)
   one_way (suc n) to notes (from, before, its, comes, hop, same) way =
       elim (either_way from) [
-        inl not_seen ↦ absurd (seen n from before comes not_seen)
+        | inl not_seen ↦ absurd (seen n from before comes not_seen)
         | inr (inl single) ↦
-          let source = kept.only from single in
-          let traces = one_way n from before comes single in
-          let known = kept.only to way in
-          let last = known.5 (suc source.0) its (goes source.0 source.1 to its source.2 (subst (λ cell. Hop cell to its) (sym source.3) hop)) in
-          (known.0, known.1, before, refl, known.2, subst (λ number. Traces Cell Note log (suc n) number before) last.0 traces, same ∙ ap (λ l. before ++ l) last.1)
+            let source = kept.only from single in
+            let traces = one_way n from before comes single in
+            let known = kept.only to way in
+            let last = known.5 (suc source.0) its (goes source.0 source.1 to its source.2 (subst (λ cell. Hop cell to its) (sym source.3) hop)) in
+            (known.0, known.1, before, refl, known.2, subst (λ number. Traces Cell Note log (suc n) number before) last.0 traces, same ∙ ap (λ l. before ++ l) last.1)
         | inr (inr double) ↦
-          let source = kept.many from double in
-          let twice = kept.onward source.0 source.1 to its (goes source.0 source.1 to its source.2 (subst (λ cell. Hop cell to its) (sym source.3) hop)) source.2 source.4 in
-          absurd (apart (sym way ∙ twice))
+            let source = kept.many from double in
+            let twice = kept.onward source.0 source.1 to its (goes source.0 source.1 to its source.2 (subst (λ cell. Hop cell to its) (sym source.3) hop)) source.2 source.4 in
+            absurd (apart (sym way ∙ twice))
       ]
     where
       apart : once ≡ often → ⊥

@@ -86,30 +86,30 @@ module _ (Cell Note : Type 0) (start : Cell) (Hop : Cell → Cell → List Note 
         record { n = suc then.0; notes = then.1 ++ its; m = 0; others = []; one = (from.cell, then.1, its, then.2, hop, refl); other = (at, refl); differ = λ count same. absurd (omega (arith, count)) }
     apart (suc j) (suc k) to its those (from, there, hop, same) (source, also_there, hopped, also_same) differ =
         elim (decide from.cell source.cell) [
-          inl one_cell ↦
-            let own = comes j from there in
-            let number : j ≡ k = kept.alone j k from source there also_there (sym same) (sym also_same) one_cell in
-            record {
-              n = suc own.0;
-              notes = own.1 ++ its;
-              m = suc own.0;
-              others = own.1 ++ those;
-              one = (from.cell, own.1, its, own.2, hop, refl);
-              other = (from.cell, own.1, those, own.2, subst (λ cell. Hop cell to those) (sym one_cell) hopped, refl);
-              differ = λ count notes_same. differ (ap suc number) (append_cancel_left own.1 its those notes_same);
-            }
+          | inl one_cell ↦
+              let own = comes j from there in
+              let number : j ≡ k = kept.alone j k from source there also_there (sym same) (sym also_same) one_cell in
+              record {
+                n = suc own.0;
+                notes = own.1 ++ its;
+                m = suc own.0;
+                others = own.1 ++ those;
+                one = (from.cell, own.1, its, own.2, hop, refl);
+                other = (from.cell, own.1, those, own.2, subst (λ cell. Hop cell to those) (sym one_cell) hopped, refl);
+                differ = λ count notes_same. differ (ap suc number) (append_cancel_left own.1 its those notes_same);
+              }
           | inr two_cells ↦
-            let own = comes j from there in
-            let other = comes k source also_there in
-            record {
-              n = suc own.0;
-              notes = own.1 ++ its;
-              m = suc other.0;
-              others = other.1 ++ those;
-              one = (from.cell, own.1, its, own.2, hop, refl);
-              other = (source.cell, other.1, those, other.2, hopped, refl);
-              differ = λ count notes_same. two_cells (meet own.0 other.0 from.cell source.cell own.1 other.1 count own.2 other.2 notes_same);
-            }
+              let own = comes j from there in
+              let other = comes k source also_there in
+              record {
+                n = suc own.0;
+                notes = own.1 ++ its;
+                m = suc other.0;
+                others = other.1 ++ those;
+                one = (from.cell, own.1, its, own.2, hop, refl);
+                other = (source.cell, other.1, those, other.2, hopped, refl);
+                differ = λ count notes_same. two_cells (meet own.0 other.0 from.cell source.cell own.1 other.1 count own.2 other.2 notes_same);
+              }
         ]
       where
         meet : (n m : ℕ) (one other : Cell) (notes others : List Note) → suc n ≡ suc m → Comes Cell Note start Hop n one notes → Comes Cell Note start Hop m other others
@@ -122,15 +122,15 @@ module _ (Cell Note : Type 0) (start : Cell) (Hop : Cell → Cell → List Note 
     pub meets : (it : Coming Cell Note) → IsSource log it.before it.cell it.notes it.is_many → (Done it.before it.cell it.notes → ⊥) → ways it.cell ≡ once → AreTwo Cell Note start Hop it.cell
     meets it source new way =
         elim (either_bool it.is_many) [
-          inl does ↦ source_two it.before it.cell it.notes it.is_many source does
+          | inl does ↦ source_two it.before it.cell it.notes it.is_many source does
           | inr lacks ↦
-            let known = kept.only it.cell way in
-            let own = kept.source known.0 known.1 known.2 in
-            let own_no : own.0 ≡ false = elim (either_bool own.0) [ inl does ↦ absurd (not_both known.1.is_many (own.2 does) known.4) | inr lacks ↦ lacks ] in
-            apart known.1.before it.before it.cell known.1.notes it.notes
-            (subst (λ cell. IsSource log known.1.before cell known.1.notes false) known.3 (subst (IsSource log known.1.before known.1.cell known.1.notes) own_no own.1))
-            (subst (IsSource log it.before it.cell it.notes) lacks source)
-            (λ number notes. new (subst (λ b. Done b it.cell it.notes) number
+              let known = kept.only it.cell way in
+              let own = kept.source known.0 known.1 known.2 in
+              let own_no : own.0 ≡ false = elim (either_bool own.0) [ inl does ↦ absurd (not_both known.1.is_many (own.2 does) known.4) | inr lacks ↦ lacks ] in
+              apart known.1.before it.before it.cell known.1.notes it.notes
+              (subst (λ cell. IsSource log known.1.before cell known.1.notes false) known.3 (subst (IsSource log known.1.before known.1.cell known.1.notes) own_no own.1))
+              (subst (IsSource log it.before it.cell it.notes) lacks source)
+              (λ number notes. new (subst (λ b. Done b it.cell it.notes) number
               (subst (λ l. Done known.1.before it.cell l) notes (subst (λ cell. Done known.1.before cell known.1.notes) known.3 (kept.logged known.0 known.1 known.2)))))
         ]
 
@@ -169,7 +169,7 @@ module _ (Cell Note : Type 0) (start : Cell) (Hop : Cell → Cell → List Note 
           → (is_many : Bool) × IsSource new_log other.before other.cell other.notes is_many × (is_many ≡ true → other.is_many ≡ true) × (other.before ≤ k)
       now_source k other there =
           elim (at_either Cell Note log it k other there) [
-            inl old ↦ let own = kept.source k other old in (own.0, source_grown log (it ∷ []) other.before other.cell other.notes own.0 own.1, own.2, own.3)
+            | inl old ↦ let own = kept.source k other old in (own.0, source_grown log (it ∷ []) other.before other.cell other.notes own.0 own.1, own.2, own.3)
             | inr (count, same) ↦ newest count same
           ]
         where
@@ -182,27 +182,27 @@ module _ (Cell Note : Type 0) (start : Cell) (Hop : Cell → Cell → List Note 
       now_two : (k : ℕ) (other : Coming Cell Note) → At new_log k other → other.is_many ≡ true → AreTwo Cell Note start Hop other.cell
       now_two k other there does =
           elim (at_either Cell Note log it k other there) [
-            inl old ↦ kept.two k other old does
+            | inl old ↦ kept.two k other old does
             | inr (count, same) ↦
-              subst (λ (other : Coming Cell Note). AreTwo Cell Note start Hop other.cell) (sym same) (is_two (ap (λ (other : Coming Cell Note). other.is_many) (sym same) ∙ does))
+                subst (λ (other : Coming Cell Note). AreTwo Cell Note start Hop other.cell) (sym same) (is_two (ap (λ (other : Coming Cell Note). other.is_many) (sym same) ∙ does))
           ]
 
       now_logged : (k : ℕ) (other : Coming Cell Note) → At new_log k other → Now other.before other.cell other.notes
       now_logged k other there =
           elim (at_either Cell Note log it k other there) [
-            inl old ↦ inl (kept.logged k other old)
+            | inl old ↦ inl (kept.logged k other old)
             | inr (count, same) ↦ inr (ap (λ (other : Coming Cell Note). other.before) same, ap (λ (other : Coming Cell Note). other.cell) same, ap (λ (other : Coming Cell Note). other.notes) same)
           ]
 
       now_alone : (k j : ℕ) (one other : Coming Cell Note) → At new_log k one → At new_log j other → one.is_many ≡ false → other.is_many ≡ false → one.cell ≡ other.cell → k ≡ j
       now_alone k j one other there also lacks also_no same_cell =
           elim (at_either Cell Note log it k one there) [
-            inl old ↦ elim (at_either Cell Note log it j other also) [
-              inl also_old ↦ kept.alone k j one other old also_old lacks also_no same_cell
+            | inl old ↦ elim (at_either Cell Note log it j other also) [
+              | inl also_old ↦ kept.alone k j one other old also_old lacks also_no same_cell
               | inr (count, same) ↦ absurd (taken k one other same also_no old same_cell)
             ]
             | inr (count, same) ↦ elim (at_either Cell Note log it j other also) [
-              inl also_old ↦ absurd (taken j other one same lacks also_old (sym same_cell))
+              | inl also_old ↦ absurd (taken j other one same lacks also_old (sym same_cell))
               | inr (also_count, also_same) ↦ count ∙ sym also_count
             ]
           ]
@@ -218,7 +218,7 @@ module _ (Cell Note : Type 0) (start : Cell) (Hop : Cell → Cell → List Note 
       now_not_yet : (to : Cell) → new_ways to ≡ unseen → ((before : ℕ) (notes : List Note) → Now before to notes → ⊥) × ((k : ℕ) (other : Coming Cell Note) → At new_log k other → other.cell ≡ to → ⊥)
       now_not_yet to way =
           elim (decide to it.cell) [
-            inl same ↦ absurd (not_unseen it.is_many (sym (here to same) ∙ way))
+            | inl same ↦ absurd (not_unseen it.is_many (sym (here to same) ∙ way))
             | inr differs ↦ by differs (kept.not_yet to (sym (elsewhere to differs) ∙ way))
           ]
         where
@@ -233,7 +233,7 @@ module _ (Cell Note : Type 0) (start : Cell) (Hop : Cell → Cell → List Note 
               no_entry : (k : ℕ) (other : Coming Cell Note) → At new_log k other → other.cell ≡ to → ⊥
               no_entry k other there cell =
                   elim (at_either Cell Note log it k other there) [
-                    inl old ↦ nothing k other old cell
+                    | inl old ↦ nothing k other old cell
                     | inr (count, same) ↦ differs (sym cell ∙ ap (λ (other : Coming Cell Note). other.cell) same)
                   ]
 
@@ -241,7 +241,7 @@ module _ (Cell Note : Type 0) (start : Cell) (Hop : Cell → Cell → List Note 
           × ((before : ℕ) (notes : List Note) → Now before to notes → (before ≡ other.before) × (notes ≡ other.notes))
       now_only to way =
           elim (decide to it.cell) [
-            inl same ↦ newest same (once_no it.is_many (sym (here to same) ∙ way))
+            | inl same ↦ newest same (once_no it.is_many (sym (here to same) ∙ way))
             | inr differs ↦ older differs (kept.only to (sym (elsewhere to differs) ∙ way))
           ]
         where
@@ -254,7 +254,7 @@ module _ (Cell Note : Type 0) (start : Cell) (Hop : Cell → Cell → List Note 
               unique before notes (inr (number, cell, those)) = (number, those)
 
           older : (to ≡ it.cell → ⊥) → ((k : ℕ) × (other : Coming Cell Note) × At log k other × (other.cell ≡ to) × (other.is_many ≡ false)
-                × ((before : ℕ) (notes : List Note) → Done before to notes → (before ≡ other.before) × (notes ≡ other.notes)))
+              × ((before : ℕ) (notes : List Note) → Done before to notes → (before ≡ other.before) × (notes ≡ other.notes)))
               → (k : ℕ) × (other : Coming Cell Note) × At new_log k other × (other.cell ≡ to) × (other.is_many ≡ false)
               × ((before : ℕ) (notes : List Note) → Now before to notes → (before ≡ other.before) × (notes ≡ other.notes))
           older differs (k, other, there, cell, lacks, known) = (k, other, at_grown Cell Note log (it ∷ []) k other there, cell, lacks, unique)
@@ -266,17 +266,17 @@ module _ (Cell Note : Type 0) (start : Cell) (Hop : Cell → Cell → List Note 
       now_many : (to : Cell) → new_ways to ≡ often → (k : ℕ) × (other : Coming Cell Note) × At new_log k other × (other.cell ≡ to) × (other.is_many ≡ true)
       now_many to way =
           elim (decide to it.cell) [
-            inl same ↦ (length log, it, at_newest Cell Note log it, sym same, often_yes it.is_many (sym (here to same) ∙ way))
+            | inl same ↦ (length log, it, at_newest Cell Note log it, sym same, often_yes it.is_many (sym (here to same) ∙ way))
             | inr differs ↦
-              let old = kept.many to (sym (elsewhere to differs) ∙ way) in
-              (old.0, old.1, at_grown Cell Note log (it ∷ []) old.0 old.1 old.2, old.3, old.4)
+                let old = kept.many to (sym (elsewhere to differs) ∙ way) in
+                (old.0, old.1, at_grown Cell Note log (it ∷ []) old.0 old.1 old.2, old.3, old.4)
           ]
 
       now_onward : (j : ℕ) (from : Coming Cell Note) (to : Cell) (notes : List Note) → Now (suc j) to notes → At new_log j from → from.is_many ≡ true → new_ways to ≡ often
       now_onward j from to notes done there does =
           elim (at_either Cell Note log it j from there) [
-            inl old ↦ elim done [
-              inl tried ↦ elsewhere_often tried (kept.onward j from to notes tried old does)
+            | inl old ↦ elim done [
+              | inl tried ↦ elsewhere_often tried (kept.onward j from to notes tried old does)
               | inr (number, cell, those) ↦ at_it number cell old
             ]
             | inr (count, same) ↦ absurd (too_late count done)
@@ -289,8 +289,8 @@ module _ (Cell Note : Type 0) (start : Cell) (Hop : Cell → Cell → List Note 
           elsewhere_often : Done (suc j) to notes → ways to ≡ often → new_ways to ≡ often
           elsewhere_often tried way =
               elim (decide to it.cell) [
-                inl same ↦ elim (either_bool it.is_many) [
-                  inl does ↦ here to same ∙ ap way_of does
+                | inl same ↦ elim (either_bool it.is_many) [
+                  | inl does ↦ here to same ∙ ap way_of does
                   | inr lacks ↦ absurd ((is_first lacks).0 (suc j) notes (subst (λ cell. Done (suc j) cell notes) same tried))
                 ]
                 | inr differs ↦ elsewhere to differs ∙ way

@@ -88,12 +88,12 @@ module _ (program : List Instruction) (table : Table) (input : Forest) (is : IsT
       → IsAdded Cell Note it ways log new_ways new_log → (k : ℕ) (other : Coming Cell Note) → IsAt Cell Note new_log k other → IsInside program table other.cell
   added_inside it ways new_ways log new_log own inside (inl (way, set, log_is)) k other there =
       elim (at_either Cell Note log it k other (subst (λ log. IsAt Cell Note log k other) log_is there)) [
-        inl old ↦ inside k other old
+        | inl old ↦ inside k other old
         | inr (count, same) ↦ subst (λ (it : Coming Cell Note). IsInside program table it.cell) (sym same) own
       ]
   added_inside it ways new_ways log new_log own inside (inr (inl (way, set, log_is))) k other there =
       elim (at_either Cell Note log (record it { is_many = true }) k other (subst (λ log. IsAt Cell Note log k other) log_is there)) [
-        inl old ↦ inside k other old
+        | inl old ↦ inside k other old
         | inr (count, same) ↦ subst (λ (it : Coming Cell Note). IsInside program table it.cell) (sym same) own
       ]
   added_inside it ways new_ways log new_log own inside (inr (inr (way, all, log_is))) k other there = inside k other (subst (λ log. IsAt Cell Note log k other) log_is there)

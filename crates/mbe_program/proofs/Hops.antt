@@ -109,9 +109,9 @@ module _ (program : List Instruction) (input : Forest) (table : Table) (is : IsT
           place = rest;
           levels = after_trees count trees ∷ outer;
           hops = subst (λ place. HopsFrom program table place from.position to (took_by (length rest) (taken which.fragment trees) ∷ [])) (sym same)
-                (are.0, ap (takes which.fragment) (sym own) ∙ takes_it, (refl, refl), ap (λ trees. took_by (length rest) (taken which.fragment trees) ∷ []) own);
+              (are.0, ap (takes which.fragment) (sym own) ∙ takes_it, (refl, refl), ap (λ trees. took_by (length rest) (taken which.fragment trees) ∷ []) own);
           fits = behind (take which) rest from.left (passed_to table (reach which.fragment (table.trees from.position)) from.position) (after_trees count trees ∷ outer) same
-                (subst (λ k. AreLevels table (passed_to table k from.position) (after_trees count trees ∷ outer)) (sym counts) (passed_levels input table is count from.position trees outer are)) to (refl, refl);
+              (subst (λ k. AreLevels table (passed_to table k from.position) (after_trees count trees ∷ outer)) (sym counts) (passed_levels input table is count from.position trees outer are)) to (refl, refl);
           goes = goes;
           same = notes_are;
         }
@@ -138,7 +138,7 @@ module _ (program : List Instruction) (input : Forest) (table : Table) (is : IsT
           levels = after_trees (length leaves) trees ∷ outer;
           hops = subst (λ place. HopsFrom program table place from.position to []) (sym same) (subst (IsUnitLike leaves) are.2 like, (refl, refl), refl);
           fits = behind (pass leaves) rest from.left (passed_to table (length leaves) from.position) (after_trees (length leaves) trees ∷ outer) same
-                (passed_levels input table is (length leaves) from.position trees outer are) to (refl, refl);
+              (passed_levels input table is (length leaves) from.position trees outer are) to (refl, refl);
           goes = goes;
           same = refl;
         }

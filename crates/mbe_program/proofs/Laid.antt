@@ -150,9 +150,9 @@ module _ (input : Forest) (spots : List Spot) (insides : List ℕ) (laid : AreLa
       into n other some less is kind node_is =
           let count = length-append insides (0 ∷ []) in
           elim (either_less n (length insides) (omega (arith, less, count))) [
-            inl before ↦
-              let old = laid.into n other some before is kind node_is in
-              subst (λ k. (0 < k) × ((inner : Spot) × IsSpot spots k inner × (inner.trees ≡ children_of other.trees) × (inner.outside ≡ suc n))) (sym (index_before insides 0 n before)) old
+            | inl before ↦
+                let old = laid.into n other some before is kind node_is in
+                subst (λ k. (0 < k) × ((inner : Spot) × IsSpot spots k inner × (inner.trees ≡ children_of other.trees) × (inner.outside ≡ suc n))) (sym (index_before insides 0 n before)) old
             | inr same ↦ absurd (none kind (subst (λ (it : Spot). IsNodeOf kind it.trees) (spot_once spots n other it is (subst (λ k. IsSpot spots k it) (sym same) there)) node_is))
           ]
 
@@ -171,20 +171,20 @@ module _ (input : Forest) (spots : List Spot) (insides : List ℕ) (laid : AreLa
     now_next : (n : ℕ) (other : Spot) → 0 < n → IsSpot news n other → (other.trees ≡ end → ⊥) → (after : Spot) × IsSpot news (suc n) after × (after.trees ≡ after_tree other.trees) × (after.outside ≡ other.outside)
     now_next n other positive is goes =
         elim (spot_either spots level n other is) [
-          inl old ↦ let found = laid.next n other positive old goes in (found.0, spot_before spots level (suc n) found.0 found.1, found.2, found.3)
+          | inl old ↦ let found = laid.next n other positive old goes in (found.0, spot_before spots level (suc n) found.0 found.1, found.2, found.3)
           | inr (k, same, own) ↦
-            let found = (in_level (suc (length insides)) behind.left children k other own).next goes in
-            let number : length spots + suc k ≡ suc n = omega (arith, same) in
-            (found.0, subst (λ n. IsSpot news n found.0) number (spot_behind spots level (suc k) found.0 found.1), found.2, found.3)
+              let found = (in_level (suc (length insides)) behind.left children k other own).next goes in
+              let number : length spots + suc k ≡ suc n = omega (arith, same) in
+              (found.0, subst (λ n. IsSpot news n found.0) number (spot_behind spots level (suc k) found.0 found.1), found.2, found.3)
         ]
 
     now_out : (n : ℕ) (other : Spot) → IsSpot news n other → (around : Spot) × IsSpot news other.outside around × (0 < n → other.left ≡ size other.trees + around.left)
     now_out n other is =
         elim (spot_either spots level n other is) [
-          inl old ↦ let found = laid.out n other old in (found.0, spot_before spots level other.outside found.0 found.1, found.2)
+          | inl old ↦ let found = laid.out n other old in (found.0, spot_before spots level other.outside found.0 found.1, found.2)
           | inr (k, same, own) ↦
-            let found = in_level (suc (length insides)) behind.left children k other own in
-            (behind, subst (λ n. IsSpot news n behind) (sym found.out) (spot_before spots level (suc (length insides)) behind next_there), λ positive. found.left)
+              let found = in_level (suc (length insides)) behind.left children k other own in
+              (behind, subst (λ n. IsSpot news n behind) (sym found.out) (spot_before spots level (suc (length insides)) behind next_there), λ positive. found.left)
         ]
 
     now_into : (n : ℕ) (other : Spot) → 0 < n → n < length new_insides → IsSpot news n other → (kind : DelimiterKind) → IsNodeOf kind other.trees
@@ -192,10 +192,10 @@ module _ (input : Forest) (spots : List Spot) (insides : List ℕ) (laid : AreLa
     now_into n other positive less is kind node_is =
         let count = length-append insides (length spots ∷ []) in
         elim (either_less n (length insides) (omega (arith, less, count))) [
-          inl before ↦
-            let found = laid.into n other positive before (old n other before is) kind node_is in
-            subst (λ k. (0 < k) × ((inner : Spot) × IsSpot news k inner × (inner.trees ≡ children_of other.trees) × (inner.outside ≡ suc n))) (sym (index_before insides (length spots) n before))
-            (found.0, (found.1.0, spot_before spots level (slice_index_or insides n 0) found.1.0 found.1.1, found.1.2, found.1.3))
+          | inl before ↦
+              let found = laid.into n other positive before (old n other before is) kind node_is in
+              subst (λ k. (0 < k) × ((inner : Spot) × IsSpot news k inner × (inner.trees ≡ children_of other.trees) × (inner.outside ≡ suc n))) (sym (index_before insides (length spots) n before))
+              (found.0, (found.1.0, spot_before spots level (slice_index_or insides n 0) found.1.0 found.1.1, found.1.2, found.1.3))
           | inr same ↦ here same
         ]
       where
@@ -205,7 +205,7 @@ module _ (input : Forest) (spots : List Spot) (insides : List ℕ) (laid : AreLa
         old : (n : ℕ) (other : Spot) → n < length insides → IsSpot news n other → IsSpot spots n other
         old n other before is =
             elim (spot_either spots level n other is) [
-              inl own ↦ own
+              | inl own ↦ own
               | inr (k, same, own) ↦ absurd (omega (arith, before, same, within))
             ]
 
@@ -216,11 +216,15 @@ module _ (input : Forest) (spots : List Spot) (insides : List ℕ) (laid : AreLa
             let index : slice_index_or new_insides n 0 ≡ length spots = ap (λ n. slice_index_or new_insides n 0) same ∙ index_last insides (length spots) in
             let at : length spots + 0 ≡ length spots = omega arith in
             let holds : children ≡ children_of other.trees = sym (ap (λ (other : Spot). children_of other.trees) one ∙ ap children_of trees_are) in
-            subst (λ k. (0 < k) × ((inner : Spot) × IsSpot news k inner × (inner.trees ≡ children_of other.trees) × (inner.outside ≡ suc n))) (sym index)
-            (omega (arith, within),
-              (spot (suc (length insides)) behind.left children,
+            subst (λ k. (0 < k) × ((inner : Spot) × IsSpot news k inner × (inner.trees ≡ children_of other.trees) × (inner.outside ≡ suc n))) (sym index) (
+              omega (arith, within),
+              (
+                spot (suc (length insides)) behind.left children,
                 subst (λ n. IsSpot news n (spot (suc (length insides)) behind.left children)) at (spot_behind spots level 0 (spot (suc (length insides)) behind.left children) (level_start (suc (length insides)) behind.left children)),
-                holds, ap suc (sym same)))
+                holds,
+                ap suc (sym same),
+              ),
+            )
 
     pub laid_more : AreLaid input news new_insides
     laid_more =

@@ -40,7 +40,7 @@ module _ (program : List Instruction) (input : Forest) (table : Table) (is : IsT
           to_place = rest;
           to_levels = after_trees count trees ∷ outer;
           fits = behind program input table is (take which) rest from.left (passed_to table (reach which.fragment (table.trees from.position)) from.position) (after_trees count trees ∷ outer) same
-                (subst (λ k. AreLevels table (passed_to table k from.position) (after_trees count trees ∷ outer)) (sym counts) (passed_levels input table is count from.position trees outer are)) to at;
+              (subst (λ k. AreLevels table (passed_to table k from.position) (after_trees count trees ∷ outer)) (sym counts) (passed_levels input table is count from.position trees outer are)) to at;
           onward = λ n more goes. (
             ap (takes which.fragment) are.2 ∙ takes_it,
             (more, ap (λ l. l ++ more) noted ∙ ap (λ trees. took_by (length rest) (taken which.fragment trees) ∷ more) (sym are.2), goes),
@@ -61,7 +61,7 @@ module _ (program : List Instruction) (input : Forest) (table : Table) (is : IsT
           to_place = rest;
           to_levels = after_trees (length leaves) trees ∷ outer;
           fits = behind program input table is (pass leaves) rest from.left (passed_to table (length leaves) from.position) (after_trees (length leaves) trees ∷ outer) same
-                (passed_levels input table is (length leaves) from.position trees outer are) to at;
+              (passed_levels input table is (length leaves) from.position trees outer are) to at;
           onward = λ n more goes. (
             subst (IsUnitLike leaves) (sym are.2) like,
             subst (λ l. Goes program Last n rest (after_trees (length leaves) trees ∷ outer) (l ++ more)) (sym noted) goes,
@@ -73,7 +73,7 @@ module _ (program : List Instruction) (input : Forest) (table : Table) (is : IsT
           to_place = rest;
           to_levels = children_of trees ∷ after_tree trees ∷ outer;
           fits = behind program input table is (enter kind) rest from.left (table.inside from.position) (children_of trees ∷ after_tree trees ∷ outer) same
-                (entered_levels input table is kind from.position trees outer node_is are) to at;
+              (entered_levels input table is kind from.position trees outer node_is are) to at;
           onward = λ n more goes. (
             subst (IsNodeOf kind) (sym are.2) node_is,
             subst (λ l. Goes program Last n rest (children_of trees ∷ after_tree trees ∷ outer) (l ++ more)) (sym noted) goes,
@@ -154,7 +154,7 @@ module _ (program : List Instruction) (input : Forest) (table : Table) (is : IsT
             let count : n + suc m ≡ suc n + m = omega arith in
             subst (λ k. Goes program Last k program (input ∷ []) (notes ++ more)) count
             (subst (Goes program Last (n + suc m) program (input ∷ [])) (sym (append_assoc before its more) ∙ ap (λ l. l ++ more) (sym same))
-              (own.onward (suc m) (its ++ more) (lands.onward m more goes)));
+            (own.onward (suc m) (its ++ more) (lands.onward m more goes)));
       }
 
   -- the last cell of a run

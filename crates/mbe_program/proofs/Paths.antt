@@ -46,7 +46,7 @@ module _ (Cell Note : Type 0) where
     notes_tell zero one other notes others more rest (at, none) (also_at, also_none) same = (at ∙ sym also_at, none ∙ sym also_none)
     notes_tell (suc n) one other notes others more rest (from, before, its, comes, hop, is) (source, earlier, those, came, hopped, was) same =
         let same_notes : before ++ (its ++ more) ≡ earlier ++ (those ++ rest) =
-              sym (append_assoc before its more) ∙ ap (λ l. l ++ more) (sym is) ∙ same ∙ ap (λ l. l ++ rest) was ∙ append_assoc earlier those rest in
+        sym (append_assoc before its more) ∙ ap (λ l. l ++ more) (sym is) ∙ same ∙ ap (λ l. l ++ rest) was ∙ append_assoc earlier those rest in
         let here = notes_tell n from source before earlier (its ++ more) (those ++ rest) comes came same_notes in
         let cut : its ++ more ≡ those ++ rest = append_cancel_left before (its ++ more) (those ++ rest) (same_notes ∙ ap (λ l. l ++ (those ++ rest)) (sym here.1)) in
         let last = tells from one other its those more rest hop (subst (λ cell. Hop cell other those) (sym here.0) hopped) cut in

@@ -24,8 +24,8 @@ either_number (suc a) (suc b) = elim (either_number a b) [ inl same ↦ inl (ap 
 pub decide : (a b : Cell) → (a ≡ b) ⊎ (a ≡ b → ⊥)
 decide a b =
     elim (either_number a.position b.position) [
-      inl position ↦ elim (either_number a.left b.left) [
-        inl left ↦ inl (same_cell a b b.position b.left (position, left) (refl, refl))
+      | inl position ↦ elim (either_number a.left b.left) [
+        | inl left ↦ inl (same_cell a b b.position b.left (position, left) (refl, refl))
         | inr differ ↦ inr (λ same. differ (ap (λ (it : Cell). it.left) same))
       ]
       | inr differ ↦ inr (λ same. differ (ap (λ (it : Cell). it.position) same))

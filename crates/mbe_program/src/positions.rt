@@ -99,7 +99,12 @@ impl<'i> Positions<'i> {
     }
 
     // Adds one position before these trees.
-    fn add(&mut self, trees: TokenTreesView<'i>, outside: usize, behind: usize) -> Result<(), AllocError>
+    fn add(
+        &mut self,
+        trees: TokenTreesView<'i>,
+        outside: usize,
+        behind: usize,
+    ) -> Result<(), AllocError>
         requires { size (trees_of trees) + behind < 2 ^ 64 }
         ensures spots { OnOk result (spots_of self.new ≡ spots_of self.old ++ spot outside behind (trees_of trees.entry) ∷ []) }
         ensures insides { self.new.insides ≡ self.old.insides }
@@ -114,7 +119,12 @@ impl<'i> Positions<'i> {
     }
 
     // Adds the positions of a level.
-    fn add_level(&mut self, trees: TtIter<'i>, outside: usize, behind: usize) -> Result<(), AllocError>
+    fn add_level(
+        &mut self,
+        trees: TtIter<'i>,
+        outside: usize,
+        behind: usize,
+    ) -> Result<(), AllocError>
         requires { size (rest_of trees) + behind < 2 ^ 64 }
         ensures spots { OnOk result (spots_of self.new ≡ spots_of self.old ++ level_spots outside behind (rest_of trees.entry)) }
         ensures insides { self.new.insides ≡ self.old.insides }

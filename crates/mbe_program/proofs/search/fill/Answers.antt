@@ -11,8 +11,7 @@ loop-preserved c =
     let pushed : c.push.new.self.items ≡ row ++ way.Unseen ∷ [] = search rules in
     let short : c.loop.counter < c.args.width = search rules in
     let count = c.loop.invariant.0 in
-    let more = length-append row (way.Unseen ∷ []) in
-    (
+    let more = length-append row (way.Unseen ∷ []) in (
       omega (arith, ap length pushed, more, count),
       ap (filled c.args.width) pushed ∙ filled_more c.args.width row (omega (arith, short, count)) ∙ c.loop.invariant.1,
     )

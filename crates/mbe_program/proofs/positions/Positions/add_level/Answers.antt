@@ -12,12 +12,11 @@ loop-rest-init c =
     let trees = rest_of c.args.trees in
     let outside = c.args.outside in
     let behind = c.args.behind in
-    let added = c.in_ok-add.ensures.spots in
-    let same : c.add.new.self.insides ≡ c.args.self.now.insides = c.add.ensures.insides in
-    (
+    let added = c.in_ok-add.ensures.spots ∙ ap (λ trees. spots_of c.args.self.now ++ spot outside behind trees ∷ []) c.remaining.ensures in
+    let same : c.add.new.self.insides ≡ c.args.self.now.insides = c.add.ensures.insides in (
       ap (λ l. l ++ more_spots outside behind trees) added
-      ∙ append_assoc (spots_of c.args.self.now) (spot outside behind trees ∷ []) (more_spots outside behind trees)
-      ∙ ap (λ l. spots_of c.args.self.now ++ l) (sym (level_first outside behind trees)),
+          ∙ append_assoc (spots_of c.args.self.now) (spot outside behind trees ∷ []) (more_spots outside behind trees)
+          ∙ ap (λ l. spots_of c.args.self.now ++ l) (sym (level_first outside behind trees)),
       same,
       c.requires,
     )
@@ -33,12 +32,12 @@ loop-rest-preserved c =
     let less = next_less old goes in
     let sizes : size trees ≡ size (after_tree old) = ap size next in
     let bound = c.loop-rest.invariant.2 in
-    let same : c.add-in-loop-rest.new.self.insides ≡ c.loop-rest.self.insides = c.add-in-loop-rest.ensures.insides in
-    (
-      ap (λ l. l ++ more_spots outside behind trees) c.in_ok-add-2.ensures.spots
-      ∙ append_assoc (spots_of c.loop-rest.self) (spot outside behind trees ∷ []) (more_spots outside behind trees)
-      ∙ ap (λ l. spots_of c.loop-rest.self ++ l) (sym (level_first outside behind trees) ∙ ap (level_spots outside behind) next ∙ sym (more_next outside behind old goes))
-      ∙ c.loop-rest.invariant.0,
+    let same : c.add-in-loop-rest.new.self.insides ≡ c.loop-rest.self.insides = c.add-in-loop-rest.ensures.insides in (
+      ap (λ l. l ++ more_spots outside behind trees)
+          (c.in_ok-add-2.ensures.spots ∙ ap (λ trees. spots_of c.loop-rest.self ++ spot outside behind trees ∷ []) c.remaining-in-loop-rest.ensures)
+          ∙ append_assoc (spots_of c.loop-rest.self) (spot outside behind trees ∷ []) (more_spots outside behind trees)
+          ∙ ap (λ l. spots_of c.loop-rest.self ++ l) (sym (level_first outside behind trees) ∙ ap (level_spots outside behind) next ∙ sym (more_next outside behind old goes))
+          ∙ c.loop-rest.invariant.0,
       same ∙ c.loop-rest.invariant.1,
       omega (arith, less, sizes, bound),
     )
@@ -50,7 +49,11 @@ loop-rest-smaller c =
     subst (λ trees. size trees < size old) (sym c.pass.ensures.rest) (next_less old goes)
 
 pub add-requires-in-loop-rest : goal.add-requires-in-loop-rest
-add-requires-in-loop-rest c = ?
+add-requires-in-loop-rest c =
+    let sizes = ap size c.remaining-in-loop-rest.ensures in
+    let less = c.pass.ensures.less in
+    let bound = c.loop-rest.invariant.2 in
+    omega (arith, sizes, less, bound)
 
 pub returns-clause-spots : goal.returns-clause-spots
 returns-clause-spots c =
