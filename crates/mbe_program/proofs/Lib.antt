@@ -20,3 +20,4 @@ pub mod Results
 mod Rows
 pub mod SameNotes
 pub mod Telling
+pub mod Moved

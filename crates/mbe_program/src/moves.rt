@@ -1,11 +1,12 @@
 //! The steps from a cell of a search.
-ghost use Rattle.std.specs.Prelude.{◌≡◌, ◌↔◌, true, false, List, length, IfOk, IsTrue, MatchOption};
+ghost use Rattle.std.specs.Prelude.{◌≡◌, ◌↔◌, ◌∷◌, true, false, List, length, IfOk, IsTrue, MatchOption};
 ghost use Rattle.mbe_matcher.specs.Fragments.{takes, reach};
 ghost use Rattle.mbe_pattern.specs.Patterns.{may_be_none, may_be_more};
 ghost use Rattle.mbe_pattern.specs.Units.{IsNodeOf, IsUnitLike};
 ghost use Rattle.mbe_program.specs.Moving.{AreMoves, AreMovesAt, instructions_of, instruction_of};
 ghost use Rattle.mbe_program.specs.Positions.{table_of};
 ghost use Rattle.mbe_program.specs.Program.{Instruction as Step, take as take_step, pass as pass_step, enter as enter_step, leave as leave_step, begin as begin_step, close as close_step};
+ghost use Rattle.mbe_program.specs.declared.moves.Moves.TheVariants as only;
 ghost use Rattle.tt.specs.Types.DelimiterKind.{DelimiterKind as Kind};
 ghost use Rattle.tt.specs.Views.{trees_of};
 
@@ -92,9 +93,58 @@ fn kind_of(trees: TokenTreesView<'_>) -> Option<DelimiterKind>
 }
 
 // Returns the step to that cell, as the only one.
-fn one<'i>(position: usize, left: usize, mark: Option<Mark<'i>>) -> Moves<'i> {
+fn one<'i>(position: usize, left: usize, mark: Option<Mark<'i>>) -> Moves<'i>
+    ensures { result ≡ only.One (record { to = record { position = position; left = left }; mark = mark.entry }) }
+{
     Moves::One(Move {
         to: Cell { position, left },
         mark,
     })
+}
+
+// Returns the step of a variable.
+fn take_from<'i>(
+    alloc: Global,
+    variable: &Variable,
+    positions: &Positions<'i>,
+    number: usize,
+    behind: usize,
+) -> Result<Moves<'i>, AllocError>
+    ensures { IfOk result (λ moves. (program rest : List Step) → length rest ≡ behind → AreMovesAt program (table_of positions.now) (take_step variable.now ∷ rest) number moves) }
+{
+    if number == 0 {
+        return Ok(Moves::Nowhere);
+    }
+    let trees = positions.trees(number);
+    let Some(count) = taken_by(alloc, variable.fragment, trees)? else {
+        return Ok(Moves::Nowhere);
+    };
+    let view = take(&mut trees.iter(), count);
+    let to = positions.passed_to(count, number);
+    Ok(one(to, behind, Some(Mark::Took(behind, view))))
+}
+
+// Returns the step of a token.
+fn pass_from<'i>(
+    leaves: &[Leaf],
+    positions: &Positions<'i>,
+    number: usize,
+    behind: usize,
+) -> Moves<'i>
+    ensures { (program rest : List Step) → length rest ≡ behind → AreMovesAt program (table_of positions.now) (pass_step leaves.now ∷ rest) number result }
+{
+    if !is_unit_like(leaves, positions.trees(number)) {
+        return Moves::Nowhere;
+    }
+    one(positions.passed_to(leaves.len(), number), behind, None)
+}
+
+// Returns the step out of a subtree.
+fn leave_from<'i>(positions: &Positions<'i>, number: usize, behind: usize) -> Moves<'i>
+    ensures { (program rest : List Step) → length rest ≡ behind → AreMovesAt program (table_of positions.now) (leave_step ∷ rest) number result }
+{
+    if number == 0 || !positions.trees(number).is_empty() {
+        return Moves::Nowhere;
+    }
+    one(positions.outside(number), behind, None)
 }
