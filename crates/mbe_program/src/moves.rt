@@ -6,6 +6,7 @@ ghost use Rattle.mbe_pattern.specs.Units.{IsNodeOf, IsUnitLike};
 ghost use Rattle.mbe_program.specs.Moving.{AreMoves, AreMovesAt, instructions_of, instruction_of};
 ghost use Rattle.mbe_program.specs.Positions.{table_of};
 ghost use Rattle.mbe_program.specs.Program.{Instruction as Step, take as take_step, pass as pass_step, enter as enter_step, leave as leave_step, begin as begin_step, close as close_step};
+ghost use Rattle.mbe_program.specs.Tables.{Table};
 ghost use Rattle.mbe_program.specs.declared.moves.Moves.TheVariants as only;
 ghost use Rattle.tt.specs.Types.DelimiterKind.{DelimiterKind as Kind};
 ghost use Rattle.tt.specs.Views.{trees_of};
@@ -147,4 +148,82 @@ fn leave_from<'i>(positions: &Positions<'i>, number: usize, behind: usize) -> Mo
         return Moves::Nowhere;
     }
     one(positions.outside(number), behind, None)
+}
+
+// Returns the step into a subtree of that kind.
+fn enter_from<'i>(
+    kind: DelimiterKind,
+    positions: &Positions<'i>,
+    number: usize,
+    behind: usize,
+) -> Moves<'i>
+    ensures { (program rest : List Step) → length rest ≡ behind → AreMovesAt program (table_of positions.now) (enter_step kind ∷ rest) number result }
+{
+    let Some(own) = kind_of(positions.trees(number)) else {
+        return Moves::Nowhere;
+    };
+    if own != kind {
+        return Moves::Nowhere;
+    }
+    one(positions.inside(number), behind, None)
+}
+
+// Returns the steps at the beginning of a repetition, in a program of that many instructions.
+fn begin_from<'i>(
+    kind: RepeatKind,
+    first: usize,
+    after: usize,
+    all: usize,
+    number: usize,
+) -> Moves<'i>
+    ensures { (program rest : List Step) → (table : Table) → length program ≡ all → AreMovesAt program table (begin_step kind first after ∷ rest) number result }
+{
+    let into = Move {
+        to: Cell {
+            position: number,
+            left: first.min(all),
+        },
+        mark: Some(Mark::Round(after)),
+    };
+    if !may_be_none(kind) {
+        return Moves::One(into);
+    }
+    let around = Move {
+        to: Cell {
+            position: number,
+            left: after.min(all),
+        },
+        mark: Some(Mark::Over(after)),
+    };
+    Moves::Two(into, around)
+}
+
+// Returns the steps at the end of a round, in a program of that many instructions.
+fn close_from<'i>(
+    kind: RepeatKind,
+    again: usize,
+    all: usize,
+    number: usize,
+    behind: usize,
+) -> Moves<'i>
+    ensures { (program rest : List Step) → (table : Table) → length program ≡ all → length rest ≡ behind → AreMovesAt program table (close_step kind again ∷ rest) number result }
+{
+    let out = Move {
+        to: Cell {
+            position: number,
+            left: behind,
+        },
+        mark: Some(Mark::Over(behind)),
+    };
+    if !may_be_more(kind) {
+        return Moves::One(out);
+    }
+    let back = Move {
+        to: Cell {
+            position: number,
+            left: again.min(all),
+        },
+        mark: Some(Mark::Round(behind)),
+    };
+    Moves::Two(back, out)
 }
