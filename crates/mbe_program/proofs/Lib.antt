@@ -1,23 +1,6 @@
-pub mod Adding
-pub mod Answering
-pub mod Arrived
-pub mod Arriving
 pub mod Backward
-pub mod Beginning
-pub mod Empty
-pub mod Expanding
-pub mod Filling
 pub mod Forward
-pub mod Hops
-pub mod Laid
-pub mod Landing
 pub mod Law
-pub mod Levels
-pub mod Paths
 pub mod Placed
-pub mod Putting
-pub mod Results
 mod Rows
 pub mod SameNotes
-pub mod Telling
-pub mod Moved

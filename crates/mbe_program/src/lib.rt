@@ -6,17 +6,6 @@
 //! has no further round.
 //!
 //! `laws` state that the runs of a pattern's program are the readings of the pattern, one by one.
-//!
-//! A search goes through all runs at once, from cell to cell. A cell is a place of the program before a position of the input. It goes on
-//! once, and once more if another way leads there too, so a search has at most twice as many steps as there are cells.
 #![tactic(auto)]
 
-mod cell;
-mod fragment;
-mod instruction;
 pub mod laws;
-mod moves;
-mod positions;
-mod search;
-
-pub use instruction::Instruction;
