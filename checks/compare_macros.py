@@ -2,7 +2,7 @@
 """Macros made by chance, expanded by rustc too: compare_macros.py PROGRAM [--first SEED] [--macros N] [--rustc RUSTC]
 
 PROGRAM is `bench_texts`. Each macro is given to rustc with `stringify!` round the templates of its arms, and what that prints is
-compared with what `show` does, spaces put aside. It prints how many agree by what came of them, how many rustc refuses as a local
+compared with what `show` does, spaces put aside. It prints how many agree by their results, how many rustc refuses as a local
 ambiguity while the program goes on, and each macro for which the answers differ, or the tokens at which a fault shows. Fragments that
 rustc parses (`block`) and those after which it allows only some tokens (`vis`) are left out. No part of the gate: it needs rustc.
 """

@@ -297,7 +297,7 @@ def try_doublings(files):
     inner, outer = line.index("d!("), line.rindex("d!(")
     files.tells(
         f"error: too many tokens are written while expanding `d`\n{place(inner)}"
-        "  = note: the limit is 4000000 tokens for a call with all that comes of it; --max-tokens N sets another one\n"
+        "  = note: the limit is 4000000 tokens for a call and the calls in its result; --max-tokens N sets another one\n"
         "  = note: 12 calls between the last two are not shown\n"
         f"note: `d` is defined here\n{place(line.index('d {'))}{call(inner) * 7}{call(outer)}\nerror: found 1 error\n",
         "expand", given=line.encode(),
@@ -312,7 +312,7 @@ def try_product(files):
                           preexec_fn=lambda: resource.setrlimit(resource.RLIMIT_AS, (1 << 30, 1 << 30)))
     told = (
         f"error: too many tokens are written while expanding `m`\n --> <stdin>:4:1\n  |\n4 | m!({'x ' * 78}x..\n  | ^\n"
-        "  = note: the limit is 4000000 tokens for a call with all that comes of it; --max-tokens N sets another one\n"
+        "  = note: the limit is 4000000 tokens for a call and the calls in its result; --max-tokens N sets another one\n"
         "note: `m` is defined here\n --> <stdin>:1:14\n  |\n1 | macro_rules! m {\n  |              ^\n\nerror: found 1 error\n"
     )
     wants("the run", (done.returncode, done.stdout, done.stderr), (1, b"", told.encode()))

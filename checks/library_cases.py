@@ -39,7 +39,7 @@ MESSAGES = {
 }
 LIMITS = {
     104: "= note: the limit is {limit}; --limit N sets another one, up to 1000",
-    108: "= note: the limit is {max_tokens} tokens for a call with all that comes of it; --max-tokens N sets another one",
+    108: "= note: the limit is {max_tokens} tokens for a call and the calls in its result; --max-tokens N sets another one",
 }
 CAPTURED = 96
 

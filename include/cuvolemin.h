@@ -71,7 +71,7 @@ struct cuvolemin_token {
 
 /* A Rust text with the calls of its own macros expanded. All else stays byte for byte, but for lines in which nothing is left. What a call
  * becomes is laid out like the template and the input that it comes from, with the indentation of the call. Up to 128 expansions may be
- * nested, and a call with all that comes of it may write 4,000,000 tokens; 64 KiB of stack were enough when measured. $crate becomes crate. A call
+ * nested, and a call and the calls in its result may write 4,000,000 tokens; 64 KiB of stack were enough when measured. $crate becomes crate. A call
  * under #[cfg(..)] stays only if the condition cannot apply to each part of its expansion. A call of a macro whose last definition is under
  * #[cfg(..)] stays if another definition of the name is in scope.
  * Faults: 1 to 44; 81 to 92 but for 84, of definitions; 100 to 108, of calls; and 5 to 9 of either. *at is a byte of the text; 0 for faults
@@ -85,7 +85,7 @@ uint32_t tt_expand_text(const uint8_t *text, size_t text_len, uint8_t *out, size
  *   everywhere  not 0: calls in the brackets of calls that stay are expanded too
  *   one_line    not 0: what a call becomes is one line, with spaces between most tokens
  *   limit       how many expansions may be nested (128 are usual)
- *   max_tokens  how many tokens a call with all that comes of it may write (4,000,000 are usual)
+ *   max_tokens  how many tokens a call and the calls in its result may write (4,000,000 are usual)
  * out gets the text and then the names and other texts that the words speak of, each of them with a 0 behind it. findings has room for findings_len words
  * and gets: the number of bytes of the text; the number of findings; the words of each finding, in order; and those of each caller, up to
  * the end. *found is the number of words. If one of the outputs is too short, nothing is written into either.
@@ -282,7 +282,7 @@ enum cuvolemin_answer {
     CUVOLEMIN_MADE_TOO_LONG = 106,
     /* The expansion of a call that is no statement is statements. */
     CUVOLEMIN_STATEMENTS = 107,
-    /* Too many tokens would be written for a call with all that comes of it. */
+    /* A call and the calls in its result would write too many tokens. */
     CUVOLEMIN_OVER_MAX_TOKENS = 108,
 };
 

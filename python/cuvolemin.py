@@ -83,7 +83,7 @@ FAULTS = {
     105: ('NotWritable', 'A leaf of the tree cannot be written as a text that reads back.'),
     106: ('MadeTooLong', 'The text would have 4,294,967,295 bytes or more.'),
     107: ('Statements', 'The expansion of a call that is no statement is statements.'),
-    108: ('OverMaxTokens', 'Too many tokens would be written for a call with all that comes of it.'),
+    108: ('OverMaxTokens', 'A call and the calls in its result would write too many tokens.'),
 }
 
 NO_ROOM = 2
@@ -327,7 +327,7 @@ def expand_with(text, *, root="crate", only=None, cfg=(), everywhere=False, one_
     root is the word that $crate becomes. only is the name, without r#, of the only macros that are read and expanded. cfg lists what is true in
     #[cfg(..)], each NAME or NAME="VALUE" as rustc's --cfg takes it, without escapes; all else is open. With everywhere, calls in the brackets of
     calls that stay are expanded too. What a call becomes is laid out like the template and the input that it comes from; with one_line it is one
-    line, with spaces between most tokens. At most limit expansions may be nested, and a call with all that comes of it may write at most
+    line, with spaces between most tokens. At most limit expansions may be nested, and a call and the calls in its result may write at most
     max_tokens tokens."""
     data, root, only, cfg = _bytes_of(text), _bytes_of(root), _bytes_of(only or ""), _ended(cfg)
     for size in (limit, max_tokens):

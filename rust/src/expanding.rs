@@ -18,7 +18,7 @@ pub struct ExpandOptions<'a> {
     pub one_line: bool,
     /// How many expansions may be nested. The stack that a call needs does not grow with it: 64 KiB were enough for 1,000.
     pub limit: usize,
-    /// How many tokens a call with all that comes of it may write.
+    /// How many tokens a call and the calls in its result may write.
     pub max_tokens: usize,
 }
 

@@ -108,5 +108,5 @@ faults! {
     NotWritable = 105, "A leaf of the tree cannot be written as a text that reads back.";
     MadeTooLong = 106, "The text would have 4,294,967,295 bytes or more.";
     Statements = 107, "The expansion of a call that is no statement is statements.";
-    OverMaxTokens = 108, "Too many tokens would be written for a call with all that comes of it.";
+    OverMaxTokens = 108, "A call and the calls in its result would write too many tokens.";
 }

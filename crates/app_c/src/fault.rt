@@ -150,7 +150,7 @@ pub enum Fault {
     MadeTooLong = 106,
     /// The expansion of a call that is no statement is statements.
     Statements = 107,
-    /// Too many tokens would be written for a call with all that comes of it.
+    /// A call and the calls in its result would write too many tokens.
     OverMaxTokens = 108,
 }
 

@@ -32,7 +32,7 @@ expected_note (Some text) = (codes "expected " ++ text) ∷ []
 abbrev pub limit_note : ExpandOptions → MacroFault → List (List ℕ)
 limit_note options wrong.TooDeep = (codes "the limit is " ++ decimal options.limit ++ codes "; --limit N sets another one, up to 1000") ∷ []
 limit_note options wrong.OverMaxTokens =
-    (codes "the limit is " ++ decimal options.max_tokens ++ codes " tokens for a call with all that comes of it; --max-tokens N sets another one") ∷ []
+    (codes "the limit is " ++ decimal options.max_tokens ++ codes " tokens for a call and the calls in its result; --max-tokens N sets another one") ∷ []
 limit_note options fault = []
 
 -- the notes on a finding

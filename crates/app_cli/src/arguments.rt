@@ -111,7 +111,7 @@ fn expands<'a>(
         .value_name("N")
         .value_parser(ValueParser::unsigned(1, MOST_TOKENS))
         .help(
-            "How many tokens may be written for a call with all that comes of it; by default 4000000",
+            "How many tokens may be written for a call and the calls in its result; by default 4000000",
         );
     reads(alloc, name, about, file)?
         .arg(everywhere)?

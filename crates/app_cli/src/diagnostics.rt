@@ -51,7 +51,7 @@ fn limit_notes(
         }
         MacroFault::OverMaxTokens => {
             let note = format!(in alloc;
-                "the limit is {most} tokens for a call with all that comes of it; --max-tokens N sets another one"
+                "the limit is {most} tokens for a call and the calls in its result; --max-tokens N sets another one"
             )?;
             notes.push(note)?;
         }

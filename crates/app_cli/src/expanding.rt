@@ -5,11 +5,11 @@ use crate::dropping::{Drops, without_definitions};
 use crate::options::Options;
 use crate::report::{Report, report_on, summary};
 use app_files::{
-    Failure, Input, Mentions, error_text_at, grammar_failure, is_file, shebang_of, style_of,
-    syntax_failure, tree_of, without_shebang,
+    Failure, Input, Mentions, error_text_at, grammar_failure, shebang_of, style_of, syntax_failure,
+    tree_of, without_shebang,
 };
 use expand_text::{ExpandOptions, ExpandTextError, expand_leniently};
-use mbe_grammar::{ParsedFile, parse_file};
+use mbe_grammar::{ParsedFile, is_file, parse_file};
 use std::io::{self, Write};
 use std::process::ExitCode;
 use syntax_lex::MOST_TEXT_BYTES;

@@ -1,32 +1,15 @@
-//! Whether a text is a file by Rust's grammar, and the diagnostic of one that is none.
+//! The diagnostic of a text that is no file by Rust's grammar.
 use crate::failure::Failure;
 use crate::style::style_of;
 use crate::syntax_error::error_text_at;
 use crate::words::word_text;
-use mbe_grammar::{Derivation, ITEMS, NextEvent, SyntaxError, Test, Unit, rust_table, test_of};
+use mbe_grammar::{SyntaxError, Test, Unit, test_of};
 use std::alloc::{AllocError, Global};
 use syntax_diagnostic::Style;
-use tt::{DelimiterKind, Span, TokenTreesView, TtElement, TtIter};
+use tt::{DelimiterKind, Span, TtElement, TtIter};
 
 // The longest text of a token that a message quotes.
 const MOST_QUOTED: usize = 40;
-
-// A derivation has at most so many events for each token.
-const MOST_EVENTS: usize = 4096;
-
-/// Returns whether trees are a file by Rust's grammar. It keeps no events, so it needs memory only for the open levels.
-pub fn is_file(alloc: Global, trees: TokenTreesView<'_>) -> Result<bool, AllocError> {
-    let mut derivation = Derivation::new(alloc, rust_table(), ITEMS, trees);
-    let tokens = trees.len().saturating_add(1);
-    for _ in 0..tokens.saturating_mul(MOST_EVENTS) {
-        match derivation.next_event()? {
-            NextEvent::Event(_) => {}
-            NextEvent::End => return Ok(true),
-            NextEvent::Refused(_) => return Ok(false),
-        }
-    }
-    Ok(false)
-}
 
 // The first token that no rule takes: where it begins, and how a message names it.
 #[derive(Drop)]

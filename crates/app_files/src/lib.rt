@@ -2,8 +2,8 @@
 //! lines, and reports their errors of syntax.
 //!
 //! A `Failure` is why a command ends. `Input` is the file that a command reads, or standard input; `write_whole` replaces a file as a whole.
-//! `tree_of` reads a text into its tree. `write_tokens`, `write_tree` and `write_syntax` write lines; `is_file` says whether a text is a file; `syntax_failure`
-//! and `grammar_failure` word errors. `recursion_limit_of`, `shebang_of` and `Mentions` say what else is in a text that is expanded.
+//! `tree_of` reads a text into its tree. `write_tokens`, `write_tree` and `write_syntax` write lines; `syntax_failure` and `grammar_failure`
+//! word errors. `recursion_limit_of`, `shebang_of` and `Mentions` say what else is in a text that is expanded.
 #![tactic(auto)]
 
 mod failure;
@@ -23,7 +23,7 @@ mod whole_file;
 mod words;
 
 pub use failure::Failure;
-pub use grammar_error::{grammar_failure, is_file};
+pub use grammar_error::grammar_failure;
 pub use input::Input;
 pub use mentions::Mentions;
 pub use plain::plain_text;

@@ -11,7 +11,7 @@ use tt::TtFault;
 #[derive(Debug, Drop, Error)]
 pub enum BenchError {
     /// The arguments name no job.
-    #[error("usage: bench_texts tokens time ROUNDS | tokens show | trees time|write|display ROUNDS | trees show | \
+    #[error("usage: bench_texts tokens time ROUNDS | tokens show | trees time|write|display|parse ROUNDS | trees show | \
          macros new|expand ROUNDS | macros show | fragments read|reach FRAGMENT ROUNDS | fragments show FRAGMENT")]
     Usage,
     /// The text has more bytes than a `u32` counts.

@@ -2,7 +2,8 @@
 //!
 //! `bench_texts SUBJECT MODE < TEXT`, and the subjects with their modes are:
 //! - `tokens time ROUNDS|show`: the tokens of a text
-//! - `trees time|write|display ROUNDS` and `trees show`: its tree, which is read, written as Rust text or written as Display does
+//! - `trees time|write|display|parse ROUNDS` and `trees show`: its tree, which is read, written as Rust text or as Display does, or parsed as
+//!   a file
 //! - `macros new|expand ROUNDS` and `macros show`: the arms of a macro and an input, with the character U+0001 between them
 //! - `fragments read|reach FRAGMENT ROUNDS` and `fragments show FRAGMENT`: fragments of Rust's grammar, one after the other
 //!

@@ -1,7 +1,8 @@
-//! The tree of a text: the time of reading or writing it, or its Debug text.
+//! The tree of a text: the time of reading, writing or parsing it, or its Debug text.
 use crate::error::BenchError;
 use crate::reading::{BETWEEN_TEXTS, read, tree_of};
 use crate::rounds::nanos_of_round;
+use mbe_grammar::parse_file;
 use std::alloc::Global;
 use std::io::{BufWriter, Write};
 use std::time::CpuClock;
@@ -17,6 +18,8 @@ pub enum Timing {
     Write,
     /// Writes its tree as Display does.
     Display,
+    /// Reads its tree as a file.
+    Parse,
 }
 
 impl Timing {
@@ -26,6 +29,7 @@ impl Timing {
             "time" => Some(Timing::Read),
             "write" => Some(Timing::Write),
             "display" => Some(Timing::Display),
+            "parse" => Some(Timing::Parse),
             _ => None,
         }
     }
@@ -72,6 +76,10 @@ fn round(alloc: Global, text: &str, tree: &TopSubtree, timing: Timing) -> Result
         },
         Timing::Display => {
             display_text(alloc, tree.token_trees())?;
+            Ok(())
+        }
+        Timing::Parse => {
+            parse_file(alloc, tree.token_trees())?;
             Ok(())
         }
     }

@@ -48,7 +48,7 @@ found_in_text = refl
 goes_on_in_text : (with_finding (finding wrong.TooDeep None) text).is_over ≡ false
 goes_on_in_text = refl
 
--- A finding inside has the innermost call. Only some faults end what comes of the call of the text.
+-- A finding inside has the innermost call. Only some faults end the expansion of the call of the text.
 found_inside : (with_finding (finding wrong.NoMatch None) second).findings ≡ finding wrong.NoMatch (Some 1) ∷ []
 found_inside = refl
 

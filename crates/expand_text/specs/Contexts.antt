@@ -24,7 +24,7 @@ abbrev pub asks_for : (only : Option (List ℕ)) → (name : List ℕ) → Bool
 asks_for None name = true
 asks_for (Some it) name = bytes_eq it name
 
--- the macros in scope, those that the crate exports, the findings so far in order, whether no other call is expanded in what comes of the call
+-- the macros in scope, those that the crate exports, the findings so far in order, whether no other call is expanded in the result of the call
 -- of the text, the calls that wrote what has findings or is expanded now, the number of the one that wrote what is expanded now (none in the
 -- text itself), and how many tokens more may be written for the call of the text
 pub record Context : Type 0 where
@@ -44,7 +44,7 @@ new_context exported = record { macros = []; exported = exported; findings = [];
 abbrev pub with_macro : Macro → Context → Context
 with_macro it context = record context { macros = context.macros ++ it ∷ [] }
 
--- one finding more, in what the caller wrote: some faults end what comes of the call of the text
+-- one finding more, in what the caller wrote: some faults end the expansion of the call of the text
 abbrev pub with_finding : Finding → Context → Context
 with_finding it context =
     record context {

@@ -13,7 +13,7 @@ is_warning (wrong.Captured binding) = true
 is_warning wrong.Conditional = true
 is_warning fault = false
 
--- no other call is expanded in what comes of the call of the text
+-- no other call is expanded in the result of the call of the text
 abbrev pub ends_call : MacroFault → Bool
 ends_call wrong.TooDeep = true
 ends_call wrong.OverMaxTokens = true

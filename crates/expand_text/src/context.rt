@@ -19,7 +19,7 @@ pub(crate) struct Context {
     pub(crate) exported: Scope,
     /// The findings, in order.
     pub(crate) findings: Vec<Finding>,
-    /// Whether no other call is expanded in what comes of the call of the text.
+    /// Whether no other call is expanded in the result of the call of the text.
     pub(crate) is_over: bool,
     /// The calls that wrote what has findings, and those that wrote what is expanded now.
     pub(crate) callers: Vec<Caller>,

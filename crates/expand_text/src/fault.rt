@@ -125,7 +125,7 @@ impl MacroFault {
         )
     }
 
-    // Returns whether no other call is expanded in what comes of the call of the text.
+    // Returns whether no other call is expanded in the result of the call of the text.
     pub(crate) fn ends_call(&self) -> bool
         ensures { result ≡ ends_call self.now }
     {

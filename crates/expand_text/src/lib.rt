@@ -8,7 +8,7 @@
 //! `syntax_layout`, whose `Sources` hold the text. `prepared` replaces `$crate` once per definition.
 //!
 //! A definition or call with a fault stays in the text and yields a finding, with the calls that wrote it (`Caller`). A call one expansion
-//! too deep, or one for which too many tokens would be written, ends what comes of its call of the text: a macro that calls itself twice
+//! too deep, or one for which too many tokens would be written, ends the expansion of its call of the text: a macro that calls itself twice
 //! would not end in any reasonable time. The walk goes on behind that call.
 //!
 //! The proofs go level by level (`Ends`, `Leads`), and `Weaving` places the expansions among the pieces of the text, so that the laws of

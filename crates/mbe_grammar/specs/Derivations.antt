@@ -1,5 +1,5 @@
 -- What took each token of some trees, and where trees are refused.
-use Rattle.std.specs.Prelude.{◌≡◌, ◌⊎◌, ◌++◌, ℕ, zero, suc, true, List, [], ◌∷◌, Option, None, Some}
+use Rattle.std.specs.Prelude.{◌≡◌, ◌⊎◌, ◌++◌, ℕ, zero, suc, Bool, true, false, List, [], ◌∷◌, Option, None, Some}
 use Rattle.tt.specs.Forest.{Forest, end}
 use Rattle.tt.specs.Types.Span.{Span}
 use Rattle.tt.specs.Views.{trees_of}
@@ -79,6 +79,11 @@ place it = record { trees = trees_of it.trees; close = it.close; name = it.name 
 abbrev pub IsDerived : List Rule → (name : ℕ) → Forest → Derived → Type 0
 IsDerived rules name trees (derived.Whole events) = Derives rules name trees events.items
 IsDerived rules name trees (derived.Refused level) = Refuses rules (whole name trees) (place level)
+
+-- whether the trees are the expression of that name: they have events, or are refused somewhere
+abbrev pub IsJudged : List Rule → (name : ℕ) → Forest → Bool → Type 0
+IsJudged rules name trees true = (events : List Event) × Derives rules name trees events
+IsJudged rules name trees false = (at : Place) × Refuses rules (whole name trees) at
 
 -- the expression takes that many of the trees from the first on, and in each subtree that it takes by a name the trees are the expression
 -- of that name; none if it fails, or if the trees of such a subtree are refused

@@ -1,4 +1,4 @@
--- A derivation that is under way: what is left to read, and what comes of it.
+-- A derivation that is under way: what is left to read, and its outcome.
 use Rattle.std.specs.Prelude.{◌≡◌, ◌⊎◌, ◌+◌, ◌*◌, ◌^◌, ◌++◌, ◌<◌, ◌≤◌, ℕ, suc, Bool, true, false, List, [], ◌∷◌, length, reverse, Option, None, Some}
 use Rattle.tt.specs.Forest.{size}
 use Rattle.tt.specs.Types.Span.{Span}

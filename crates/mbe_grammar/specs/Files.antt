@@ -1,5 +1,5 @@
 -- Whole files, by Rust's grammar.
-use Rattle.std.specs.Prelude.{Option, None, Some}
+use Rattle.std.specs.Prelude.{Bool, Option, None, Some}
 use Rattle.tt.specs.Forest.{Forest}
 use Rattle.tt.specs.Views.{trees_of}
 use Rattle.mbe_grammar.specs.declared.file.ParsedFile.{ParsedFile}
@@ -7,7 +7,7 @@ use Rattle.mbe_grammar.specs.declared.file.ParsedFile.TheVariants as parsed
 use Rattle.mbe_grammar.specs.declared.rule.Rule.{Rule}
 use Rattle.mbe_grammar.specs.declared.rule.Rule.TheVariants as rule
 use Rattle.mbe_grammar.specs.declared.test.Test.{Test}
-use Rattle.mbe_grammar.specs.Derivations.{Derives, Refuses, place, whole}
+use Rattle.mbe_grammar.specs.Derivations.{Derives, Refuses, IsJudged, place, whole}
 use Rattle.mbe_grammar.specs.Names.{items, start}
 use Rattle.mbe_grammar.specs.Positions.{first_position}
 use Rattle.mbe_grammar.specs.Table.{rust_rules}
@@ -20,6 +20,10 @@ IsParsed trees (parsed.Whole events) = Derives rust_rules (start items) trees ev
 IsParsed trees (parsed.Refused error) =
     Refuses rust_rules (whole (start items) trees) (place error.level)
     × IsFarthest rust_rules error.level.name (first_position (trees_of error.level.trees)) error.wanted.passed error.wanted.units.items
+
+-- whether the trees are a file
+abbrev pub IsFileAnswer : Forest → Bool → Type 0
+IsFileAnswer trees answer = IsJudged rust_rules (start items) trees answer
 
 -- the test of a unit rule
 abbrev pub test_in : Option Rule → Option Test

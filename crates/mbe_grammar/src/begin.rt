@@ -7,6 +7,7 @@ ghost use Rattle.mbe_grammar.specs.Running.{state_at, begun_at, Extends};
 
 use crate::entry::Entry;
 use crate::known::Glance;
+use crate::list::put;
 use crate::machine::{Begun, State, Waiting};
 use crate::rule::Rule;
 use crate::table::Table;
@@ -73,7 +74,7 @@ fn begin_name<'t>(
         return Ok(free(State::Reading(other)));
     }
     let since = log.len();
-    log.push(Entry::Enter(at))?;
+    put(log, Entry::Enter(at))?;
     Ok(within(other, Waiting::InName(since)))
 }
 

@@ -4,12 +4,13 @@ ghost use Rattle.tt.specs.Views.{trees_of};
 ghost use Rattle.mbe_grammar.specs.declared.derivation.Open.{Open as OpenLevel};
 ghost use Rattle.mbe_grammar.specs.declared.entry.Entry.{Entry as EntryOf};
 ghost use Rattle.mbe_grammar.specs.declared.event.Event.{Event as EventOf};
-ghost use Rattle.mbe_grammar.specs.Derivations.{Derives, Refuses, IsDerived, TakesDeep, Place, whole, place};
+ghost use Rattle.mbe_grammar.specs.Derivations.{Derives, Refuses, IsDerived, IsJudged, TakesDeep, Place, whole, place};
 ghost use Rattle.mbe_grammar.specs.Deriving.{behind_level, IsRead, IsEntered, GivesAhead, StopsAhead, IsNext, IsSameAhead, IsPassed, plain_event};
 ghost use Rattle.mbe_grammar.specs.Left.{around, inside};
 
 use crate::entry::Entry;
 use crate::event::{Event, Level};
+use crate::list::put;
 use crate::machine::{Frame, parse};
 use crate::table::Table;
 use crate::units::Units;
@@ -283,9 +284,29 @@ pub fn derive<'t>(
     loop {
         derivation.pass_plain(&mut events)?;
         match derivation.next_event()? {
-            NextEvent::Event(event) => events.push(event)?,
+            NextEvent::Event(event) => put(&mut events, event)?,
             NextEvent::End => return Ok(Derived::Whole(events)),
             NextEvent::Refused(level) => return Ok(Derived::Refused(level)),
+        }
+    }
+}
+
+/// Returns whether the trees are the expression at that index of the table, as `derive` says. Keeps no events. Reads each level once,
+/// without recursion. Fails only if memory runs out.
+pub(crate) fn is_whole(
+    alloc: Global,
+    table: Table<'_>,
+    at: usize,
+    trees: TokenTreesView<'_>,
+) -> Result<bool, AllocError>
+    ensures { IfOk result (λ answer. IsJudged table.entry.rules.now at (trees_of trees.entry) answer) }
+{
+    let mut derivation = Derivation::new(alloc, table, at, trees);
+    loop {
+        match derivation.next_event()? {
+            NextEvent::Event(_) => {}
+            NextEvent::End => return Ok(true),
+            NextEvent::Refused(_) => return Ok(false),
         }
     }
 }

@@ -1,10 +1,10 @@
 //! The grammar of whole files.
 ghost use Rattle.std.specs.Prelude.{◌≡◌, slice_get, IfOk};
 ghost use Rattle.tt.specs.Views.{trees_of};
-ghost use Rattle.mbe_grammar.specs.Files.{IsParsed, test_in};
+ghost use Rattle.mbe_grammar.specs.Files.{IsFileAnswer, IsParsed, test_in};
 ghost use Rattle.mbe_grammar.specs.Table.{rust_rules};
 
-use crate::derivation::{Derived, derive};
+use crate::derivation::{Derived, derive, is_whole};
 use crate::event::{Event, Level};
 use crate::fragments::rust_table;
 use crate::rule::Rule;
@@ -48,6 +48,14 @@ pub fn parse_file<'t>(
             Ok(ParsedFile::Refused(SyntaxError { level, wanted }))
         }
     }
+}
+
+/// Returns whether the trees are a file, as `parse_file` says. Keeps no derivation, so it needs memory only for the open levels. Reads each
+/// level once, without recursion. Fails only if memory runs out.
+pub fn is_file(alloc: Global, trees: TokenTreesView<'_>) -> Result<bool, AllocError>
+    ensures { IfOk result (λ answer. IsFileAnswer (trees_of trees.entry) answer) }
+{
+    is_whole(alloc, rust_table(), ITEMS, trees)
 }
 
 // Returns the test of the unit rule at that index; none if there is no such rule.

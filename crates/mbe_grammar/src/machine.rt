@@ -10,6 +10,7 @@ ghost use Rattle.mbe_grammar.specs.Running.{answer_at, state_at, kept_at, frame_
 
 use crate::begin::{begin, enter};
 use crate::entry::Entry;
+use crate::list::put;
 use crate::table::Table;
 use crate::units::Units;
 use std::alloc::AllocError;
@@ -132,8 +133,7 @@ fn close<'t>(since: usize, log: &mut Vec<Entry<'t>>) -> Result<(), AllocError>
         log.truncate(since);
         Ok(())
     } else {
-        log.push(Entry::Leave)?;
-        Ok(())
+        put(log, Entry::Leave)
     }
 }
 
@@ -207,7 +207,7 @@ pub(crate) fn step<'t>(
         State::Reading(at) => {
             let Begun { state, waiting } = begin(noting, table, at, units, here, log)?;
             if let Some(it) = waiting {
-                frames.push(it.frame(*here, log))?;
+                put(frames, it.frame(*here, log))?;
             }
             Ok(Next::Goes(state))
         }

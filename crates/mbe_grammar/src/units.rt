@@ -9,6 +9,7 @@ ghost use Rattle.mbe_grammar.specs.Decoded.{AreDecoded, AreDecoded-prop};
 use crate::entry::Entry;
 use crate::here::Here;
 use crate::known::{Glance, Known, look};
+use crate::list::put;
 use crate::test::Test;
 use crate::unit::Unit;
 use std::alloc::{AllocError, Global};
@@ -79,7 +80,7 @@ impl<'t> Units<'t> {
             unit,
             kind: unit.kind(),
         };
-        self.reached.push(here)?;
+        put(&mut self.reached, here)?;
         self.behind = trees.remaining();
         Ok(())
     }
@@ -144,7 +145,7 @@ impl<'t> Units<'t> {
         if passes {
             let count = test.taken_size(first.unit);
             if noting {
-                log.push(first.entry(test, count))?;
+                put(log, first.entry(test, count))?;
             }
             *here += count;
             self.reach(*here)?;

@@ -1,6 +1,6 @@
 //! Words: idents that the grammar names, and those that are reserved.
 ghost use Rattle.std.specs.Prelude.{◌≡◌};
-ghost use Rattle.mbe_grammar.specs.Words.{word_of_one, word_of_two, word_of_three, word_of_four, word_of_five, word_of_six, word_of_more, word_named, word_of, is_reserved, is_path_segment, is_truth_value, is_first_keyword, begins_expression};
+ghost use Rattle.mbe_grammar.specs.Words.{word_from_a_or_b, word_from_c_or_d, word_from_e_to_g, word_from_i_or_l, word_from_m, word_from_o_to_r, word_from_s, word_from_t, word_from_u_to_y, word_from_other, word_beginning, word_named, word_of, is_reserved, is_path_segment, is_truth_value, is_first_keyword, begins_expression};
 
 use tt::{Ident, IdentIsRaw};
 
@@ -118,125 +118,171 @@ pub enum Word {
 }
 
 impl Word {
-    // Returns the word of one letter.
-    fn of_one(text: &str) -> Word
-        ensures { result ≡ word_of_one text.now }
+    // Returns the word of a text that begins with `a` or `b`.
+    fn from_a_or_b(text: &str) -> Word
+        ensures { result ≡ word_from_a_or_b text.now }
     {
         match text {
-            "_" => Word::Underscore,
-            _ => Word::Name,
-        }
-    }
-
-    // Returns the word of two letters.
-    fn of_two(text: &str) -> Word
-        ensures { result ≡ word_of_two text.now }
-    {
-        match text {
+            "abstract" => Word::Reserved,
             "as" => Word::As,
-            "do" => Word::Do,
-            "fn" => Word::Fn,
-            "if" => Word::If,
-            "in" => Word::In,
+            "async" => Word::Async,
+            "auto" => Word::Auto,
+            "await" => Word::Await,
+            "become" => Word::Reserved,
+            "box" => Word::Box,
+            "break" => Word::Break,
             _ => Word::Name,
         }
     }
 
-    // Returns the word of three letters.
-    fn of_three(text: &str) -> Word
-        ensures { result ≡ word_of_three text.now }
+    // Returns the word of a text that begins with `c` or `d`.
+    fn from_c_or_d(text: &str) -> Word
+        ensures { result ≡ word_from_c_or_d text.now }
     {
         match text {
-            "box" => Word::Box,
+            "const" => Word::Const,
+            "continue" => Word::Continue,
+            "crate" => Word::Crate,
+            "default" => Word::Default,
+            "do" => Word::Do,
             "dyn" => Word::Dyn,
+            _ => Word::Name,
+        }
+    }
+
+    // Returns the word of a text that begins with `e`, `f` or `g`.
+    fn from_e_to_g(text: &str) -> Word
+        ensures { result ≡ word_from_e_to_g text.now }
+    {
+        match text {
+            "else" => Word::Else,
+            "enum" => Word::Enum,
+            "extern" => Word::Extern,
+            "false" => Word::False,
+            "final" => Word::Reserved,
+            "fn" => Word::Fn,
             "for" => Word::For,
             "gen" => Word::Gen,
+            _ => Word::Name,
+        }
+    }
+
+    // Returns the word of a text that begins with `i` or `l`.
+    fn from_i_or_l(text: &str) -> Word
+        ensures { result ≡ word_from_i_or_l text.now }
+    {
+        match text {
+            "if" => Word::If,
+            "impl" => Word::Impl,
+            "in" => Word::In,
             "let" => Word::Let,
+            "loop" => Word::Loop,
+            _ => Word::Name,
+        }
+    }
+
+    // Returns the word of a text that begins with `m`.
+    fn from_m(text: &str) -> Word
+        ensures { result ≡ word_from_m text.now }
+    {
+        match text {
+            "macro" => Word::Macro,
+            "macro_rules" => Word::MacroRules,
+            "match" => Word::Match,
             "mod" => Word::Mod,
+            "move" => Word::Move,
             "mut" => Word::Mut,
+            _ => Word::Name,
+        }
+    }
+
+    // Returns the word of a text that begins with `o`, `p` or `r`.
+    fn from_o_to_r(text: &str) -> Word
+        ensures { result ≡ word_from_o_to_r text.now }
+    {
+        match text {
+            "override" => Word::Reserved,
+            "priv" => Word::Reserved,
             "pub" => Word::Pub,
             "raw" => Word::Raw,
             "ref" => Word::Ref,
-            "try" => Word::Try,
-            "use" => Word::Use,
+            "return" => Word::Return,
             _ => Word::Name,
         }
     }
 
-    // Returns the word of four letters.
-    fn of_four(text: &str) -> Word
-        ensures { result ≡ word_of_four text.now }
+    // Returns the word of a text that begins with `s`.
+    fn from_s(text: &str) -> Word
+        ensures { result ≡ word_from_s text.now }
     {
         match text {
-            "Self" => Word::SelfType,
-            "auto" => Word::Auto,
-            "else" => Word::Else,
-            "enum" => Word::Enum,
-            "impl" => Word::Impl,
-            "loop" => Word::Loop,
-            "move" => Word::Move,
-            "priv" => Word::Reserved,
             "safe" => Word::Safe,
             "self" => Word::SelfValue,
-            "true" => Word::True,
-            "type" => Word::Type,
-            "yeet" => Word::Yeet,
+            "static" => Word::Static,
+            "struct" => Word::Struct,
+            "super" => Word::Super,
             _ => Word::Name,
         }
     }
 
-    // Returns the word of five letters.
-    fn of_five(text: &str) -> Word
-        ensures { result ≡ word_of_five text.now }
+    // Returns the word of a text that begins with `t`.
+    fn from_t(text: &str) -> Word
+        ensures { result ≡ word_from_t text.now }
     {
         match text {
-            "async" => Word::Async,
-            "await" => Word::Await,
-            "break" => Word::Break,
-            "const" => Word::Const,
-            "crate" => Word::Crate,
-            "false" => Word::False,
-            "final" => Word::Reserved,
-            "macro" => Word::Macro,
-            "match" => Word::Match,
-            "super" => Word::Super,
             "trait" => Word::Trait,
+            "true" => Word::True,
+            "try" => Word::Try,
+            "type" => Word::Type,
+            "typeof" => Word::Reserved,
+            _ => Word::Name,
+        }
+    }
+
+    // Returns the word of a text that begins with `u`, `v`, `w` or `y`.
+    fn from_u_to_y(text: &str) -> Word
+        ensures { result ≡ word_from_u_to_y text.now }
+    {
+        match text {
             "union" => Word::Union,
+            "unsafe" => Word::Unsafe,
+            "unsized" => Word::Reserved,
+            "use" => Word::Use,
+            "virtual" => Word::Reserved,
             "where" => Word::Where,
             "while" => Word::While,
+            "yeet" => Word::Yeet,
             "yield" => Word::Yield,
             _ => Word::Name,
         }
     }
 
-    // Returns the word of six letters.
-    fn of_six(text: &str) -> Word
-        ensures { result ≡ word_of_six text.now }
+    // Returns the word of a text that begins with `S` or `_`.
+    fn from_other(text: &str) -> Word
+        ensures { result ≡ word_from_other text.now }
     {
         match text {
-            "become" => Word::Reserved,
-            "extern" => Word::Extern,
-            "return" => Word::Return,
-            "static" => Word::Static,
-            "struct" => Word::Struct,
-            "typeof" => Word::Reserved,
-            "unsafe" => Word::Unsafe,
+            "Self" => Word::SelfType,
+            "_" => Word::Underscore,
             _ => Word::Name,
         }
     }
 
-    // Returns the word of seven letters or more.
-    fn of_more(text: &str) -> Word
-        ensures { result ≡ word_of_more text.now }
+    // Returns the word of a text that begins with that byte.
+    fn beginning(first: u8, text: &str) -> Word
+        ensures { result ≡ word_beginning first text.now }
     {
-        match text {
-            "abstract" => Word::Reserved,
-            "continue" => Word::Continue,
-            "default" => Word::Default,
-            "macro_rules" => Word::MacroRules,
-            "override" => Word::Reserved,
-            "unsized" => Word::Reserved,
-            "virtual" => Word::Reserved,
+        match first {
+            b'a' | b'b' => Word::from_a_or_b(text),
+            b'c' | b'd' => Word::from_c_or_d(text),
+            b'e' | b'f' | b'g' => Word::from_e_to_g(text),
+            b'i' | b'l' => Word::from_i_or_l(text),
+            b'm' => Word::from_m(text),
+            b'o' | b'p' | b'r' => Word::from_o_to_r(text),
+            b's' => Word::from_s(text),
+            b't' => Word::from_t(text),
+            b'u' | b'v' | b'w' | b'y' => Word::from_u_to_y(text),
+            b'S' | b'_' => Word::from_other(text),
             _ => Word::Name,
         }
     }
@@ -245,15 +291,9 @@ impl Word {
     fn named(text: &str) -> Word
         ensures { result ≡ word_named text.now }
     {
-        match text.len() {
-            0 => Word::Name,
-            1 => Word::of_one(text),
-            2 => Word::of_two(text),
-            3 => Word::of_three(text),
-            4 => Word::of_four(text),
-            5 => Word::of_five(text),
-            6 => Word::of_six(text),
-            _ => Word::of_more(text),
+        match text.as_bytes().first() {
+            Some(first) => Word::beginning(*first, text),
+            None => Word::Name,
         }
     }
 

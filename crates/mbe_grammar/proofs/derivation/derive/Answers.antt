@@ -13,7 +13,7 @@ loop-derivation-preserved c =
     let one = c.in-Event.event in
     let is : c.in_ok-event.field-0 ≡ next.Event one = search rules in
     let passed : IsNext c.pass_plain.new.self (next.Event one) c.next_event.new.self = subst (λ e. IsNext c.pass_plain.new.self e c.next_event.new.self) is c.in_ok-event.ensures.next in
-    let more : c.push.new.self.items ≡ c.pass_plain.new.events.items ++ one ∷ [] = search rules in
+    let more : c.put.new.list.items ≡ c.pass_plain.new.events.items ++ one ∷ [] = search rules in
     record {
       gives = λ events g. subst (Derives c.args.table.rules.now c.args.at (trees_of c.args.trees))
           (sym (ap (λ l. l ++ events) (more ∙ ap (λ l. l ++ one ∷ []) on.1) ∙ append_assoc (old ++ on.0) (one ∷ []) events ∙ append_assoc old on.0 (one ∷ events)))

@@ -7,28 +7,28 @@ use Rattle.mbe_grammar.proofs.Log.{room_same}
 use Rattle.mbe_grammar.proofs.Stepping.{pushed, is_new, reads, pops, waits_none, waits_some, room_pushed, room_popped}
 use Rattle.mbe_grammar.proofs.machine.step.Goals as goal
 
-pub returns-in_ok-push-in-Reading-clause-step : goal.returns-in_ok-push-in-Reading-clause-step
-returns-in_ok-push-in-Reading-clause-step c =
+pub returns-in_ok-put-in-Reading-clause-step : goal.returns-in_ok-put-in-Reading-clause-step
+returns-in_ok-put-in-Reading-clause-step c =
     let trees = trees_in c.args.units.now in
     let is : c.in_ok-state-in-Reading.field-0.waiting ≡ Some c.in-Some.it = search rules in
-    let more : c.push.new.self.items ≡ c.args.frames.now.items ++ c.frame.result ∷ [] = search rules in
-    let after : reverse c.push.new.self.items ≡ c.frame.result ∷ reverse c.args.frames.now.items = ap reverse more ∙ pushed c.args.frames.now.items c.frame.result in
+    let more : c.put.new.list.items ≡ c.args.frames.now.items ++ c.frame.result ∷ [] = search rules in
+    let after : reverse c.put.new.list.items ≡ c.frame.result ∷ reverse c.args.frames.now.items = ap reverse more ∙ pushed c.args.frames.now.items c.frame.result in
     let new = is_new trees c.args.noting (glance_at c.args.table.known.now) c.args.table.rules.now c.args.log.now.items c.begin.new.log.items c.args.here.now c.begin.new.here c.in-Reading.at
     c.in_ok-state-in-Reading.field-0 c.in-Some.it c.frame.result c.in_ok-state-in-Reading.ensures.begun is c.frame.ensures.room in
     reads c.args.noting (glance_at c.args.table.known.now) c.args.table.rules.now trees c.args.log.now.items c.begin.new.log.items c.args.here.now c.begin.new.here c.args.state c.in-Reading.at c.in-Reading.is c.in_ok-state-in-Reading.field-0
-    (reverse c.args.frames.now.items) (reverse c.push.new.self.items) c.in_ok-state-in-Reading.ensures.begun
+    (reverse c.args.frames.now.items) (reverse c.put.new.list.items) c.in_ok-state-in-Reading.ensures.begun
     (waits_some trees c.args.log.now.items c.begin.new.log.items (position_of trees c.begin.new.log.items c.begin.new.here) c.in_ok-state-in-Reading.field-0.waiting c.in-Some.it c.frame.result
-    (reverse c.args.frames.now.items) (reverse c.push.new.self.items) is after (c.frame.ensures.frame trees) new c.in_ok-state-in-Reading.ensures.log c.requires.room)
+    (reverse c.args.frames.now.items) (reverse c.put.new.list.items) is after (c.frame.ensures.frame trees) new c.in_ok-state-in-Reading.ensures.log c.requires.room)
 
-pub returns-in_ok-push-in-Reading-clause-room : goal.returns-in_ok-push-in-Reading-clause-room
-returns-in_ok-push-in-Reading-clause-room c =
+pub returns-in_ok-put-in-Reading-clause-room : goal.returns-in_ok-put-in-Reading-clause-room
+returns-in_ok-put-in-Reading-clause-room c =
     let trees = trees_in c.args.units.now in
-    let more : c.push.new.self.items ≡ c.args.frames.now.items ++ c.frame.result ∷ [] = search rules in
-    let after : reverse c.push.new.self.items ≡ c.frame.result ∷ reverse c.args.frames.now.items = ap reverse more ∙ pushed c.args.frames.now.items c.frame.result in
+    let more : c.put.new.list.items ≡ c.args.frames.now.items ++ c.frame.result ∷ [] = search rules in
+    let after : reverse c.put.new.list.items ≡ c.frame.result ∷ reverse c.args.frames.now.items = ap reverse more ∙ pushed c.args.frames.now.items c.frame.result in
     let is : c.in_ok-state-in-Reading.field-0.waiting ≡ Some c.in-Some.it = search rules in
     let new = is_new trees c.args.noting (glance_at c.args.table.known.now) c.args.table.rules.now c.args.log.now.items c.begin.new.log.items c.args.here.now c.begin.new.here c.in-Reading.at
     c.in_ok-state-in-Reading.field-0 c.in-Some.it c.frame.result c.in_ok-state-in-Reading.ensures.begun is c.frame.ensures.room in
-    room_pushed c.args.log.now.items c.begin.new.log.items c.frame.result (reverse c.args.frames.now.items) (reverse c.push.new.self.items) after
+    room_pushed c.args.log.now.items c.begin.new.log.items c.frame.result (reverse c.args.frames.now.items) (reverse c.put.new.list.items) after
     new c.in_ok-state-in-Reading.ensures.log c.requires.room
 
 pub returns-in_default-clause-step : goal.returns-in_default-clause-step
@@ -61,23 +61,23 @@ pub returns-in_err-state-in-Reading-clause-kept : goal.returns-in_err-state-in-R
 returns-in_err-state-in-Reading-clause-kept c floor h =
     kept_same floor c.args.log.now.items c.begin.new.log.items (reverse c.args.frames.now.items) c.in_err-state-in-Reading.ensures.log c.requires.room h
 
-pub returns-in_err-push-in-Reading-clause-kept : goal.returns-in_err-push-in-Reading-clause-kept
-returns-in_err-push-in-Reading-clause-kept c floor h =
+pub returns-in_err-put-in-Reading-clause-kept : goal.returns-in_err-put-in-Reading-clause-kept
+returns-in_err-put-in-Reading-clause-kept c floor h =
     kept_same floor c.args.log.now.items c.begin.new.log.items (reverse c.args.frames.now.items) c.in_ok-state-in-Reading.ensures.log c.requires.room h
 
-pub returns-in_ok-push-in-Reading-clause-floor : goal.returns-in_ok-push-in-Reading-clause-floor
-returns-in_ok-push-in-Reading-clause-floor c floor h =
+pub returns-in_ok-put-in-Reading-clause-floor : goal.returns-in_ok-put-in-Reading-clause-floor
+returns-in_ok-put-in-Reading-clause-floor c floor h =
     let trees = trees_in c.args.units.now in
-    let more : c.push.new.self.items ≡ c.args.frames.now.items ++ c.frame.result ∷ [] = search rules in
-    let after : reverse c.push.new.self.items ≡ c.frame.result ∷ reverse c.args.frames.now.items = ap reverse more ∙ pushed c.args.frames.now.items c.frame.result in
+    let more : c.put.new.list.items ≡ c.args.frames.now.items ++ c.frame.result ∷ [] = search rules in
+    let after : reverse c.put.new.list.items ≡ c.frame.result ∷ reverse c.args.frames.now.items = ap reverse more ∙ pushed c.args.frames.now.items c.frame.result in
     let is : c.in_ok-state-in-Reading.field-0.waiting ≡ Some c.in-Some.it = search rules in
     let new = is_new trees c.args.noting (glance_at c.args.table.known.now) c.args.table.rules.now c.args.log.now.items c.begin.new.log.items c.args.here.now c.begin.new.here c.in-Reading.at
     c.in_ok-state-in-Reading.field-0 c.in-Some.it c.frame.result c.in_ok-state-in-Reading.ensures.begun is c.frame.ensures.room in
-    floor_pushed floor c.args.log.now.items c.begin.new.log.items c.frame.result (reverse c.args.frames.now.items) (reverse c.push.new.self.items) after
+    floor_pushed floor c.args.log.now.items c.begin.new.log.items c.frame.result (reverse c.args.frames.now.items) (reverse c.put.new.list.items) after
     new c.in_ok-state-in-Reading.ensures.log h
 
-pub returns-in_ok-push-in-Reading-clause-kept : goal.returns-in_ok-push-in-Reading-clause-kept
-returns-in_ok-push-in-Reading-clause-kept c floor h =
+pub returns-in_ok-put-in-Reading-clause-kept : goal.returns-in_ok-put-in-Reading-clause-kept
+returns-in_ok-put-in-Reading-clause-kept c floor h =
     kept_same floor c.args.log.now.items c.begin.new.log.items (reverse c.args.frames.now.items) c.in_ok-state-in-Reading.ensures.log c.requires.room h
 
 pub returns-in_default-clause-floor : goal.returns-in_default-clause-floor

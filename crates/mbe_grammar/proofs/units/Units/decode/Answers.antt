@@ -10,7 +10,7 @@ use Rattle.mbe_grammar.proofs.units.Units.decode.Goals as goal
 pub invariant_of-self-2 : goal.invariant_of-self-2
 invariant_of-self-2 c =
     let rest = c.args.self.now.behind in
-    let more = c.in_ok-push.ensures.items in
+    let more = c.in_ok-put.ensures.items in
     let further : trees_of c.remaining-self.result ≡ after_tree (trees_of rest) = search rules in
     record {
       fits = c.args.self.now.fits;

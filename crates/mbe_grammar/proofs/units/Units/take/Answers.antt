@@ -8,7 +8,7 @@ use Rattle.mbe_grammar.specs.Positions.{count_of, entry_of}
 use Rattle.mbe_grammar.specs.Tests.{named, passes}
 use Rattle.mbe_grammar.specs.Units.{first_unit}
 use Rattle.mbe_grammar.proofs.Taking.{within, took_noting, took_silently}
-use Rattle.mbe_grammar.proofs.units.Units.take.Goals.{then-noting+in_ok-push, else-noting}
+use Rattle.mbe_grammar.proofs.units.Units.take.Goals.{then-noting+in_ok-put, else-noting}
 use Rattle.mbe_grammar.proofs.units.Units.take.Goals as goal
 
 pub overflow_add-here : goal.overflow_add-here
@@ -31,7 +31,7 @@ returns-in_ok-reach-clause-answer c =
     let yes : passes c.args.test (first_unit (after_trees here trees)) ≡ true = subst (λ u. passes c.args.test u ≡ true) unit (sym c.passes-passes.ensures ∙ c.if-passes.true) in
     let count : c.taken_size-count.result ≡ count_of c.args.test (after_trees here trees) = search rules in
     elim c.if-noting.branch [
-      | then-noting+in_ok-push w ↦
+      | then-noting+in_ok-put w ↦
           let on : c.args.noting ≡ true = search rules in
           let added : c.if-noting.log.items ≡ old ++ w.entry.result ∷ [] = search rules in
           let is : map entry c.if-noting.log.items ≡ map entry old ++ entry_of (named c.args.test) (count_of c.args.test (after_trees here trees)) (after_trees here trees) ∷ [] = search (rules, map-append entry old (w.entry.result ∷ [])) in
