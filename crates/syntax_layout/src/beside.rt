@@ -70,12 +70,19 @@ pub fn space_end(source: &str, at: usize) -> usize {
     end
 }
 
+/// Returns whether the byte at a place may be one of white space, or the first or the last one of a comment.
+pub fn may_be_blank(source: &str, at: usize) -> bool {
+    match byte_at(source, at) {
+        Some(byte) => byte == b'/' || !byte.is_ascii_graphic(),
+        None => false,
+    }
+}
+
 /// Returns the end of the white space and comments behind a place, as far as these are a gap.
 pub fn blank_end(source: &str, at: usize) -> usize {
     let mut end = space_end(source, at);
-    match byte_at(source, end) {
-        Some(byte) if byte != b'/' && byte.is_ascii_graphic() => return end,
-        _ => {}
+    if !may_be_blank(source, end) {
+        return end;
     }
     for token in tokens(behind(source, end)) {
         if !is_blank(token.kind) {

@@ -98,7 +98,7 @@ impl<'c, 's> Chooser<'c, 's> {
         Some(Part {
             start,
             end,
-            shift: self.input,
+            shift: self.input_shift(),
         })
     }
 

@@ -4,8 +4,8 @@
 //! Elsewhere a variable, a round of a repetition, or what a call becomes begins or ends. The gap is then that of the template: behind the
 //! first token, if a variable, a repetition or a call is there, or before the second. Otherwise it is the space that rustfmt would choose.
 use crate::beside::{
-    MOST_GAP, begins_line, breaks, byte_at, byte_before, indentation, is_of_name, is_white, part,
-    space_start,
+    MOST_GAP, begins_line, breaks, byte_at, byte_before, indentation, is_of_name, is_white,
+    may_be_blank, part, space_start,
 };
 use crate::gap::is_gap;
 use crate::indenting::{Gaps, Shift, breaks_before_spaces};
@@ -19,6 +19,9 @@ use std::alloc::{AllocError, Global};
 const MOST_GAPS: usize = 16_777_216;
 
 const GAPS_FOR_BYTE: usize = 64;
+
+// How the lines of a gap without line breaks move.
+const UNMOVED: Shift = Shift { from: 0, to: 0 };
 
 /// A source, and what is known of the templates in it.
 #[derive(Drop)]
@@ -45,6 +48,13 @@ pub struct Part {
     pub shift: Shift,
 }
 
+/// How lines of the input move: from the indentation of the line that a place is in, or from none, to another one.
+#[derive(Clone, Copy)]
+pub(crate) struct Input {
+    pub at: Option<usize>,
+    pub to: usize,
+}
+
 /// What is known of two neighbours.
 #[derive(Clone, Copy)]
 pub enum Choice {
@@ -66,7 +76,7 @@ pub(crate) struct Chooser<'c, 's> {
     spacer: Spacer<'c>,
     pub(crate) last: Option<Place>,
     /// How lines of the input move.
-    pub(crate) input: Shift,
+    pub(crate) input: Input,
     /// The byte after the token of a template that precedes the latest token of the input.
     pub(crate) before_input: usize,
     /// The indentation to which the lines of each template move.
@@ -98,7 +108,7 @@ impl<'c, 's> Chooser<'c, 's> {
             gaps: Gaps::new(alloc, line, has_tabs, count)?,
             spacer: Spacer::new(plain),
             last: None,
-            input: Shift { from: 0, to: line },
+            input: Input { at: None, to: line },
             before_input: 0,
             moved: Moved::new(alloc),
             here: (usize::MAX, 0),
@@ -119,9 +129,20 @@ impl<'c, 's> Chooser<'c, 's> {
             shift: if breaks(part(self.sources.text, start, end)) {
                 self.shift_at(target)
             } else {
-                self.input
+                UNMOVED
             },
         })
+    }
+
+    /// Returns how lines of the input move.
+    pub(crate) fn input_shift(&self) -> Shift {
+        Shift {
+            from: match self.input.at {
+                Some(at) => indentation(self.sources.text, at),
+                None => 0,
+            },
+            to: self.input.to,
+        }
     }
 
     /// Returns a line break in front of a place in a template.
@@ -135,7 +156,7 @@ impl<'c, 's> Chooser<'c, 's> {
     pub(crate) fn shift_at(&self, target: usize) -> Shift {
         let templates = &self.sources.templates;
         let Some(number) = templates.template_at(target) else {
-            return self.input;
+            return self.input_shift();
         };
         let (number, to) = if self.here.0 == number {
             self.here
@@ -155,6 +176,10 @@ impl<'c, 's> Chooser<'c, 's> {
     // Adds the part of the source between two places as a gap, whose lines move. Returns whether it has line breaks.
     fn push_part(&mut self, found: Part) -> Result<bool, AllocError> {
         let gap = part(self.sources.text, found.start, found.end);
+        if matches!(gap.as_bytes(), [] | [b' ']) {
+            self.gaps.push_space(!gap.is_empty())?;
+            return Ok(false);
+        }
         let lines = breaks_before_spaces(gap).unwrap_or(0);
         if lines > 0 {
             self.gaps
@@ -166,11 +191,7 @@ impl<'c, 's> Chooser<'c, 's> {
             self.gaps.push_text(gap, found.shift)?;
             return Ok(has_breaks);
         }
-        match gap.as_bytes() {
-            [] => self.gaps.push_space(false)?,
-            [b' '] => self.gaps.push_space(true)?,
-            _ => self.gaps.push_part(found.start, found.end)?,
-        }
+        self.gaps.push_part(found.start, found.end)?;
         Ok(false)
     }
 
@@ -240,11 +261,16 @@ impl<'c, 's> Chooser<'c, 's> {
             self.gaps.push_space(false)?;
             return Ok(true);
         }
-        if len == 1 && byte_at(self.sources.text, end) == Some(b' ') {
+        let source = self.sources.text;
+        if len == 1 && byte_at(source, end) == Some(b' ') {
             self.gaps.push_space(true)?;
             return Ok(true);
         }
-        let gap = part(self.sources.text, end, start);
+        // (the first byte or the last one shows most texts that are no gap)
+        if !may_be_blank(source, end) || !may_be_blank(source, start.saturating_sub(1)) {
+            return Ok(false);
+        }
+        let gap = part(source, end, start);
         if gap.is_empty() {
             return Ok(false);
         }

@@ -119,11 +119,18 @@ impl<'c, 's> Chooser<'c, 's> {
     }
 
     // Returns the template with comments at its end that ends with a token. `next` is the token behind it, if there is one.
+    #[inline(always)]
     fn ended(&self, last: Place, next: Option<Place>) -> Option<Template> {
-        let templates = &self.sources.templates;
-        if !templates.have_closing || self.gaps.len() > self.most {
+        if !self.sources.templates.have_closing || self.gaps.len() > self.most {
             return None;
         }
+        self.commented(last, next)
+    }
+
+    // Returns the same, in a source in which a template has comments at its end.
+    #[inline(never)]
+    fn commented(&self, last: Place, next: Option<Place>) -> Option<Template> {
+        let templates = &self.sources.templates;
         let inside = templates.template_at(last.start as usize);
         let (number, from) = match inside {
             Some(number) => (number, last.end as usize),

@@ -1,6 +1,6 @@
 //! The templates that are entered and left, token by token, and how far their lines move.
-use crate::beside::{begins_macro, indentation, part};
-use crate::choosing::Chooser;
+use crate::beside::{begins_macro, byte_at, part};
+use crate::choosing::{Chooser, Input};
 use crate::indenting::Shift;
 use crate::lookups::MOST_NESTED;
 use crate::places::Place;
@@ -43,6 +43,9 @@ impl<'c, 's> Chooser<'c, 's> {
         let at = next.start as usize;
         if template.first == at {
             return true;
+        }
+        if byte_at(self.sources.text, template.first) != Some(b'$') {
+            return false;
         }
         match self.sources.templates.begun_before(at) {
             Some(repetition) => repetition.start == template.first
@@ -104,8 +107,8 @@ impl<'c, 's> Chooser<'c, 's> {
     ) -> Result<(), AllocError> {
         let at = next.start as usize;
         let Some(number) = self.sources.templates.template_at(at) else {
-            self.input = Shift {
-                from: indentation(self.sources.text, at),
+            self.input = Input {
+                at: Some(at),
                 to: self.gaps.line,
             };
             self.leave_template(last);

@@ -16,6 +16,7 @@ use syntax_lex::{Token, TokenKind, first_token};
 use syntax_parse::punct_char;
 
 // Returns whether a token stays the same before two texts. `room` is for all three.
+#[inline(never)]
 fn stays_before(room: &mut String, word: &str, behind: &str, more: &str) -> Result<bool, AllocError>
     requires some { 0 < length word.now }
     requires fits { length word.now + (length behind.now + length more.now) < 2 ^ 32 }
@@ -40,6 +41,7 @@ fn begins_parting(text: &str) -> bool
 }
 
 // Returns whether a token ends before two texts. The lexer decides it where the first byte does not.
+#[inline(always)]
 fn ends_before(room: &mut String, word: &str, behind: &str, more: &str) -> Result<bool, AllocError>
     requires some { 0 < length word.now }
     requires begins { 0 < length behind.now }
@@ -76,6 +78,7 @@ fn touches_surely(
 }
 
 // Returns the first token of a text that is not blank, if the token before the text certainly touches it.
+#[inline(never)]
 fn touched<'t>(
     room: &mut String,
     kind: TokenKind,
@@ -160,6 +163,7 @@ struct Last<'t> {
 }
 
 // Adds what precedes a token, and the token. `touched` is the token that it certainly touches, or empty.
+#[inline(always)]
 fn push_word(
     laid: &mut String,
     room: &mut String,

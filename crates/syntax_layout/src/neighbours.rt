@@ -181,16 +181,16 @@ impl<'c, 's> Chooser<'c, 's> {
             return Choice::Open;
         }
         let start = space_start(source, end);
-        let closed = templates.closed_before(start);
         match byte_before(source, start) {
             Some(b'(') if byte_before(source, start.saturating_sub(1)) == Some(b'$') =>
                 match templates.begun_before(start) {
                     Some(repetition) if !self.begins_other(last, next) => self.again(repetition),
                     _ => Choice::Open,
                 },
-            Some(b'*' | b'+' | b'?') if closed.is_some_and(|it| it.end == start) => self.moved_part(
-                start, end, end,
-            ),
+            Some(b'*' | b'+' | b'?')
+                if templates
+                    .closed_before(start)
+                    .is_some_and(|it| it.end == start) => { self.moved_part(start, end, end) }
             _ => {
                 let name = name_start(source, start);
                 if name < start && byte_before(source, name) == Some(b'$') {

@@ -114,12 +114,19 @@ fn is_invisible(token: &TokenTree) -> bool {
 }
 
 impl<'s> Walk<'s> {
-    // Returns a place, if the source has the token there, or a comment that the token comes from. A carriage return at the end of a comment
-    // belongs to the end of its line.
+    // Returns a place, if the source has the token there, or a comment that the token comes from.
+    #[inline(always)]
     fn checked(&self, place: Place, is_there: bool) -> Option<Place> {
         if is_there {
-            return Some(place);
+            Some(place)
+        } else {
+            self.comment_at(place)
         }
+    }
+
+    // Returns a place, if the source has a comment there. A carriage return at its end belongs to the end of its line.
+    #[inline(never)]
+    fn comment_at(&self, place: Place) -> Option<Place> {
         let found = part(self.source, place.start as usize, place.end as usize);
         if found.starts_with("/*") {
             return Some(place);
@@ -141,10 +148,17 @@ impl<'s> Walk<'s> {
     }
 
     // Leaves the subtrees that hold no further token.
+    #[inline(always)]
     fn leave(&mut self) -> Result<(), AllocError> {
         if self.passed < self.end {
             return Ok(());
         }
+        self.leave_levels()
+    }
+
+    // Leaves the innermost levels, up to one that holds a further token.
+    #[inline(never)]
+    fn leave_levels(&mut self) -> Result<(), AllocError> {
         for _ in 0..self.levels.len() {
             let Some(level) = self.levels.last() else {
                 return Ok(());
@@ -274,7 +288,8 @@ pub fn written_of(
 ) -> Result<Vec<Written>, AllocError> {
     let mut walk = Walk {
         source,
-        all: Vec::with_capacity(alloc, trees.len())?,
+        // (a subtree is written as two brackets at most)
+        all: Vec::with_capacity(alloc, trees.len().saturating_mul(2))?,
         levels: Vec::new(alloc),
         end: usize::MAX,
         passed: 0,

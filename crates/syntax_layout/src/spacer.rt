@@ -1,5 +1,5 @@
 //! The spaces of rustfmt, found only for the tokens that need one.
-use crate::beside::{byte_at, part, tokens};
+use crate::beside::{byte_at, byte_before, is_of_name, part, tokens};
 use crate::kinds::is_blank;
 use crate::part::Part;
 use crate::passed::{Passed, name_part, part_of, passed_after, start};
@@ -53,12 +53,17 @@ impl<'p> Spacer<'p> {
         }
     }
 
-    /// Goes over the token of a number, which has so many bytes; 0 if that is not known. What is before a block need not be passed.
-    pub(crate) fn go_over(&mut self, len: usize, number: usize, begins_block: bool) {
-        let at = match byte_at(self.plain, self.ahead) {
+    // Returns where the next token begins that was not gone over.
+    fn next_start(&self) -> usize {
+        match byte_at(self.plain, self.ahead) {
             Some(b' ') => self.ahead.saturating_add(1),
             _ => self.ahead,
-        };
+        }
+    }
+
+    /// Goes over the token of a number, which has so many bytes; 0 if that is not known. What is before a block need not be passed.
+    pub(crate) fn go_over(&mut self, len: usize, number: usize, begins_block: bool) {
+        let at = self.next_start();
         self.ahead = at.saturating_add(if len > 0 {
             len
         } else {
@@ -105,8 +110,27 @@ impl<'p> Spacer<'p> {
         space
     }
 
-    /// Passes the tokens up to that of a number, and returns the space before it; nothing if it was passed before.
+    // Returns the space before the next token that was not gone over, if it depends only on the bytes beside it: none is before a `,`, a `;` or
+    // a bracket that closes, and one is between a name or a number and a sign that is always an operator there.
+    fn sure_space(&self) -> Option<&'static str> {
+        let last = byte_before(self.plain, self.ahead)?;
+        match byte_at(self.plain, self.next_start())? {
+            b',' | b';' | b')' | b']' => Some(""),
+            b'+' | b'=' | b'^' | b'%' if is_of_name(last) => Some(" "),
+            _ => None,
+        }
+    }
+
+    /// Returns the space before the token of a number, which is the next that was not gone over. Passes the tokens up to it, if need be.
     pub(crate) fn space_before(&mut self, number: usize) -> &'static str {
+        match self.sure_space() {
+            Some(space) => space,
+            None => self.passed_space(number),
+        }
+    }
+
+    // Passes the tokens up to that of a number, and returns the space before it; nothing if it was passed before.
+    fn passed_space(&mut self, number: usize) -> &'static str {
         for _ in self.at..self.plain.len() {
             if self.count > number {
                 return "";
