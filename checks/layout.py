@@ -3,8 +3,8 @@
 
 Beside each text of examples/rust/layout is what `expand` must write for it, NAME.out, worked out by hand and compared byte for byte. The texts
 of examples/rust are tried too: by NAME.out, or by NAME.expanded if one line is all that a call of them becomes. With --one-line each text must
-come with the same tokens, as plain_text.py reads them. It prints a line for each trial, `ok NAME` or `FAILED NAME: WHY`; the status is 1 if one
-failed.
+come with the same tokens, as plain_text.py reads them. The same is tried for a template of 500 lines. It prints a line for each trial, `ok NAME` or
+`FAILED NAME: WHY`; the status is 1 if one failed.
 """
 import pathlib
 import subprocess
@@ -18,6 +18,7 @@ from program_files import Files, Wrong, wants
 EXAMPLES = pathlib.Path(__file__).resolve().parent.parent / "examples" / "rust"
 ROWS = EXAMPLES / "layout"
 MARK = "\ufeff"
+STEPS = 125
 
 
 def tokens(text):
@@ -31,6 +32,18 @@ def expected(text):
         if text.with_suffix(ending).exists():
             return text.with_suffix(ending).read_bytes()
     return None
+
+
+def long_template():
+    """A text with a call of a template of 500 lines, and what must be written for it: these lines, as far indented as the call."""
+    lines = ["pub fn $name(it: &mut It) {"]
+    for number in range(STEPS):
+        lines += [f"    if it.has({number}) {{", f"        it.set({number}, $name); // number {number}", "    }", ""]
+    lines[-1] = "}"
+    template = "\n".join(f"        {line}".rstrip() for line in lines)
+    result = "\n".join(f"    {line}".rstrip() for line in lines).replace("$name", "each")
+    definition = f"macro_rules! long {{\n    ($name:ident) => {{\n{template}\n    }};\n}}\n\nmod inner {{\n"
+    return f"{definition}    long!(each);\n}}\n".encode(), f"{definition}{result}\n}}\n".encode()
 
 
 def try_text(files, text, written):
@@ -57,10 +70,13 @@ def main():
     """Tries all, and says of each how it went."""
     failed = False
     with tempfile.TemporaryDirectory() as room:
-        for text, written in tried():
-            name = f"layout of {text.relative_to(EXAMPLES)}"
+        files = Files(sys.argv[1], room)
+        text, written = long_template()
+        long = pathlib.Path(files.made("a template of 500 lines", text))
+        for text, written in [*tried(), (long, written)]:
+            name = f"layout of {text.relative_to(EXAMPLES) if text != long else text.name}"
             try:
-                try_text(Files(sys.argv[1], room), text, written)
+                try_text(files, text, written)
                 print(f"ok {name}", flush=True)
             except (Wrong, OSError, plain_text.WrongText, subprocess.TimeoutExpired) as why:
                 failed = True
