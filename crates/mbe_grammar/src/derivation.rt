@@ -17,8 +17,11 @@ use crate::units::Units;
 use std::alloc::{AllocError, Global};
 use tt::{Span, TokenTreesView};
 
-// For how many events there is room at first, for each token: about as many as source has.
-const EVENTS_OF_TOKEN: usize = 4;
+// For how many events or entries of the log there is room at first, for each token: about as many as source has.
+const EVENTS_OF_TOKEN: usize = 5;
+
+// For at most so many tokens of a level the log has room at first.
+const MOST_TOKENS: usize = 256;
 
 /// The outcome for trees that must be the expression of a name.
 pub enum Derived<'t> {
@@ -77,7 +80,7 @@ fn read<'t>(
     ensures read { (older : List OpenLevel) → IfOk result (λ inner. IsRead table.entry.rules.now (place it.entry) (around log.old.items older) (option_map (λ o. inside log.new.items o older) inner)) }
     ensures err { OnErr result (log.new.items ≡ log.old.items) }
 {
-    log.reserve(it.trees.len())?;
+    log.reserve(EVENTS_OF_TOKEN * it.trees.len().min(MOST_TOKENS))?;
     let since = log.len();
     room.units.restart(it.trees);
     let taken = parse(true, table, it.name, &mut room.units, &mut room.frames, log);
