@@ -82,6 +82,8 @@ GROUPS = [
     ("any subtree may be a literal", 'unit[:2] != ("sub", "opaque")', 'unit[0] != "sub"'),
     ("a literal may have more behind it", "held, 0) == len(held) else None", "held, 0) else None"),
     ("one token comes as a group", "or len(units) < 2:", "or not units:"),
+    ("a type before < comes as its token", "TypeOfOneToken(units, piece_of(trees))", "units"),
+    ("an expression before < comes as a group", 'fragment == "ty" and len(units) == 1', "len(units) == 1"),
     ("a group is invisible", 'Subtree("opaque", first_span', 'Subtree("invisible", first_span'),
     ("a group begins where its last tree does", "first_span(trees[0])", "first_span(trees[-1])"),
     ("a group ends where its first tree does", "last_span(trees[-1])", "last_span(trees[0])"),

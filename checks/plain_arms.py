@@ -38,6 +38,14 @@ class Unit(tuple):
         return made
 
 
+class TypeOfOneToken(list):
+    """What a type of one token is written as, and the opaque subtree that it becomes before `<`."""
+
+    def __init__(self, units, piece):
+        super().__init__(units)
+        self.piece = piece
+
+
 class Input:
     """The units of an input. Places are those of its trees, so that a fragment may end within puncts of one operator."""
 
@@ -72,11 +80,19 @@ class Input:
 
     def bound(self, fragment, at, end):
         """The units that a variable took, or one opaque subtree of them."""
-        units = units_of(self.trees[at:end])
+        trees = self.trees[at:end]
+        units = units_of(trees)
+        if fragment == "ty" and len(units) == 1 and is_ident(trees):
+            return TypeOfOneToken(units, piece_of(trees))
         if fragment not in GROUPED or len(units) < 2:
             return units
-        trees = alone(self.trees[at:end])
-        return [unit_of((Subtree("opaque", first_span(trees[0]), last_span(trees[-1]), trees),))]
+        return [piece_of(trees)]
+
+
+def piece_of(trees):
+    """The unit of an opaque subtree of these trees."""
+    trees = alone(trees)
+    return unit_of((Subtree("opaque", first_span(trees[0]), last_span(trees[-1]), trees),))
 
 
 def first_span(tree):
@@ -329,7 +345,8 @@ def arms_of(trees):
 
 def placed(units):
     """What a variable took, as it is written: its last token is alone if it is a punct."""
-    return units[:-1] + [Unit(unit, alone(unit.trees)) for unit in units[-1:]]
+    made = units[:-1] + [Unit(unit, alone(unit.trees)) for unit in units[-1:]]
+    return TypeOfOneToken(made, units.piece) if isinstance(units, TypeOfOneToken) else made
 
 
 def trees_of(units):

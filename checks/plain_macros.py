@@ -208,12 +208,18 @@ def is_list(bound):
     return isinstance(bound, tuple) and bound and bound[0] == "list"
 
 
+# What a use writes before these parts of the template. A type of one token knows the unit that it becomes before `<`.
+def used(units, parts):
+    is_before_less = bool(parts) and parts[0][0] == "unit" and parts[0][1][:2] == ("op", "<")
+    return [units.piece] if is_before_less and hasattr(units, "piece") else units
+
+
 # The units that a template becomes.
 def filled(parts, bound):
     units = []
-    for part in parts:
+    for number, part in enumerate(parts):
         if part[0] == "use":
-            units += bound[part[1]]
+            units += used(bound[part[1]], parts[number + 1:])
         elif part[0] == "unit":
             units.append(part[1])
         elif part[0] == "sub":

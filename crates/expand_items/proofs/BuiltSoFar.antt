@@ -11,7 +11,7 @@ use Rattle.tt.specs.Types.Span.{Span}
 use Rattle.tt.specs.Types.TtFault.{TtFault}
 use Rattle.expand_items.specs.declared.loosening.Level.{Level}
 use Rattle.expand_items.specs.declared.loosening.Place.{Place}
-use Rattle.expand_items.specs.Loosening.{first_place_in, is_apart, is_loose, loosened, loosened_kind, place_behind, place_behind_leaf}
+use Rattle.expand_items.specs.Loosening.{first_place_in, is_apart, kind_in, loosened, place_behind, place_behind_leaf}
 use Rattle.expand_items.proofs.Rebuilding.{Open, finished, finished_step, finished_node, no_room}
 
 -- what is known of a level
@@ -31,8 +31,8 @@ module _ (outer : List (Open Place)) (place then : Place) (trees : Forest) (stac
 
   -- A subtree is opened; `then` is the place of its first tree.
   pub node_built : (held : Forest) (level : Open Place) (it : Delimiter) (kind : DelimiterKind) → trees ≡ node it held level.rest → level.close ≡ it.close
-      → level.before ≡ place_behind it.kind place → kind ≡ loosened_kind (is_loose held level.rest place) it.kind
-      → then ≡ first_place_in (loosened_kind (is_loose held level.rest place) it.kind) (is_apart held level.rest place) place
+      → level.before ≡ place_behind it.kind place → kind ≡ kind_in held level.rest place it.kind
+      → then ≡ first_place_in (kind_in held level.rest place it.kind) (is_apart held level.rest place) place
       → finished loosened outer place trees stack ≡ finished loosened (level ∷ outer) then held (above stack kind it.open_span end)
   node_built held level it kind begins close behind is first = finished_node loosened outer place then trees held level it.open_span kind stack (
       ap (loosened place) begins
@@ -46,7 +46,7 @@ module _ (outer : List (Open Place)) (place then : Place) (trees : Forest) (stac
       made c k inside others = node (record { open_span = it.open_span; close = c; kind = k }) inside others
 
       entered : Place
-      entered = first_place_in (loosened_kind (is_loose held level.rest place) it.kind) (is_apart held level.rest place) place
+      entered = first_place_in (kind_in held level.rest place it.kind) (is_apart held level.rest place) place
 
       after : Place
       after = place_behind it.kind place

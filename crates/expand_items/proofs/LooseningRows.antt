@@ -256,3 +256,13 @@ statements = refl
 
 binding : loosened between (alone 42 (opaque (word (codes "let") (a end)) (alone 42 (a end)))) ≡ alone 42 (loose (word (codes "let") (a end)) (alone 42 (a end)))
 binding = refl
+
+-- A type after `as` that `<` would join gets parentheses, of one token too: `a as ⟨a⟩ < b`, and not `a as ⟨a⟩ + b`.
+cast_joined : loosened free (a (word (codes "as") (opaque (a end) (alone 60 (a end))))) ≡ a (word (codes "as") (join (subtree Parenthesis (a end)) (alone 60 (a end))))
+cast_joined = refl
+
+cast_alone : loosened free (a (word (codes "as") (opaque (a end) plus_b))) ≡ a (word (codes "as") (loose (a end) plus_b))
+cast_alone = refl
+
+compared : loosened free (a (alone 42 (opaque (a end) (alone 60 (a end))))) ≡ a (alone 42 (opaque (a end) (alone 60 (a end))))
+compared = refl

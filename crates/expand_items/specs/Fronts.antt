@@ -17,6 +17,7 @@ is_glued front.Colon = false
 is_glued front.Arrow = true
 is_glued front.Start = false
 is_glued front.Joint = true
+is_glued front.Cast = false
 is_glued front.Bound = false
 
 -- an arrow has begun
@@ -26,6 +27,7 @@ is_arrow front.Colon = false
 is_arrow front.Arrow = true
 is_arrow front.Start = false
 is_arrow front.Joint = false
+is_arrow front.Cast = false
 is_arrow front.Bound = false
 
 -- a statement, an arm or a type may begin
@@ -35,6 +37,7 @@ is_begun front.Colon = false
 is_begun front.Arrow = false
 is_begun front.Start = true
 is_begun front.Joint = false
+is_begun front.Cast = false
 is_begun front.Bound = false
 
 -- a type or the value of a field comes
@@ -44,7 +47,18 @@ is_colon front.Colon = true
 is_colon front.Arrow = false
 is_colon front.Start = false
 is_colon front.Joint = false
+is_colon front.Cast = false
 is_colon front.Bound = false
+
+-- `as` is before a type
+abbrev pub is_cast : Front → Bool
+is_cast front.Free = false
+is_cast front.Colon = false
+is_cast front.Arrow = false
+is_cast front.Start = false
+is_cast front.Joint = false
+is_cast front.Cast = true
+is_cast front.Bound = false
 
 -- nothing before an expression takes a part of it
 abbrev pub is_free : Front → Bool
@@ -53,6 +67,7 @@ is_free front.Colon = true
 is_free front.Arrow = false
 is_free front.Start = false
 is_free front.Joint = false
+is_free front.Cast = false
 is_free front.Bound = false
 
 -- one of two, by whether a punct is joint with the next
@@ -72,12 +87,12 @@ front_behind it before =
     else (if it.char == 58 && not (is_glued before) then joint_front it.spacing front.Joint front.Colon
     else (if it.char == 62 && is_arrow before then front.Start else joint_front it.spacing front.Joint front.Bound)))))
 
--- after a word: an expression after one of these goes as far as it can
+-- after a word: an expression after one of these goes as far as it can; a type comes after `as`
 abbrev pub introduces : (word : List ℕ) → Front
 introduces word =
     if bytes_eq word (codes "return") || (bytes_eq word (codes "break") || (bytes_eq word (codes "if") || (bytes_eq word (codes "while")
     || (bytes_eq word (codes "match") || bytes_eq word (codes "in")))))
-    then front.Free else front.Bound
+    then front.Free else (if bytes_eq word (codes "as") then front.Cast else front.Bound)
 
 -- after an ident, which is a word if it is not raw
 abbrev pub front_behind_ident : IdentIsRaw → (word : List ℕ) → Front

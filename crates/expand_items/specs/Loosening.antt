@@ -13,7 +13,7 @@ use Rattle.expand_items.specs.declared.front.Front.TheVariants as front
 use Rattle.expand_items.specs.declared.loosening.Place.{Place}
 use Rattle.expand_items.specs.declared.position.Position.{Position}
 use Rattle.expand_items.specs.Expressions.{are_statements, fits_before, is_at_assignment, is_split}
-use Rattle.expand_items.specs.Fronts.{front_behind, front_behind_ident, front_behind_kind, is_begun, is_colon, is_free}
+use Rattle.expand_items.specs.Fronts.{front_behind, front_behind_ident, front_behind_kind, is_begun, is_cast, is_colon, is_free}
 use Rattle.expand_items.specs.Operands.{belong_together}
 use Rattle.mbe_pattern.specs.Units.{is_brace}
 
@@ -54,13 +54,19 @@ is_apart trees behind place =
 abbrev pub is_loose : (trees behind : Forest) → Place → Bool
 is_loose trees behind place = is_apart trees behind place || (are_statements trees || (is_known place behind && belong_together trees behind))
 
--- an opaque subtree of such trees is an invisible one
-abbrev pub loosened_kind : (is_loose : Bool) → DelimiterKind → DelimiterKind
-loosened_kind loose delimited.Parenthesis = delimited.Parenthesis
-loosened_kind loose delimited.Brace = delimited.Brace
-loosened_kind loose delimited.Bracket = delimited.Bracket
-loosened_kind loose delimited.Invisible = delimited.Invisible
-loosened_kind loose delimited.InvisibleOpaque = if loose then delimited.Invisible else delimited.InvisibleOpaque
+-- an opaque subtree of such trees is an invisible one; that of another type after `as` gets its parentheses here, since one of a single
+-- token is written without
+abbrev pub loosened_kind : (is_loose is_cast : Bool) → DelimiterKind → DelimiterKind
+loosened_kind loose cast delimited.Parenthesis = delimited.Parenthesis
+loosened_kind loose cast delimited.Brace = delimited.Brace
+loosened_kind loose cast delimited.Bracket = delimited.Bracket
+loosened_kind loose cast delimited.Invisible = delimited.Invisible
+loosened_kind loose cast delimited.InvisibleOpaque =
+    if loose then delimited.Invisible else (if cast then delimited.Parenthesis else delimited.InvisibleOpaque)
+
+-- the kind that a subtree of these trees has in that place
+abbrev pub kind_in : (trees behind : Forest) → Place → DelimiterKind → DelimiterKind
+kind_in trees behind place kind = loosened_kind (is_loose trees behind place) (is_cast place.front) kind
 
 -- the place of the first tree in brackets of a kind: a statement may begin in braces; nothing precedes it in others
 abbrev pub first_place : DelimiterKind → Place
@@ -78,11 +84,11 @@ first_place_in delimited.Bracket apart place = first_place delimited.Bracket
 first_place_in delimited.Invisible apart place = first_place_within apart place
 first_place_in delimited.InvisibleOpaque apart place = first_place delimited.InvisibleOpaque
 
--- trees in which each opaque subtree that needs no parentheses is invisible, from a place on
+-- trees in which each opaque subtree has the kind of its place, from a place on
 abbrev pub loosened : Place → Forest → Forest
 loosened place end = end
 loosened place (leaf it rest) = leaf it (loosened (place_behind_leaf it place) rest)
 loosened place (node delimiter children rest) =
-    node (record delimiter { kind = loosened_kind (is_loose children rest place) delimiter.kind })
-    (loosened (first_place_in (loosened_kind (is_loose children rest place) delimiter.kind) (is_apart children rest place) place) children)
+    node (record delimiter { kind = kind_in children rest place delimiter.kind })
+    (loosened (first_place_in (kind_in children rest place delimiter.kind) (is_apart children rest place) place) children)
     (loosened (place_behind delimiter.kind place) rest)

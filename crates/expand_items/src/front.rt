@@ -1,6 +1,6 @@
 //! What precedes a tree among its siblings, as far as it matters to an expression there.
 ghost use Rattle.std.specs.Prelude.{◌≡◌};
-ghost use Rattle.expand_items.specs.Fronts.{front_behind, front_behind_ident, front_behind_kind, front_of_expansion, introduces, is_at_start, is_free, is_glued, joint_front};
+ghost use Rattle.expand_items.specs.Fronts.{front_behind, front_behind_ident, front_behind_kind, front_of_expansion, introduces, is_at_start, is_cast, is_free, is_glued, joint_front};
 
 use tt::{DelimiterKind, Ident, IdentIsRaw, Punct, Spacing};
 
@@ -19,6 +19,8 @@ pub(crate) enum Front {
     Start,
     /// Another punct that is joint with the next tree.
     Joint,
+    /// The word `as`, before a type.
+    Cast,
     /// Any other tree.
     Bound,
 }
@@ -30,7 +32,7 @@ impl Front {
     {
         match self {
             Front::Arrow | Front::Joint => true,
-            Front::Free | Front::Colon | Front::Start | Front::Bound => false,
+            Front::Free | Front::Colon | Front::Start | Front::Cast | Front::Bound => false,
         }
     }
 
@@ -40,8 +42,15 @@ impl Front {
     {
         match self {
             Front::Free | Front::Colon => true,
-            Front::Arrow | Front::Start | Front::Joint | Front::Bound => false,
+            Front::Arrow | Front::Start | Front::Joint | Front::Cast | Front::Bound => false,
         }
+    }
+
+    /// Returns whether `as` is before a type there.
+    pub(crate) fn is_cast(self) -> bool
+        ensures { result ≡ is_cast self }
+    {
+        self == Front::Cast
     }
 
     /// Returns what precedes the tree after a punct.
@@ -100,12 +109,14 @@ impl Front {
     }
 }
 
-// Returns what precedes the tree after a word: an expression after `return` and the like goes as far as it can.
+// Returns what precedes the tree after a word: an expression after `return` and the like goes as far as it can, and a type comes after
+// `as`.
 fn introduces(word: &str) -> Front
     ensures { result ≡ introduces word.now }
 {
     match word {
         "return" | "break" | "if" | "while" | "match" | "in" => Front::Free,
+        "as" => Front::Cast,
         _ => Front::Bound,
     }
 }

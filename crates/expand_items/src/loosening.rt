@@ -1,11 +1,11 @@
-//! Opaque subtrees that need no parentheses in their places. The walk keeps the open subtrees in memory, so only memory limits the depth of
+//! Opaque subtrees that need no parentheses in their places, and types that need some after `as`. The walk keeps the open subtrees in memory, so only memory limits the depth of
 //! a tree.
 ghost use Rattle.std.specs.Prelude.{◌≡◌, IfOk, IfErr};
 ghost use Rattle.tt.specs.Iters.{rest_of};
 ghost use Rattle.tt.specs.Stored.{IsWithinLimits};
 ghost use Rattle.tt.specs.TreeFault.{under, IsTreeFault};
 ghost use Rattle.tt.specs.Views.{trees_of};
-ghost use Rattle.expand_items.specs.Loosening.{ends_before, first_place, first_place_in, first_place_within, front_behind_leaf, is_apart, is_known, is_loose, loosened, loosened_kind, place_behind, place_behind_leaf, place_of};
+ghost use Rattle.expand_items.specs.Loosening.{ends_before, first_place, first_place_in, first_place_within, front_behind_leaf, is_apart, is_known, is_loose, kind_in, loosened, loosened_kind, place_behind, place_behind_leaf, place_of};
 
 use crate::expression::{Enclosure, are_statements, fits_before, is_at_assignment, is_split};
 use crate::front::Front;
@@ -131,8 +131,8 @@ impl Place {
 
     // Returns what becomes of a subtree of a kind with these children, before these trees.
     fn enter(self, kind: DelimiterKind, children: TtIter<'_>, behind: TtIter<'_>) -> Entry
-        ensures kind { result.kind ≡ loosened_kind (is_loose (rest_of children.entry) (rest_of behind.entry) self) kind }
-        ensures first { result.first ≡ first_place_in (loosened_kind (is_loose (rest_of children.entry) (rest_of behind.entry) self) kind) (is_apart (rest_of children.entry) (rest_of behind.entry) self) self }
+        ensures kind { result.kind ≡ kind_in (rest_of children.entry) (rest_of behind.entry) self kind }
+        ensures first { result.first ≡ first_place_in (kind_in (rest_of children.entry) (rest_of behind.entry) self kind) (is_apart (rest_of children.entry) (rest_of behind.entry) self) self }
     {
         match kind {
             DelimiterKind::Parenthesis | DelimiterKind::Brace | DelimiterKind::Bracket => Entry {
@@ -147,7 +147,7 @@ impl Place {
                 let is_loose = is_apart
                     || are_statements(children.remaining().iter())
                     || self.is_known(&behind) && belong_together(children, behind);
-                let kind = loosened_kind(is_loose, kind);
+                let kind = loosened_kind(is_loose, self.front.is_cast(), kind);
                 Entry {
                     kind,
                     first: self.inside(kind, is_apart),
@@ -157,12 +157,13 @@ impl Place {
     }
 }
 
-// Returns the kind that a subtree of a kind has then; `is_loose`: whether it needs no parentheses.
-fn loosened_kind(is_loose: bool, kind: DelimiterKind) -> DelimiterKind
-    ensures { result ≡ loosened_kind is_loose kind }
+// Returns the kind that a subtree of a kind has then; `is_loose`: whether it needs no parentheses; `is_cast`: whether `as` precedes it.
+fn loosened_kind(is_loose: bool, is_cast: bool, kind: DelimiterKind) -> DelimiterKind
+    ensures { result ≡ loosened_kind is_loose is_cast kind }
 {
     match kind {
         DelimiterKind::InvisibleOpaque if is_loose => DelimiterKind::Invisible,
+        DelimiterKind::InvisibleOpaque if is_cast => DelimiterKind::Parenthesis,
         _ => kind,
     }
 }
@@ -183,7 +184,8 @@ fn place_of(enclosure: Enclosure, position: Position) -> Place
     }
 }
 
-/// Returns the expansion of a call, these trees, under that delimiter, with each opaque subtree that needs no parentheses as an invisible one.
+/// Returns the expansion of a call, these trees, under that delimiter, with each opaque subtree that needs no parentheses as an invisible one, and
+/// with parentheses around any other type after `as`.
 /// `position` is that before the first of the trees, and `enclosure` is theirs.
 /// The fault is `Memory`, or a limit that the tree exceeds.
 pub fn loosened(

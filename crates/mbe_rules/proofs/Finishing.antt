@@ -58,7 +58,7 @@ starts_whole parts binding it delimiter builder = ap (λ b. finished (first_leve
 -- At the end no level is left.
 none_left : (template : Template) (closing : Closing) (behind : List Bit) → [] ≡ bits_of template (end_of closing ∷ behind) → ⊥
 none_left nothing closing behind is = cc is
-none_left (use_of at variable others) closing behind is = cc is
+none_left (use_of at variable less_follows others) closing behind is = cc is
 none_left (token it others) closing behind is = cc is
 none_left (subtree delimiter inner others) closing behind is = cc is
 none_left (repetition at inner separator kind others) closing behind is = cc is

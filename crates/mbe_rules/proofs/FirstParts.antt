@@ -1,5 +1,5 @@
 -- The first part of a template, from what was read of its trees.
-use Rattle.std.proofs.Common.{◌≡◌, ◌-◌, ℕ, zero, suc, Bool, true, false, List, length, Option, Some, None, refl, ap, ap₂, sym, ◌∙◌, cond}
+use Rattle.std.proofs.Common.{◌≡◌, ◌-◌, ℕ, zero, suc, Bool, true, false, List, length, codes, Option, Some, None, refl, ap, ap₂, sym, ◌∙◌, cond}
 use Rattle.tt.specs.Expectations.{is_at_node}
 use Rattle.tt.specs.Forest.{Forest, end, leaf, node, size}
 use Rattle.tt.specs.Gluing.{after_trees}
@@ -9,6 +9,7 @@ use Rattle.tt.specs.Types.Leaf.{Leaf}
 use Rattle.mbe_pattern.specs.declared.pattern.RepeatKind.{RepeatKind}
 use Rattle.mbe_matcher.specs.Grouping.{Where}
 use Rattle.mbe_pattern.specs.Spelling.{Tail, is_dollar, is_crate_in}
+use Rattle.mbe_pattern.specs.Units.{is_at_punct}
 use Rattle.mbe_pattern.proofs.Passing.{after_end}
 use Rattle.mbe_rules.specs.Spelling.{last_alone, seamed, Mark, mark_from, mark_in, mark_length, part_of, variable_in, template_behind, template_until}
 use Rattle.mbe_rules.specs.Spelling as spelling
@@ -16,15 +17,15 @@ use Rattle.mbe_rules.specs.Templates.{Template, inner_part}
 use Rattle.mbe_rules.specs.Templates as template
 
 -- Only a subtree begins a repetition.
-no_repetition : (b : Bool) (found : Option ℕ) (tail : Tail) → mark_from None b found ≡ spelling.repetition tail → ⊥
-no_repetition true found tail is = cc is
-no_repetition false None tail is = cc is
-no_repetition false (Some it) tail is = cc is
+no_repetition : (b : Bool) (found : Option ℕ) (less_follows : Bool) (tail : Tail) → mark_from None b found less_follows ≡ spelling.repetition tail → ⊥
+no_repetition true found less_follows tail is = cc is
+no_repetition false None less_follows tail is = cc is
+no_repetition false (Some it) less_follows tail is = cc is
 
 -- So the first tree is a subtree.
 pub node_there : (variables : List Where) (trees : Forest) (tail : Tail) → mark_in variables trees ≡ spelling.repetition tail → is_at_node trees ≡ false → ⊥
-node_there variables end tail is none = no_repetition (is_crate_in end) (variable_in variables end) tail is
-node_there variables (leaf it rest) tail is none = no_repetition (is_crate_in (leaf it rest)) (variable_in variables (leaf it rest)) tail is
+node_there variables end tail is none = no_repetition (is_crate_in end) (variable_in variables end) (is_at_punct (codes "<") end) tail is
+node_there variables (leaf it rest) tail is none = no_repetition (is_crate_in (leaf it rest)) (variable_in variables (leaf it rest)) (is_at_punct (codes "<") rest) tail is
 node_there variables (node delimiter children rest) tail is none = cc none
 
 module _ (variables : List Where) (until : ℕ) where
@@ -45,11 +46,11 @@ module _ (variables : List Where) (until : ℕ) where
         (template.token (seamed dollar rest) (template_behind variables until zero rest))) is
         ∙ ap (λ m. part_of (until - size (leaf dollar rest)) dollar m (inner_part (template_behind variables until zero rest)) (template_behind variables until (mark_length m) rest)) same
 
-    pub marked_use : (variable : ℕ) (behind : Forest) → mark_in variables rest ≡ spelling.use_of variable → behind ≡ after_tree rest
-        → template_until variables until (leaf dollar rest) ≡ template.use_of (until - size (leaf dollar rest)) variable (template_until variables until behind)
-    marked_use variable behind same left =
-        marked (spelling.use_of variable) same
-        ∙ ap (template.use_of (until - size (leaf dollar rest)) variable) (behind_passed 1 rest ∙ ap (template_until variables until) (sym left))
+    pub marked_use : (variable : ℕ) (less_follows : Bool) (behind : Forest) → mark_in variables rest ≡ spelling.use_of variable less_follows → behind ≡ after_tree rest
+        → template_until variables until (leaf dollar rest) ≡ template.use_of (until - size (leaf dollar rest)) variable less_follows (template_until variables until behind)
+    marked_use variable less_follows behind same left =
+        marked (spelling.use_of variable less_follows) same
+        ∙ ap (template.use_of (until - size (leaf dollar rest)) variable less_follows) (behind_passed 1 rest ∙ ap (template_until variables until) (sym left))
 
     pub marked_repetition : (delimiter : Delimiter) (children others behind : Forest) (separator : List Leaf) (kind : RepeatKind)
         → rest ≡ node delimiter children others → mark_in variables rest ≡ spelling.repetition (record { separator = separator; kind = kind })

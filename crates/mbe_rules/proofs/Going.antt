@@ -1,5 +1,5 @@
 -- How a template that is partly filled goes on, part by part.
-use Rattle.std.proofs.Common.{◌≡◌, ◌<◌, ℕ, List, [], ◌∷◌, refl, ap, ap₂, ◌∙◌, arith}
+use Rattle.std.proofs.Common.{◌≡◌, ◌<◌, ℕ, Bool, List, [], ◌∷◌, refl, ap, ap₂, ◌∙◌, arith}
 use Rattle.std.specs.Prelude.{slice_get}
 use Rattle.tt.specs.Building.{Stack, above, append}
 use Rattle.tt.specs.Forest.{end, leaf}
@@ -35,29 +35,33 @@ module _ (bits : List Bit) (whole : Binding) (outer : List Level) (rounds : List
   agree_on others is = (behind, is, bound, ends)
 
   -- A use comes first.
-  use_next : (at variable : ℕ) (rest : Template) → uses at variable ∷ left ≡ bits_of rest (end_of closing ∷ behind)
-      → Next bits whole (level_of rest binding closing ∷ outer) rounds closes left (append (trees_transcribed (slice_get (bound_here whole rounds) variable)))
-  use_next at variable nothing is = absurd (by closing is)
+  use_next : (at variable : ℕ) (less_follows : Bool) (rest : Template) → uses at variable less_follows ∷ left ≡ bits_of rest (end_of closing ∷ behind)
+      → Next bits whole (level_of rest binding closing ∷ outer) rounds closes left (append (trees_transcribed less_follows (slice_get (bound_here whole rounds) variable)))
+  use_next at variable less_follows nothing is = absurd (by closing is)
     where
-      by : (closing : Closing) → uses at variable ∷ left ≡ end_of closing ∷ behind → ⊥
+      by : (closing : Closing) → uses at variable less_follows ∷ left ≡ end_of closing ∷ behind → ⊥
       by last is = cc is
       by (shut span) is = cc is
       by (again body separator kind n others) is = cc is
-  use_next at variable (use_of there which others) is =
+  use_next at variable less_follows (use_of there which less others) is =
       record {
         news = level_of others binding closing ∷ outer;
         agree = agree_on others (cc is);
         same =
-            λ stack. ap (λ w. finished outer (behind_end closing w)) (write_both (all_transcribed (trees_transcribed (slice_get binding which))) (transcribed others binding) (sound stack))
-            ∙ ap₂ (λ b v. finished outer (behind_end closing (write (transcribed others binding) (sound (append (trees_transcribed (slice_get b v)) stack))))) bound same_variable;
+            λ stack. ap (λ w. finished outer (behind_end closing w)) (write_both (all_transcribed (trees_transcribed less (slice_get binding which))) (transcribed others binding) (sound stack))
+            ∙ ap₂ (λ b v. finished outer (behind_end closing (write (transcribed others binding) (sound (append (trees_transcribed less (slice_get b v)) stack))))) bound same_variable
+            ∙ ap (λ l. finished outer (behind_end closing (write (transcribed others binding) (sound (append (trees_transcribed l (slice_get (bound_here whole rounds) variable)) stack))))) same_less;
         less = omega arith;
       }
     where
       same_variable : which ≡ variable
       same_variable = cc is
-  use_next at variable (token it others) is = absurd (cc is)
-  use_next at variable (subtree delimiter inner others) is = absurd (cc is)
-  use_next at variable (repetition there inner separator kind others) is = absurd (cc is)
+
+      same_less : less ≡ less_follows
+      same_less = cc is
+  use_next at variable less_follows (token it others) is = absurd (cc is)
+  use_next at variable less_follows (subtree delimiter inner others) is = absurd (cc is)
+  use_next at variable less_follows (repetition there inner separator kind others) is = absurd (cc is)
 
   -- A token comes first.
   token_next : (it : Leaf) (rest : Template) → same it ∷ left ≡ bits_of rest (end_of closing ∷ behind)
@@ -68,7 +72,7 @@ module _ (bits : List Bit) (whole : Binding) (outer : List Level) (rounds : List
       by last is = cc is
       by (shut span) is = cc is
       by (again body separator kind n others) is = cc is
-  token_next it (use_of there which others) is = absurd (cc is)
+  token_next it (use_of there which less others) is = absurd (cc is)
   token_next it (token other others) is =
       record {
         news = level_of others binding closing ∷ outer;
@@ -93,7 +97,7 @@ module _ (bits : List Bit) (whole : Binding) (outer : List Level) (rounds : List
       by last is = cc is
       by (shut span) is = cc is
       by (again body separator kind n others) is = cc is
-  enter_next delimiter (use_of there which others) is = absurd (cc is)
+  enter_next delimiter (use_of there which less others) is = absurd (cc is)
   enter_next delimiter (token other others) is = absurd (cc is)
   enter_next delimiter (subtree other inner others) is =
       record {
@@ -115,11 +119,11 @@ module _ (bits : List Bit) (whole : Binding) (outer : List Level) (rounds : List
 
 -- what holds of the levels if that part comes first
 module _ (bits : List Bit) (whole : Binding) (rounds : List Round) (closes : List Span) (left : List Bit) where
-  pub goes_use : (at variable : ℕ) (levels : List Level) → AreLevels bits whole levels rounds closes (uses at variable ∷ left)
-      → Next bits whole levels rounds closes left (append (trees_transcribed (slice_get (bound_here whole rounds) variable)))
-  goes_use at variable [] agree = absurd (cc agree.2)
-  goes_use at variable (level ∷ outer) (behind, is, bound, ends) =
-      use_next bits whole outer rounds closes level.binding level.closing behind left bound ends at variable level.rest is
+  pub goes_use : (at variable : ℕ) (less_follows : Bool) (levels : List Level) → AreLevels bits whole levels rounds closes (uses at variable less_follows ∷ left)
+      → Next bits whole levels rounds closes left (append (trees_transcribed less_follows (slice_get (bound_here whole rounds) variable)))
+  goes_use at variable less_follows [] agree = absurd (cc agree.2)
+  goes_use at variable less_follows (level ∷ outer) (behind, is, bound, ends) =
+      use_next bits whole outer rounds closes level.binding level.closing behind left bound ends at variable less_follows level.rest is
 
   pub goes_token : (it : Leaf) (levels : List Level) → AreLevels bits whole levels rounds closes (same it ∷ left)
       → Next bits whole levels rounds closes left (append (leaf it end))

@@ -13,7 +13,7 @@ use Rattle.mbe_rules.specs.Templates.{Template, nothing, use_of, token, subtree,
 -- how many parts a template has, at any depth
 abbrev pub parts : Template → ℕ
 parts nothing = 0
-parts (use_of at variable others) = suc (parts others)
+parts (use_of at variable less_follows others) = suc (parts others)
 parts (token it others) = suc (parts others)
 parts (subtree delimiter inner others) = suc (parts inner + parts others)
 parts (repetition at inner separator kind others) = suc (parts inner + parts others)
@@ -33,7 +33,7 @@ module _ (variables : List Where) (whole others : Template) (closing : Option Ta
       → (stepped variables found (level_of others closing) outer).bit ∷ bits_left (stepped variables found (level_of others closing) outer).levels
       ≡ bits_left (level_of whole closing ∷ outer)
   left_step first.End is = ap (λ t. bits_of t (end_bit closing ∷ bits_left outer)) (sym is)
-  left_step (first.Use at variable) is = ap (λ t. bits_of t (end_bit closing ∷ bits_left outer)) (sym is)
+  left_step (first.Use at variable less_follows) is = ap (λ t. bits_of t (end_bit closing ∷ bits_left outer)) (sym is)
   left_step (first.Token it) is = ap (λ t. bits_of t (end_bit closing ∷ bits_left outer)) (sym is)
   left_step (first.Subtree delimiter inner until) is = ap (λ t. bits_of t (end_bit closing ∷ bits_left outer)) (sym is)
   left_step (first.Repetition at inner until tail) is = ap (λ t. bits_of t (end_bit closing ∷ bits_left outer)) (sym is)
@@ -42,7 +42,7 @@ module _ (variables : List Where) (whole others : Template) (closing : Option Ta
   pub less_step : (found : First) → IsFirst variables whole found others
       → work_of (stepped variables found (level_of others closing) outer).levels < work_of (level_of whole closing ∷ outer)
   less_step first.End is = omega arith
-  less_step (first.Use at variable) is = omega (arith, ap parts is)
+  less_step (first.Use at variable less_follows) is = omega (arith, ap parts is)
   less_step (first.Token it) is = omega (arith, ap parts is)
   less_step (first.Subtree delimiter inner until) is = omega (arith, ap parts is)
   less_step (first.Repetition at inner until tail) is = omega (arith, ap parts is)

@@ -51,7 +51,7 @@ module _ (bits : List Bit) (whole : Binding) (left : List Bit) where
         subst_left e it = subst (λ l. AreLevels bits whole outer rounds [] l) e it
     end_all (shut span) rounds nothing is (others, some, more) = absurd (cc some)
     end_all (again body separator kind n others) rounds nothing is ends = absurd (cc is)
-    end_all closing rounds (use_of there which others) is ends = absurd (cc is)
+    end_all closing rounds (use_of there which less others) is ends = absurd (cc is)
     end_all closing rounds (token other others) is ends = absurd (cc is)
     end_all closing rounds (subtree delimiter inner others) is ends = absurd (cc is)
     end_all closing rounds (repetition there inner separator kind others) is ends = absurd (cc is)
@@ -74,7 +74,7 @@ module _ (bits : List Bit) (whole : Binding) (left : List Bit) where
         moved : others ≡ more → behind ≡ left → AreLevels bits whole outer rounds others behind → AreLevels bits whole outer rounds more left
         moved e f it = subst (λ l. AreLevels bits whole outer rounds more l) f (subst (λ l. AreLevels bits whole outer rounds l behind) e it)
     end_subtree (again body separator kind n others) rounds span more nothing is ends = absurd (cc is)
-    end_subtree closing rounds span more (use_of there which others) is ends = absurd (cc is)
+    end_subtree closing rounds span more (use_of there which less others) is ends = absurd (cc is)
     end_subtree closing rounds span more (token other others) is ends = absurd (cc is)
     end_subtree closing rounds span more (subtree delimiter inner others) is ends = absurd (cc is)
     end_subtree closing rounds span more (repetition there inner separator kind others) is ends = absurd (cc is)
@@ -175,7 +175,7 @@ module _ (bits : List Bit) (whole : Binding) (left : List Bit) where
       where
         moved : rest ≡ more → behind ≡ left → AreLevels bits whole outer rest closes behind → AreLevels bits whole outer more closes left
         moved e f it = subst (λ l. AreLevels bits whole outer more closes l) f (subst (λ l. AreLevels bits whole outer l closes behind) e it)
-    close_last closing (use_of there which others) is ends past = absurd (cc is)
+    close_last closing (use_of there which less others) is ends past = absurd (cc is)
     close_last closing (token other others) is ends past = absurd (cc is)
     close_last closing (subtree delimiter inner others) is ends past = absurd (cc is)
     close_last closing (repetition there inner other_separator other_kind others) is ends past = absurd (cc is)
@@ -244,7 +244,7 @@ module _ (bits : List Bit) (whole : Binding) (left : List Bit) where
             write_both (all_transcribed (leaves other_separator)) (and_then first behind_first) (sound stack)
             ∙ write_both first behind_first (sound (append (leaves other_separator) stack))
             ∙ ap (λ l. write behind_first (write first (sound (append (leaves l) stack)))) same_separator
-    close_again closing (use_of there which others) is ends within = absurd (cc is)
+    close_again closing (use_of there which less others) is ends within = absurd (cc is)
     close_again closing (token other others) is ends within = absurd (cc is)
     close_again closing (subtree delimiter inner others) is ends within = absurd (cc is)
     close_again closing (repetition there inner other_separator other_kind others) is ends within = absurd (cc is)
@@ -264,7 +264,7 @@ repeats : (rest : Template) (closing : Closing) (behind : List Bit) (at : ℕ) (
 repeats nothing last behind at left is = absurd (cc is)
 repeats nothing (shut span) behind at left is = absurd (cc is)
 repeats nothing (again body separator kind n others) behind at left is = absurd (cc is)
-repeats (use_of there which others) closing behind at left is = absurd (cc is)
+repeats (use_of there which less others) closing behind at left is = absurd (cc is)
 repeats (token it others) closing behind at left is = absurd (cc is)
 repeats (subtree delimiter inner others) closing behind at left is = absurd (cc is)
 repeats (repetition there inner separator kind others) closing behind at left is =
@@ -342,7 +342,7 @@ round_there bits whole left closes separator kind (level ∷ outer) (behind, is,
     by nothing last is ends = cc is
     by nothing (shut span) is ends = cc is
     by nothing (again body other_separator other_kind n others) is (it, more, some, round, agree) = cc some
-    by (use_of there which others) closing is ends = cc is
+    by (use_of there which less others) closing is ends = cc is
     by (token it others) closing is ends = cc is
     by (subtree delimiter inner others) closing is ends = cc is
     by (repetition there inner other_separator other_kind others) closing is ends = cc is

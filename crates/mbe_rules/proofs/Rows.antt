@@ -1,9 +1,9 @@
 -- Worked templates: each holds by computation.
-use Rattle.std.proofs.Common.{◌≡◌, ℕ, List, [], ◌∷◌, Option, None, Some, codes, refl, lit<, lit≤, not-le_of_lt}
+use Rattle.std.proofs.Common.{◌≡◌, ℕ, List, [], ◌∷◌, true, false, Option, None, Some, codes, refl, lit<, lit≤, not-le_of_lt}
 use Rattle.tt.specs.Forest.{Forest, end, leaf, node, join, size}
 use Rattle.tt.specs.Types.Delimiter.{Delimiter}
-use Rattle.tt.specs.Types.DelimiterKind.TheVariants.{Parenthesis, Brace, InvisibleOpaque}
-use Rattle.tt.specs.Types.IdentIsRaw.TheVariants.{Yes}
+use Rattle.tt.specs.Types.DelimiterKind.TheVariants.{Parenthesis, Brace, Bracket, InvisibleOpaque}
+use Rattle.tt.specs.Types.IdentIsRaw.TheVariants.{Yes, No}
 use Rattle.tt.specs.Types.Leaf.TheVariants as leaf_of
 use Rattle.tt.specs.Types.LitKind.TheVariants.{Integer}
 use Rattle.tt.specs.Types.Spacing.TheVariants.{Alone, Joint}
@@ -63,10 +63,10 @@ abbrev variables : List Where
 variables = record { variable = nameless; number = 0; nest = [] } ∷ variable x [] ∷ variable y (1 ∷ []) ∷ variable z (1 ∷ 2 ∷ []) ∷ []
 
 -- `$x` is a use, and `$r#x` too.
-use_spelled : template_of variables (alone 36 (word x (alone 59 end))) ≡ use_of 0 1 (token (punct 59 Alone) nothing)
+use_spelled : template_of variables (alone 36 (word x (alone 59 end))) ≡ use_of 0 1 false (token (punct 59 Alone) nothing)
 use_spelled = refl
 
-raw_spelled : template_of variables (alone 36 (raw_word x end)) ≡ use_of 0 1 nothing
+raw_spelled : template_of variables (alone 36 (raw_word x end)) ≡ use_of 0 1 false nothing
 raw_spelled = refl
 
 -- `$a`, `$crate` and `$_` stay as they are, and so does a `$` at the end.
@@ -86,20 +86,20 @@ last_stays : template_of variables (alone 36 end) ≡ dollar_leaf nothing
 last_stays = refl
 
 -- `$$x` is `$`, and a use.
-second_used : template_of variables (alone 36 (alone 36 (word x end))) ≡ dollar_leaf (use_of 1 1 nothing)
+second_used : template_of variables (alone 36 (alone 36 (word x end))) ≡ dollar_leaf (use_of 1 1 false nothing)
 second_used = refl
 
 -- `$($y),*` and `$($y)+`; `$($y)` is no repetition, and neither is `$[$y]*`.
 list_spelled : template_of variables (rounds (alone 36 (word y end)) (alone 44 (alone 42 (word x end))))
-    ≡ repetition 0 (use_of 2 2 nothing) (punct 44 Alone ∷ []) repeat.ZeroOrMore (token (ident x) nothing)
+    ≡ repetition 0 (use_of 2 2 false nothing) (punct 44 Alone ∷ []) repeat.ZeroOrMore (token (ident x) nothing)
 list_spelled = refl
 
 more_spelled : template_of variables (rounds (alone 36 (word y end)) (alone 43 end))
-    ≡ repetition 0 (use_of 2 2 nothing) [] repeat.OneOrMore nothing
+    ≡ repetition 0 (use_of 2 2 false nothing) [] repeat.OneOrMore nothing
 more_spelled = refl
 
 no_tail : template_of variables (rounds (alone 36 (word y end)) end)
-    ≡ dollar_leaf (held_by (delimiter Parenthesis (span 0 1) (span 1 1)) (use_of 2 2 nothing) nothing)
+    ≡ dollar_leaf (held_by (delimiter Parenthesis (span 0 1) (span 1 1)) (use_of 2 2 false nothing) nothing)
 no_tail = refl
 
 brace_stays : template_of variables (alone 36 (join (subtree Brace end) (alone 42 end)))
@@ -108,7 +108,7 @@ brace_stays = refl
 
 -- Its parts.
 list_parts : all_bits (template_of variables (rounds (alone 36 (word y end)) (alone 44 (alone 42 (word x end)))))
-    ≡ begin 0 ∷ uses 2 2 ∷ close (punct 44 Alone ∷ []) repeat.ZeroOrMore ∷ same (ident x) ∷ leave ∷ []
+    ≡ begin 0 ∷ uses 2 2 false ∷ close (punct 44 Alone ∷ []) repeat.ZeroOrMore ∷ same (ident x) ∷ leave ∷ []
 list_parts = refl
 
 -- what is wrong with trees as a template
@@ -237,17 +237,17 @@ fault_first = (refl, lit≤ tt, lit≤ tt)
 abbrev joint : ℕ → Forest → Forest
 joint char rest = leaf (punct char Joint) rest
 
-before_use : template_of variables (joint 60 (alone 36 (word x end))) ≡ token (punct 60 Alone) (use_of 1 1 nothing)
+before_use : template_of variables (joint 60 (alone 36 (word x end))) ≡ token (punct 60 Alone) (use_of 1 1 false nothing)
 before_use = refl
 
 before_punct : template_of variables (joint 58 (alone 58 end)) ≡ token (punct 58 Joint) (token (punct 58 Alone) nothing)
 before_punct = refl
 
 joint_separator : template_of variables (rounds (alone 36 (word y end)) (joint 61 (joint 62 (alone 42 end))))
-    ≡ repetition 0 (use_of 2 2 nothing) (punct 61 Joint ∷ punct 62 Alone ∷ []) repeat.ZeroOrMore nothing
+    ≡ repetition 0 (use_of 2 2 false nothing) (punct 61 Joint ∷ punct 62 Alone ∷ []) repeat.ZeroOrMore nothing
 joint_separator = refl
 
-joint_bound : transcribed (use_of 0 0 (token (punct 61 Alone) nothing)) (bind x (one (joint 61 (joint 62 end))) ∷ []) ≡ all_transcribed (joint 61 (alone 62 (alone 61 end)))
+joint_bound : transcribed (use_of 0 0 false (token (punct 61 Alone) nothing)) (bind x (one (joint 61 (joint 62 end))) ∷ []) ≡ all_transcribed (joint 61 (alone 62 (alone 61 end)))
 joint_bound = refl
 
 -- What a fragment of Rust's grammar took: an expression of more than one token becomes one opaque subtree with the spans of its ends. A
@@ -259,21 +259,42 @@ bound_as which trees = record { variable = record { name = Some x; fragment = wh
 abbrev sum : Forest
 sum = leaf (leaf_of.Ident (record { sym = codes "a"; span = span 0 1; is_raw = Yes })) (alone 43 (leaf (leaf_of.Ident (record { sym = codes "b"; span = span 4 5; is_raw = Yes })) end))
 
-sum_bound : transcribed (use_of 0 0 nothing) (bound_as (fragment.Grammar grammar.Expr) sum)
+sum_bound : transcribed (use_of 0 0 false nothing) (bound_as (fragment.Grammar grammar.Expr) sum)
     ≡ all_transcribed (node (record { open_span = span 0 1; close = span 4 5; kind = InvisibleOpaque }) sum end)
 sum_bound = refl
 
-sum_again : transcribed (use_of 0 0 nothing) (bound_as (fragment.Grammar grammar.Pat) (node (delimiter InvisibleOpaque (span 0 1) (span 4 5)) sum end))
+sum_again : transcribed (use_of 0 0 false nothing) (bound_as (fragment.Grammar grammar.Pat) (node (delimiter InvisibleOpaque (span 0 1) (span 4 5)) sum end))
     ≡ all_transcribed (node (delimiter InvisibleOpaque (span 0 1) (span 4 5)) sum end)
 sum_again = refl
 
-token_bound : transcribed (use_of 0 0 nothing) (bound_as (fragment.Grammar grammar.Ty) (word (codes "a") end)) ≡ all_transcribed (word (codes "a") end)
+token_bound : transcribed (use_of 0 0 false nothing) (bound_as (fragment.Grammar grammar.Ty) (word (codes "a") end)) ≡ all_transcribed (word (codes "a") end)
 token_bound = refl
 
-dots_bound : transcribed (use_of 0 0 nothing) (bound_as (fragment.Grammar grammar.PatParam) (joint 46 (alone 46 end))) ≡ all_transcribed (joint 46 (alone 46 end))
+-- A type of one token becomes a subtree, too, if `<` follows it, as in `$x as $t < 5`; no other piece does.
+less_spelled : template_of variables (alone 36 (word x (alone 60 end))) ≡ use_of 0 1 true (token (punct 60 Alone) nothing)
+less_spelled = refl
+
+shift_spelled : template_of variables (alone 36 (word x (joint 60 (alone 60 end)))) ≡ use_of 0 1 true (token (punct 60 Joint) (token (punct 60 Alone) nothing))
+shift_spelled = refl
+
+-- `u` with this span
+abbrev u : Forest
+u = leaf (leaf_of.Ident (record { sym = codes "u"; span = span 2 3; is_raw = No })) end
+
+type_joined : transcribed (use_of 0 0 true nothing) (bound_as (fragment.Grammar grammar.Ty) u) ≡ all_transcribed (node (delimiter InvisibleOpaque (span 2 3) (span 2 3)) u end)
+type_joined = refl
+
+list_not_joined : transcribed (use_of 0 0 true nothing) (bound_as (fragment.Grammar grammar.Ty) (node (delimiter Bracket (span 0 1) (span 3 4)) u end))
+    ≡ all_transcribed (node (delimiter Bracket (span 0 1) (span 3 4)) u end)
+list_not_joined = refl
+
+name_not_joined : transcribed (use_of 0 0 true nothing) (bound_as (fragment.Grammar grammar.Expr) u) ≡ all_transcribed u
+name_not_joined = refl
+
+dots_bound : transcribed (use_of 0 0 false nothing) (bound_as (fragment.Grammar grammar.PatParam) (joint 46 (alone 46 end))) ≡ all_transcribed (joint 46 (alone 46 end))
 dots_bound = refl
 
-path_bound : transcribed (use_of 0 0 nothing) (bound_as (fragment.Grammar grammar.Path) sum) ≡ all_transcribed sum
+path_bound : transcribed (use_of 0 0 false nothing) (bound_as (fragment.Grammar grammar.Path) sum) ≡ all_transcribed sum
 path_bound = refl
 
 -- `3` and `-3` before others
@@ -284,9 +305,9 @@ abbrev minus_three : Forest → Forest
 minus_three rest = alone 45 (three rest)
 
 -- A literal of more than one token, as `-3`, becomes one opaque subtree, too.
-negative_bound : transcribed (use_of 0 0 nothing) (bound_as fragment.Literal (minus_three end))
+negative_bound : transcribed (use_of 0 0 false nothing) (bound_as fragment.Literal (minus_three end))
     ≡ all_transcribed (node (delimiter InvisibleOpaque (span 0 1) (span 0 1)) (minus_three end) end)
 negative_bound = refl
 
-three_bound : transcribed (use_of 0 0 nothing) (bound_as fragment.Literal (three end)) ≡ all_transcribed (three end)
+three_bound : transcribed (use_of 0 0 false nothing) (bound_as fragment.Literal (three end)) ≡ all_transcribed (three end)
 three_bound = refl

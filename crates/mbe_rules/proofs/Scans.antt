@@ -16,7 +16,7 @@ use Rattle.mbe_rules.specs.Templates.{Template, nothing, use_of, token, subtree,
 -- The uses of a template, before others.
 uses_of_parts : (n : ℕ) (template : Template) (behind : List Bit) → uses_before n (bits_of template behind) ≡ used_in template ++ uses_before n behind
 uses_of_parts n nothing behind = refl
-uses_of_parts n (use_of at variable others) behind = ap (λ l. variable ∷ l) (uses_of_parts n others behind)
+uses_of_parts n (use_of at variable less_follows others) behind = ap (λ l. variable ∷ l) (uses_of_parts n others behind)
 uses_of_parts n (token it others) behind = uses_of_parts n others behind
 uses_of_parts n (subtree delimiter inner others) behind =
     uses_of_parts n inner (leave ∷ bits_of others behind)
@@ -30,7 +30,7 @@ uses_of_parts n (repetition at inner separator kind others) behind =
 -- It has no end of a repetition outside of it.
 kind_of_parts : (n : ℕ) (template : Template) (behind : List Bit) → kind_before n (bits_of template behind) ≡ kind_before n behind
 kind_of_parts n nothing behind = refl
-kind_of_parts n (use_of at variable others) behind = kind_of_parts n others behind
+kind_of_parts n (use_of at variable less_follows others) behind = kind_of_parts n others behind
 kind_of_parts n (token it others) behind = kind_of_parts n others behind
 kind_of_parts n (subtree delimiter inner others) behind = kind_of_parts n inner (leave ∷ bits_of others behind) ∙ kind_of_parts n others behind
 kind_of_parts n (repetition at inner separator kind others) behind =
@@ -38,7 +38,7 @@ kind_of_parts n (repetition at inner separator kind others) behind =
 
 behind_parts : (n : ℕ) (template : Template) (behind : List Bit) → behind_close n (bits_of template behind) ≡ behind_close n behind
 behind_parts n nothing behind = refl
-behind_parts n (use_of at variable others) behind = behind_parts n others behind
+behind_parts n (use_of at variable less_follows others) behind = behind_parts n others behind
 behind_parts n (token it others) behind = behind_parts n others behind
 behind_parts n (subtree delimiter inner others) behind = behind_parts n inner (leave ∷ bits_of others behind) ∙ behind_parts n others behind
 behind_parts n (repetition at inner separator kind others) behind =

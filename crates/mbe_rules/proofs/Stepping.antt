@@ -1,5 +1,5 @@
 -- Where each part of a template leads, and which errors it gives.
-use Rattle.std.proofs.Common.{◌≡◌, ◌+◌, ◌<◌, ◌≤◌, ℕ, suc, List, [], ◌∷◌, ◌++◌, drop, reverse, Some, Ok, Err, inl, inr, refl, ap, ap₂, sym, subst, ◌∙◌, arith}
+use Rattle.std.proofs.Common.{◌≡◌, ◌+◌, ◌<◌, ◌≤◌, ℕ, suc, Bool, List, [], ◌∷◌, ◌++◌, drop, reverse, Some, Ok, Err, inl, inr, refl, ap, ap₂, sym, subst, ◌∙◌, arith}
 use Rattle.std.proofs.lemmas.List.{reverse-append}
 use Rattle.std.specs.Prelude.{slice_get}
 use Rattle.tt.specs.Building.{Stack, above, append, close_innermost, tokens_held}
@@ -71,18 +71,18 @@ module _ (bits : List Bit) (whole : Binding) (levels : List Level) (left : List 
     closes = reverse old.closes.items
 
     -- A use.
-    pub use_steps : (new : Transcriber) (at variable : ℕ) → IsAt bits whole levels old (uses at variable ∷ left)
-        → Grows (trees_transcribed (slice_get (bound_here whole rounds) variable)) old new → Goes bits whole levels old new left
-    use_steps new at variable is grows =
-        let trees = trees_transcribed (slice_get (bound_here whole rounds) variable) in
-        goes_on old new rounds closes (append trees) (goes_use bits whole rounds closes left at variable levels is.agree)
+    pub use_steps : (new : Transcriber) (at variable : ℕ) (less_follows : Bool) → IsAt bits whole levels old (uses at variable less_follows ∷ left)
+        → Grows (trees_transcribed less_follows (slice_get (bound_here whole rounds) variable)) old new → Goes bits whole levels old new left
+    use_steps new at variable less_follows is grows =
+        let trees = trees_transcribed less_follows (slice_get (bound_here whole rounds) variable) in
+        goes_on old new rounds closes (append trees) (goes_use bits whole rounds closes left at variable less_follows levels is.agree)
         (ap (λ r. reverse r.items) grows.rounds) (ap (λ r. reverse r.items) grows.closes) grows.stack (grows.few is.few) grows.top grows.most
 
-    pub use_stops : (at variable : ℕ) (fault : TranscribeError) → IsAt bits whole levels old (uses at variable ∷ left)
-        → IsWant (size (trees_transcribed (slice_get (bound_here whole rounds) variable))) old fault → IsStop (most_of old) (finished levels (written_by old)) fault
-    use_stops at variable fault is want =
-        let trees = trees_transcribed (slice_get (bound_here whole rounds) variable) in
-        want_stops old rounds closes left (append trees) (size trees) fault (goes_use bits whole rounds closes left at variable levels is.agree) (held-append trees old.builder.stack) want
+    pub use_stops : (at variable : ℕ) (less_follows : Bool) (fault : TranscribeError) → IsAt bits whole levels old (uses at variable less_follows ∷ left)
+        → IsWant (size (trees_transcribed less_follows (slice_get (bound_here whole rounds) variable))) old fault → IsStop (most_of old) (finished levels (written_by old)) fault
+    use_stops at variable less_follows fault is want =
+        let trees = trees_transcribed less_follows (slice_get (bound_here whole rounds) variable) in
+        want_stops old rounds closes left (append trees) (size trees) fault (goes_use bits whole rounds closes left at variable less_follows levels is.agree) (held-append trees old.builder.stack) want
 
     -- A token.
     pub token_steps : (new : Transcriber) (it : Leaf) → IsAt bits whole levels old (same it ∷ left) → Grows (leaf it end) old new → Goes bits whole levels old new left

@@ -58,7 +58,7 @@ module _ (variables : List Where) where
   -- The parts of a template, before others.
   pub validated_parts : (template : Template) (behind : List Bit) → validated_of variables (bits_of template behind) ≡ validated_on variables template (validated_of variables behind)
   validated_parts nothing behind = let it = validated_of variables behind in ap (validated it.fault) (sym (raised_none it.depths))
-  validated_parts (use_of at variable others) behind =
+  validated_parts (use_of at variable less_follows others) behind =
       let it = validated_of variables behind in
       let d = depth_of variables variable in
       ap (used_with at d) (validated_parts others behind)

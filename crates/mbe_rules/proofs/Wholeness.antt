@@ -9,7 +9,7 @@ use Rattle.mbe_rules.specs.Wholes.{Read, read, put, levels_in, first_in, whole_o
 pub read_parts : (template : Template) (ending : Bit) (behind : List Bit) (levels : List Read) → put ending (levels_in behind) ≡ read nothing ending ∷ levels
     → levels_in (bits_of template (ending ∷ behind)) ≡ read template ending ∷ levels
 read_parts nothing ending behind levels is = is
-read_parts (use_of at variable others) ending behind levels is = ap (put (uses at variable)) (read_parts others ending behind levels is)
+read_parts (use_of at variable less_follows others) ending behind levels is = ap (put (uses at variable less_follows)) (read_parts others ending behind levels is)
 read_parts (token it others) ending behind levels is = ap (put (same it)) (read_parts others ending behind levels is)
 read_parts (subtree delimiter inner others) ending behind levels is =
     ap (put (enter delimiter))

@@ -40,7 +40,7 @@ round_error (no_round at) = NoRound at
 -- the variables used before the end of the repetition, if that many inner repetitions are open
 abbrev pub uses_before : (open_count : ℕ) → List Bit → List ℕ
 uses_before n [] = []
-uses_before n (uses at variable ∷ others) = variable ∷ uses_before n others
+uses_before n (uses at variable less_follows ∷ others) = variable ∷ uses_before n others
 uses_before n (same it ∷ others) = uses_before n others
 uses_before n (enter delimiter ∷ others) = uses_before n others
 uses_before n (leave ∷ others) = uses_before n others
@@ -51,7 +51,7 @@ uses_before (suc n) (close separator kind ∷ others) = uses_before n others
 -- the kind of that repetition
 abbrev pub kind_before : (open_count : ℕ) → List Bit → RepeatKind
 kind_before n [] = ZeroOrMore
-kind_before n (uses at variable ∷ others) = kind_before n others
+kind_before n (uses at variable less_follows ∷ others) = kind_before n others
 kind_before n (same it ∷ others) = kind_before n others
 kind_before n (enter delimiter ∷ others) = kind_before n others
 kind_before n (leave ∷ others) = kind_before n others
@@ -62,7 +62,7 @@ kind_before (suc n) (close separator kind ∷ others) = kind_before n others
 -- the parts after it
 abbrev pub behind_close : (open_count : ℕ) → List Bit → List Bit
 behind_close n [] = []
-behind_close n (uses at variable ∷ others) = behind_close n others
+behind_close n (uses at variable less_follows ∷ others) = behind_close n others
 behind_close n (same it ∷ others) = behind_close n others
 behind_close n (enter delimiter ∷ others) = behind_close n others
 behind_close n (leave ∷ others) = behind_close n others

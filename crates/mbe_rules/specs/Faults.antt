@@ -21,7 +21,7 @@ round_fault at depth deep = if nat_lt depth deep then None else Some (error.Noth
 -- the first fault in reading order, if that many repetitions enclose the template
 abbrev pub fault_at : List Where → (depth : ℕ) → Template → Option TemplateError
 fault_at variables depth nothing = None
-fault_at variables depth (use_of at variable others) = or_else (use_fault at depth (depth_of variables variable)) (fault_at variables depth others)
+fault_at variables depth (use_of at variable less_follows others) = or_else (use_fault at depth (depth_of variables variable)) (fault_at variables depth others)
 fault_at variables depth (token it others) = fault_at variables depth others
 fault_at variables depth (subtree delimiter inner others) = or_else (fault_at variables depth inner) (fault_at variables depth others)
 fault_at variables depth (repetition at inner separator kind others) =

@@ -1,14 +1,16 @@
 -- What template trees spell.
-use Rattle.std.specs.Prelude.{◌-◌, ℕ, zero, suc, Bool, true, false, List, [], ◌∷◌, Option, None, Some, if◌then◌else◌}
+use Rattle.std.specs.Prelude.{◌-◌, ℕ, zero, suc, Bool, true, false, List, [], ◌∷◌, Option, None, Some, codes, if◌then◌else◌}
 use Rattle.std.specs.List.{position}
 use Rattle.tt.specs.Building.{leaf_alone}
 use Rattle.tt.specs.Expectations.{first_leaf_as, as_ident_or_underscore, unless_underscore}
 use Rattle.tt.specs.Forest.{Forest, end, leaf, node, size}
+use Rattle.tt.specs.Moves.{after_tree}
 use Rattle.tt.specs.Types.Ident.{Ident}
 use Rattle.tt.specs.Types.Leaf.{Leaf}
 use Rattle.mbe_matcher.specs.Bindings.{is_name}
 use Rattle.mbe_matcher.specs.Grouping.{Where}
 use Rattle.mbe_pattern.specs.Spelling.{Tail, tail_length, repetition_in, is_crate_in, is_dollar}
+use Rattle.mbe_pattern.specs.Units.{is_at_punct}
 use Rattle.mbe_rules.specs.Templates.{Template, inner_part}
 use Rattle.mbe_rules.specs.Templates as template
 
@@ -26,24 +28,25 @@ variable_in variables siblings = variable_from variables (unless_underscore (fir
 
 -- what a `$` begins in a template
 pub data Mark : Type 0 where
-  use_of : ℕ → Mark
+  use_of : (variable : ℕ) → (less_follows : Bool) → Mark
   repetition : Tail → Mark
   nothing : Mark
 
 -- a repetition; otherwise a use of a variable, unless it is `$crate`; otherwise nothing
-abbrev pub mark_from : Option Tail → (crate_there : Bool) → Option ℕ → Mark
-mark_from (Some tail) crate_there found = repetition tail
-mark_from None true found = nothing
-mark_from None false (Some variable) = use_of variable
-mark_from None false None = nothing
+abbrev pub mark_from : Option Tail → (crate_there : Bool) → Option ℕ → (less_follows : Bool) → Mark
+mark_from (Some tail) crate_there found less_follows = repetition tail
+mark_from None true found less_follows = nothing
+mark_from None false (Some variable) less_follows = use_of variable less_follows
+mark_from None false None less_follows = nothing
 
 -- what a `$` before these siblings begins
 abbrev pub mark_in : List Where → Forest → Mark
-mark_in variables siblings = mark_from (repetition_in siblings) (is_crate_in siblings) (variable_in variables siblings)
+mark_in variables siblings =
+    mark_from (repetition_in siblings) (is_crate_in siblings) (variable_in variables siblings) (is_at_punct (codes "<") (after_tree siblings))
 
 -- how many trees belong to the mark: a name, or parentheses and a tail
 abbrev pub mark_length : Mark → ℕ
-mark_length (use_of variable) = 1
+mark_length (use_of variable less_follows) = 1
 mark_length (repetition tail) = suc (tail_length tail)
 mark_length nothing = 0
 
@@ -65,7 +68,7 @@ seamed it rest = if is_dollar_in rest then leaf_alone it else it
 
 -- the part that a `$` at that flat place begins, before what follows; if it begins nothing, it is a literal token
 abbrev pub part_of : (at : ℕ) → Leaf → Mark → (held others : Template) → Template
-part_of at it (use_of variable) held others = template.use_of at variable others
+part_of at it (use_of variable less_follows) held others = template.use_of at variable less_follows others
 part_of at it (repetition tail) held others = template.repetition at held (last_alone tail.separator) tail.kind others
 part_of at it nothing held others = template.token it others
 

@@ -15,7 +15,7 @@ use Rattle.mbe_rules.specs.Templates as template
 -- the template begins with the part that was read, and the others follow it
 abbrev pub IsFirst : List Where → Template → First → (others : Template) → Type 0
 IsFirst variables whole first.End others = whole ≡ template.nothing
-IsFirst variables whole (first.Use at variable) others = whole ≡ template.use_of at variable others
+IsFirst variables whole (first.Use at variable less_follows) others = whole ≡ template.use_of at variable less_follows others
 IsFirst variables whole (first.Token it) others = whole ≡ template.token it others
 IsFirst variables whole (first.Subtree delimiter inner until) others = whole ≡ template.subtree delimiter (template_until variables until (rest_of inner)) others
 IsFirst variables whole (first.Repetition at inner until tail) others =
@@ -55,7 +55,7 @@ level_of rest closing = record { rest = rest; closing = closing }
 -- the part that was read from a level, given what is left of the level
 abbrev pub stepped : List Where → First → LevelLeft → (outer : List LevelLeft) → Step
 stepped variables first.End level outer = record { bit = end_bit level.closing; levels = outer }
-stepped variables (first.Use at variable) level outer = record { bit = uses at variable; levels = level ∷ outer }
+stepped variables (first.Use at variable less_follows) level outer = record { bit = uses at variable less_follows; levels = level ∷ outer }
 stepped variables (first.Token it) level outer = record { bit = same it; levels = level ∷ outer }
 stepped variables (first.Subtree delimiter inner until) level outer =
     record { bit = enter delimiter; levels = level_of (template_until variables until (rest_of inner)) None ∷ level ∷ outer }

@@ -24,7 +24,7 @@ pub record Transcribed : Type 0 where
 -- the variables that the template uses, at any depth
 abbrev pub used_in : Template → List ℕ
 used_in nothing = []
-used_in (use_of at variable others) = variable ∷ used_in others
+used_in (use_of at variable less_follows others) = variable ∷ used_in others
 used_in (token it others) = used_in others
 used_in (subtree delimiter inner others) = used_in inner ++ used_in others
 used_in (repetition at inner separator kind others) = used_in inner ++ used_in others
@@ -95,9 +95,9 @@ abbrev pub fragment_of : Option Named → Option Fragment
 fragment_of None = None
 fragment_of (Some it) = Some it.variable.fragment
 
--- the trees that replace a use
-abbrev pub trees_transcribed : Option Named → Forest
-trees_transcribed it = as_piece (fragment_of it) (trees_used it)
+-- the trees that replace a use, which a `<` follows or not
+abbrev pub trees_transcribed : (less_follows : Bool) → Option Named → Forest
+trees_transcribed less_follows it = as_piece (fragment_of it) less_follows (trees_used it)
 
 -- trees, and no fault
 abbrev pub all_transcribed : Forest → Transcribed
@@ -135,7 +135,8 @@ in_subtree delimiter it = record { trees = node delimiter it.trees end; fault = 
 -- the template in which each use is replaced, and each repetition filled once for each round
 abbrev pub transcribed : Template → Binding → Transcribed
 transcribed nothing binding = all_transcribed end
-transcribed (use_of at variable others) binding = and_then (all_transcribed (trees_transcribed (slice_get binding variable))) (transcribed others binding)
+transcribed (use_of at variable less_follows others) binding =
+    and_then (all_transcribed (trees_transcribed less_follows (slice_get binding variable))) (transcribed others binding)
 transcribed (token it others) binding = and_then (all_transcribed (leaf it end)) (transcribed others binding)
 transcribed (subtree delimiter inner others) binding = and_then (in_subtree delimiter (transcribed inner binding)) (transcribed others binding)
 transcribed (repetition at inner separator kind others) binding =

@@ -29,7 +29,7 @@ begun at (it ∷ outer) fault = record { fault = or_else (round_fault at (length
 
 -- one more part; the parts come from the last to the first
 abbrev pub validated_with : List Where → Bit → Validation → Validation
-validated_with variables (uses at variable) validated = used_with at (depth_of variables variable) validated
+validated_with variables (uses at variable less_follows) validated = used_with at (depth_of variables variable) validated
 validated_with variables (same it) validated = validated
 validated_with variables (enter delimiter) validated = validated
 validated_with variables leave validated = validated

@@ -24,7 +24,7 @@ put_repetition at inner other outer = outer
 
 -- one more part
 abbrev pub put : Bit → List Read → List Read
-put (uses at variable) levels = put_first (use_of at variable) levels
+put (uses at variable less_follows) levels = put_first (use_of at variable less_follows) levels
 put (same it) levels = put_first (token it) levels
 put (enter delimiter) [] = []
 put (enter delimiter) (level ∷ outer) = put_first (subtree delimiter level.template) outer

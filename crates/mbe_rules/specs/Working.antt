@@ -18,7 +18,7 @@ work_in_rounds work (suc n) binding = suc (work (map (in_round first_of) binding
 -- how many parts are passed when the template is filled
 abbrev pub work : Template → Binding → ℕ
 work nothing binding = 0
-work (use_of at variable others) binding = suc (work others binding)
+work (use_of at variable less_follows others) binding = suc (work others binding)
 work (token it others) binding = suc (work others binding)
 work (subtree delimiter inner others) binding = suc (suc (work inner binding)) + work others binding
 work (repetition at inner separator kind others) binding =

@@ -54,7 +54,7 @@ pub(crate) fn scan(parts: &[Part], taken: &[Taken<'_>], rounds: &[Round], body: 
     while let Some(part) = parts.get(at) {
         at += 1;
         match part {
-            Part::Use(_, number) => count = count.with(seen_in(taken, *number, rounds)),
+            Part::Use(_, number, _) => count = count.with(seen_in(taken, *number, rounds)),
             Part::Begin(_) => open += 1,
             Part::Close(tail) => {
                 if open == 0 {

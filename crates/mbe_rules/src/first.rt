@@ -11,26 +11,26 @@ ghost use Rattle.mbe_rules.specs.Marks.{mark_of};
 
 use crate::seams::{last_alone, seamed};
 use mbe_matcher::Binder;
-use mbe_pattern::{Tail, is_crate_in, is_dollar, pass, repetition_in};
+use mbe_pattern::{Tail, is_at_punct, is_crate_in, is_dollar, pass, repetition_in};
 use std::alloc::{AllocError, Global};
 use tt::{Delimiter, Leaf, Symbol, TtElement, TtIter};
 
-/// The first part of a template. A use and a repetition have the flat place of their `$`. The inside of a subtree or a repetition has
+/// The first part of a template. A use and a repetition have the flat place of their `$`; a use says whether a `<` follows it. The inside of a subtree or a repetition has
 /// the flat place after its last token.
 #[derive(Drop)]
 pub(crate) enum First<'t> {
     /// There is no part.
     End,
-    Use(usize, usize),
+    Use(usize, usize, bool),
     Token(Leaf),
     Subtree(Delimiter, TtIter<'t>, usize),
     Repetition(usize, TtIter<'t>, usize, Tail),
 }
 
-/// What a `$` begins.
+/// What a `$` begins; a use says whether a `<` follows it.
 #[derive(Drop)]
 pub(crate) enum Mark {
-    Use(usize),
+    Use(usize, bool),
     Repetition(Tail),
     Nothing,
 }
@@ -70,8 +70,10 @@ fn mark_in(alloc: Global, binders: &[Binder], siblings: TtIter<'_>) -> Result<Ma
     if is_crate_in(siblings.remaining().iter()) {
         return Ok(Mark::Nothing);
     }
+    let mut behind = siblings.remaining().iter();
+    behind.next();
     match variable_in(binders, siblings) {
-        Some(number) => Ok(Mark::Use(number)),
+        Some(number) => Ok(Mark::Use(number, is_at_punct(behind, '<'))),
         None => Ok(Mark::Nothing),
     }
 }
@@ -96,9 +98,9 @@ fn marked_part<'t>(
 {
     let at = place_before(until, siblings).saturating_sub(1);
     match mark_in(alloc, binders, siblings.remaining().iter())? {
-        Mark::Use(number) => {
+        Mark::Use(number, less_follows) => {
             siblings.next();
-            Ok(First::Use(at, number))
+            Ok(First::Use(at, number, less_follows))
         }
         Mark::Repetition(tail) => match siblings.expect_subtree() {
             Ok((_, inner)) => {

@@ -64,7 +64,9 @@ impl<'t> Parser<'t> {
     {
         match first {
             First::End => Ok(self.parts.push(end_of(level.closing))?),
-            First::Use(at, number) => self.add(Part::Use(at, number), level),
+            First::Use(at, number, less_follows) => {
+                self.add(Part::Use(at, number, less_follows), level)
+            }
             First::Token(leaf) => self.add(Part::Token(leaf), level),
             First::Subtree(delimiter, inner, until) => {
                 let inner = Level {

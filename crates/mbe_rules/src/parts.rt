@@ -5,8 +5,8 @@ use tt::{Delimiter, Leaf};
 /// A part of a template.
 #[derive(Drop)]
 pub enum Part {
-    /// A use of a variable: the flat place of its `$`, and the index of the variable's binder in the given list.
-    Use(usize, usize),
+    /// A use of a variable: the flat place of its `$`, the index of the variable's binder in the given list, and whether a `<` follows.
+    Use(usize, usize, bool),
     /// A literal token.
     Token(Leaf),
     /// The beginning of a subtree.

@@ -100,33 +100,35 @@ impl Transcriber {
         }
     }
 
-    // Writes what a fragment took.
+    // Writes what a fragment took, before a `<` or not.
     fn write(
         &mut self,
         fragment: Option<Fragment>,
+        less_follows: bool,
         trees: TokenTreesView<'_>,
     ) -> Result<(), TranscribeError>
-        ensures ok { OnOk result (Grows (as_piece fragment (trees_of trees.entry)) self.old self.new) }
-        ensures err { IfErr result (IsWant (size (as_piece fragment (trees_of trees.entry))) self.old) }
+        ensures ok { OnOk result (Grows (as_piece fragment less_follows (trees_of trees.entry)) self.old self.new) }
+        ensures err { IfErr result (IsWant (size (as_piece fragment less_follows (trees_of trees.entry))) self.old) }
     {
-        if is_enclosed(fragment, trees) {
+        if is_enclosed(fragment, less_follows, trees) {
             self.enclose(trees)
         } else {
             self.append(trees)
         }
     }
 
-    // Writes what is bound to the variable of that index.
+    // Writes what is bound to the variable of that index, before a `<` or not.
     fn transcribe_variable(
         &mut self,
         taken: &[Taken<'_>],
         number: usize,
+        less_follows: bool,
     ) -> Result<(), TranscribeError>
-        ensures ok { OnOk result ((binding : Bindings) → AreTaken binding taken.now → Grows (trees_transcribed (slice_get (bound_here binding (reverse self.old.rounds.items)) number)) self.old self.new) }
-        ensures err { IfErr result (λ error. (binding : Bindings) → AreTaken binding taken.now → IsWant (size (trees_transcribed (slice_get (bound_here binding (reverse self.old.rounds.items)) number))) self.old error) }
+        ensures ok { OnOk result ((binding : Bindings) → AreTaken binding taken.now → Grows (trees_transcribed less_follows (slice_get (bound_here binding (reverse self.old.rounds.items)) number)) self.old self.new) }
+        ensures err { IfErr result (λ error. (binding : Bindings) → AreTaken binding taken.now → IsWant (size (trees_transcribed less_follows (slice_get (bound_here binding (reverse self.old.rounds.items)) number))) self.old error) }
     {
         let trees = trees_of(taken, number, &self.rounds);
-        self.write(fragment_of(taken, number), trees)
+        self.write(fragment_of(taken, number), less_follows, trees)
     }
 
     // Writes a token.
@@ -235,7 +237,9 @@ impl Transcriber {
         ensures err { IfErr result (StopsAt parts.now taken.now (bit_of part.now) behind self.old) }
     {
         match part {
-            Part::Use(_, number) => self.transcribe_variable(taken, *number)?,
+            Part::Use(_, number, less_follows) => {
+                self.transcribe_variable(taken, *number, *less_follows)?
+            }
             Part::Token(leaf) => self.push(leaf)?,
             Part::Enter(delimiter) => self.enter(delimiter)?,
             Part::Leave => self.leave()?,

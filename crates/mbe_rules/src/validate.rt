@@ -75,7 +75,7 @@ impl Validation {
         ensures { OnOk result (validated_by self.new ≡ validated_with (map where_of binders.now) (bit_of part.now) (validated_by self.old)) }
     {
         match part {
-            Part::Use(at, number) => self.use_at(*at, depth_of(binders, *number)),
+            Part::Use(at, number, _) => self.use_at(*at, depth_of(binders, *number)),
             Part::Begin(at) => self.begin(*at),
             Part::Close(_) => Ok(self.depths.push(0)?),
             Part::Token(_) | Part::Enter(_) | Part::Leave => Ok(()),

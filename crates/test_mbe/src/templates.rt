@@ -43,7 +43,7 @@ fn written(alloc: Global, binders: &[Binder], parts: &[Part]) -> Option<String> 
     let mut text = String::new(alloc);
     for part in parts {
         text.push_str(written_part(part)).ok()?;
-        if let Part::Use(_, number) = part {
+        if let Part::Use(_, number, _) = part {
             text.push_str(name_of(binders, *number)?).ok()?;
             text.push_str(" ").ok()?;
         }

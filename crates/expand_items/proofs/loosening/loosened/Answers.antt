@@ -9,7 +9,7 @@ use Rattle.tt.specs.TreeFault.{under, IsTreeFault}
 use Rattle.tt.specs.Types.TtElement.TheVariants as element
 use Rattle.tt.specs.Views.{trees_of}
 use Rattle.expand_items.specs.declared.loosening.Level.{Level}
-use Rattle.expand_items.specs.Loosening.{first_place_in, is_apart, is_loose, loosened, loosened_kind, place_behind, place_behind_leaf, place_of}
+use Rattle.expand_items.specs.Loosening.{first_place_in, is_apart, kind_in, loosened, place_behind, place_behind_leaf, place_of}
 use Rattle.expand_items.proofs.BuiltSoFar.{open_of, opens, leaf_built, node_built, leaf_no_room, node_no_room}
 use Rattle.expand_items.proofs.Rebuilding.{finished, finished_all, finished_end, work_left, leaf_first, node_first, none_first, depth_append, depth_close}
 use Rattle.expand_items.proofs.loosening.loosened.Goals as goal
@@ -93,10 +93,10 @@ tokens-preserved-in-Some-Subtree c =
     node_first trees header c.in-Some-Subtree.children first ∙ ap (node header.delimiter held) (sym passed) in
     let inside : rest_of c.iter-inside.result ≡ held = search rules in
     let others : rest_of c.iter.result ≡ behind = search rules in
-    let kind : entry.kind ≡ loosened_kind (is_loose held behind place) header.delimiter.kind =
-    c.enter-entry.ensures.kind ∙ ap₂ (λ h b. loosened_kind (is_loose h b place) header.delimiter.kind) inside others in
-    let then : entry.first ≡ first_place_in (loosened_kind (is_loose held behind place) header.delimiter.kind) (is_apart held behind place) place =
-    c.enter-entry.ensures.first ∙ ap₂ (λ h b. first_place_in (loosened_kind (is_loose h b place) header.delimiter.kind) (is_apart h b place) place) inside others in
+    let kind : entry.kind ≡ kind_in held behind place header.delimiter.kind =
+    c.enter-entry.ensures.kind ∙ ap₂ (λ h b. kind_in h b place header.delimiter.kind) inside others in
+    let then : entry.first ≡ first_place_in (kind_in held behind place header.delimiter.kind) (is_apart held behind place) place =
+    c.enter-entry.ensures.first ∙ ap₂ (λ h b. first_place_in (kind_in h b place header.delimiter.kind) (is_apart h b place) place) inside others in
     let after : c.behind_subtree.result ≡ place_behind header.delimiter.kind place = search rules in
     let more : c.push-in-Some-Subtree.new.self.items ≡ c.tokens.outer.items ++ level ∷ [] = search rules in
     let turned : opens c.push-in-Some-Subtree.new.self.items ≡ open_of level ∷ outer =

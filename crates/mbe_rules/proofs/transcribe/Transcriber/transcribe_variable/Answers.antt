@@ -20,7 +20,7 @@ returns-clause-ok c =
     let rounds = reverse old.rounds.items in
     let trees : trees_of c.trees_of-trees.result ≡ trees_used (slice_get (bound_here binding rounds) number) =
     c.trees_of-trees.ensures binding are ∙ ap (λ l. trees_used (slice_get (binding_in (dones l) binding) number)) (c.deref.ensures.value ∙ sym (reverse-reverse old.rounds.items)) in
-    subst (λ f. Grows f old c.write.new.self) (ap₂ as_piece (c.fragment_of.ensures binding are ∙ sym (fragment_here (dones (reverse rounds)) binding number)) trees) grown)
+    subst (λ f. Grows f old c.write.new.self) (ap₂ (λ w t. as_piece w c.args.less_follows t) (c.fragment_of.ensures binding are ∙ sym (fragment_here (dones (reverse rounds)) binding number)) trees) grown)
     c.write.ensures.ok
 
 pub returns-clause-err : goal.returns-clause-err
@@ -32,5 +32,5 @@ returns-clause-err c =
     let rounds = reverse old.rounds.items in
     let trees : trees_of c.trees_of-trees.result ≡ trees_used (slice_get (bound_here binding rounds) number) =
     c.trees_of-trees.ensures binding are ∙ ap (λ l. trees_used (slice_get (binding_in (dones l) binding) number)) (c.deref.ensures.value ∙ sym (reverse-reverse old.rounds.items)) in
-    subst (λ f. IsWant (size f) old fault) (ap₂ as_piece (c.fragment_of.ensures binding are ∙ sym (fragment_here (dones (reverse rounds)) binding number)) trees) want)
+    subst (λ f. IsWant (size f) old fault) (ap₂ (λ w t. as_piece w c.args.less_follows t) (c.fragment_of.ensures binding are ∙ sym (fragment_here (dones (reverse rounds)) binding number)) trees) want)
     c.write.ensures.err
