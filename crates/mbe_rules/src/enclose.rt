@@ -55,9 +55,7 @@ fn is_more(trees: TokenTreesView<'_>) -> bool
 fn is_joined(fragment: Fragment, less_follows: bool, trees: TokenTreesView<'_>) -> bool
     ensures { result ≡ is_joined fragment less_follows (trees_of trees.entry) }
 {
-    less_follows
-        && is_type(fragment)
-        && trees.iter().expect_ident_or_underscore().is_ok()
+    less_follows && is_type(fragment) && trees.iter().expect_ident_or_underscore().is_ok()
 }
 
 /// Returns whether what the fragment took becomes one subtree, if a `<` follows or does not. Without a fragment nothing was taken.
