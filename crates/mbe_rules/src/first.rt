@@ -15,8 +15,8 @@ use mbe_pattern::{Tail, is_at_punct, is_crate_in, is_dollar, pass, repetition_in
 use std::alloc::{AllocError, Global};
 use tt::{Delimiter, Leaf, Symbol, TtElement, TtIter};
 
-/// The first part of a template. A use and a repetition have the flat place of their `$`; a use says whether a `<` follows it. The inside of a subtree or a repetition has
-/// the flat place after its last token.
+/// The first part of a template. A use and a repetition have the flat place of their `$`, and a use says whether a `<` follows it. The
+/// inside of a subtree or a repetition has the flat place after its last token.
 #[derive(Drop)]
 pub(crate) enum First<'t> {
     /// There is no part.
