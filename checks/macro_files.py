@@ -233,6 +233,38 @@ def try_only(files):
     wants("calls everywhere", files.run("expand", "--only", "m", "--everywhere", "-", given=text), (0, done, b""))
 
 
+# Patterns of rules. For each variable that the compiler refuses: the columns of what may not follow it and of the variable, what it takes, and
+# what may follow.
+EXPRESSION, TYPE = "`=>`, `,` or `;`", "`{`, `[`, `=>`, `,`, `>`, `=`, `:`, `;`, `|`, `as` or `where`"
+FOLLOWED = (
+    ("$a:expr + $b:expr", [(9, 1, "expr", EXPRESSION)]),
+    ("$a:expr, $b:expr => $c:stmt; $d:tt $e:ident", []),
+    ("$p:pat | $q:pat", [(8, 1, "pat", "`=>`, `,`, `=`, `if` or `in`")]),
+    ("$p:pat_param | $q:pat if $e:expr", []),
+    ("$t:ty $(; $n:ident)? + $p:path { $b:block }", [(22, 1, "ty", TYPE)]),
+    ("$v:vis fn [$t:ty]", []),
+    ("$v:vis + $(- $t:ty)*", [(8, 1, "vis", "`,`, an ident or a type")]),
+    ("$($e:expr)+ $i:item", [(13, 3, "expr", EXPRESSION)]),
+    ("$($e:expr)* $(a)*", [(15, 3, "expr", EXPRESSION)]),
+    ("[$($s:stmt)-*] ($t:ty)", [(11, 3, "stmt", EXPRESSION)]),
+)
+
+
+def try_followed(files):
+    """`check` warns of what the compiler does not allow behind a variable of a rule, in each rule; `expand` does not."""
+    for pattern, faults in FOLLOWED:
+        rule = f"({pattern}) => {{}}"
+        text = f"macro_rules! m {{ (a) => {{}}; {rule} }}".encode()
+        start, told = text.index(b"$"), b""
+        for following, variable, fragment, allowed in faults:
+            places = [f" --> <stdin>:1:{start + column}\n  |\n1 | {text.decode()}\n  | {' ' * (start + column - 1)}^\n" for column in (following, variable)]
+            message = f"warning: the compiler does not allow this behind a variable of `{fragment}`\n"
+            told += f"{message}{places[0]}  = note: allowed there: {allowed}\nnote: the variable is here\n{places[1]}\n".encode()
+        wants(pattern, files.run("check", "-", given=text), (0, b"", told + count_line(0, len(faults))))
+        wants("another name", files.run("check", "--only", "n", "-", given=text)[:2], (0, b""))
+        wants("what is expanded", files.run("expand", "-", given=text), (0, text, b""))
+
+
 def try_options(files):
     """Values that options have not."""
     for words in (("--limit", "0"), ("--limit", str(MOST_LIMIT + 1)), ("--limit", "x"), ("--limit=-1",), ("--limit",)):
@@ -335,7 +367,7 @@ def tried(files, examples):
     """Each thing that is tried, by its name."""
     yield from tried_cases(files, examples / "small.cases")
     for try_one in (
-        try_missing, try_several, try_empty, try_no_utf8, try_bytes_stay, try_first_line, try_cut_lines, try_controls, try_only, try_options, try_keywords, try_seams, try_deep, try_forever,
+        try_missing, try_several, try_empty, try_no_utf8, try_bytes_stay, try_first_line, try_cut_lines, try_controls, try_only, try_followed, try_options, try_keywords, try_seams, try_deep, try_forever,
         try_long,
         try_closed_pipe, try_colours,
     ):

@@ -2,6 +2,7 @@
 use crate::counts::Counts;
 use crate::diagnostics::diagnostics_text;
 use crate::dropping::{Drops, without_definitions};
+use crate::follow::follow_warnings;
 use crate::options::Options;
 use crate::report::{Report, report_on, summary};
 use app_files::{
@@ -13,6 +14,7 @@ use mbe_grammar::{ParsedFile, is_file, parse_file};
 use std::io::{self, Write};
 use std::process::ExitCode;
 use syntax_lex::MOST_TEXT_BYTES;
+use tt::TokenTreesView;
 
 const BYTE_ORDER_MARK: &str = "\u{feff}";
 
@@ -51,18 +53,17 @@ fn refused(
     }
 }
 
-// Reports the first syntax error of a text, which has a tree without its first line, and returns its number of errors.
+// Reports the first syntax error of the trees of a text, and returns its number of errors.
 fn syntax_counts(
     rt: &HostRuntime,
     name: &str,
     text: &str,
-    source: &str,
+    trees: TokenTreesView<'_>,
 ) -> Result<Counts, Failure> {
-    let tree = tree_of(rt, name, source)?;
-    if is_file(rt.alloc(), tree.token_trees())? {
+    if is_file(rt.alloc(), trees)? {
         return Ok(Counts::NONE);
     }
-    match parse_file(rt.alloc(), tree.token_trees())? {
+    match parse_file(rt.alloc(), trees)? {
         ParsedFile::Whole(_) => Ok(Counts::NONE),
         ParsedFile::Refused(error) => {
             grammar_failure(rt, name, text, &error).report(rt);
@@ -72,7 +73,30 @@ fn syntax_counts(
     }
 }
 
-// Reports the findings in the text of an input, after its first syntax error if `checks`, and returns its expansion.
+// Reports what the compiler refuses in a text, which has a tree without its first line: the first syntax error, and what follows variables in
+// rules. Returns the number of errors and warnings.
+fn refusals(
+    rt: &HostRuntime,
+    name: &str,
+    text: &str,
+    source: &str,
+    options: ExpandOptions<'_>,
+) -> Result<Counts, Failure> {
+    let tree = tree_of(rt, name, source)?;
+    let syntax = syntax_counts(rt, name, text, tree.token_trees())?;
+    let (warnings, counts) = follow_warnings(
+        rt.alloc(),
+        style_of(rt),
+        name,
+        text,
+        options,
+        tree.token_trees(),
+    )?;
+    let _ = eprint!(rt; "{warnings}");
+    Ok(syntax.plus(counts))
+}
+
+// Reports the findings in the text of an input, after what the compiler refuses if `checks`, and returns its expansion.
 fn expanded(
     rt: &HostRuntime,
     input: Input<'_>,
@@ -97,8 +121,8 @@ fn expanded(
         diagnostics,
         counts,
     } = report_on(rt.alloc(), style_of(rt), name, text, options, found)?;
-    let syntax = if checks {
-        syntax_counts(rt, name, text, source)?
+    let refused = if checks {
+        refusals(rt, name, text, source, options)?
     } else {
         Counts::NONE
     };
@@ -107,7 +131,7 @@ fn expanded(
         output,
         has_mark: text.len() < bytes.len(),
         shebang: String::from_str(rt.alloc(), shebang_of(text))?,
-        counts: syntax.plus(counts),
+        counts: refused.plus(counts),
     })
 }
 

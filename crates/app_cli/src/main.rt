@@ -8,6 +8,7 @@ mod counts;
 mod diagnostics;
 mod dropping;
 mod expanding;
+mod follow;
 mod messages;
 mod note;
 mod options;

@@ -264,5 +264,5 @@ cast_joined = refl
 cast_alone : loosened free (a (word (codes "as") (opaque (a end) plus_b))) ≡ a (word (codes "as") (loose (a end) plus_b))
 cast_alone = refl
 
-compared : loosened free (a (alone 42 (opaque (a end) (alone 60 (a end))))) ≡ a (alone 42 (opaque (a end) (alone 60 (a end))))
-compared = refl
+only_cast : loosened free (a (alone 42 (opaque (a end) (alone 60 (a end))))) ≡ a (alone 42 (opaque (a end) (alone 60 (a end))))
+only_cast = refl

@@ -1,0 +1,5 @@
+-- Proofs of this crate.
+pub mod Cutting
+pub mod Judged
+pub mod Refusing
+pub mod Rows
