@@ -1,7 +1,6 @@
 -- Part by part, what is left of a pattern is cut, and becomes less.
-use Rattle.std.proofs.Common.{◌≡◌, ◌+◌, ◌*◌, ◌<◌, ℕ, suc, List, [], ◌∷◌, ◌++◌, length, map, Option, Some, None, option_map, refl, ap, sym, ◌∙◌, arith, append_assoc}
+use Rattle.std.proofs.Common.{◌≡◌, ◌+◌, ◌*◌, ◌<◌, ℕ, suc, List, [], ◌∷◌, ◌++◌, map, Option, ap, sym, ◌∙◌, arith, append_assoc}
 use Rattle.std.proofs.lemmas.List.{reverse-append}
-use Rattle.tt.specs.Forest.{Forest, end, leaf, node}
 use Rattle.mbe_pattern.specs.declared.dollar.Tail.{Tail}
 use Rattle.mbe_pattern.specs.declared.parts.Part.{Part}
 use Rattle.mbe_pattern.specs.declared.parts.Part.TheVariants as part
@@ -9,7 +8,7 @@ use Rattle.mbe_pattern.specs.Dollars.{IsPart}
 use Rattle.mbe_pattern.specs.Patterns.{Pattern, nothing, variable, token, subtree, repetition}
 use Rattle.mbe_follow.specs.declared.layout.Level.{Level}
 use Rattle.mbe_follow.specs.declared.layout.Piece.{Piece}
-use Rattle.mbe_follow.specs.Pieces.{LevelLeft, Step, level_of, level_left, levels_left, end_piece, after_end, pieces_of, pieces_left, after_levels, ended, stepped}
+use Rattle.mbe_follow.specs.Pieces.{LevelLeft, level_of, level_left, levels_left, end_piece, after_end, pieces_of, pieces_left, after_levels, stepped}
 use Rattle.mbe_follow.specs.Following.{after_pattern}
 
 -- how many parts a pattern has, at any depth

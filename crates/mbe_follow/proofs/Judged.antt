@@ -1,14 +1,13 @@
 -- Judged by its pieces from the last to the first, a pattern has its faults.
-use Rattle.std.proofs.Common.{◌≡◌, ◌+◌, ℕ, Bool, true, false, List, [], ◌∷◌, ◌++◌, Option, None, Some, cond, option_to_list, refl, ap, ap₂, sym, ◌∙◌, append_assoc, append-nil}
+use Rattle.std.proofs.Common.{◌≡◌, ◌+◌, ℕ, Bool, true, false, List, [], ◌∷◌, ◌++◌, cond, option_to_list, refl, ap, sym, ◌∙◌, append_assoc, append-nil}
 use Rattle.std.specs.Prelude.{◌&&◌, ◌||◌}
-use Rattle.mbe_pattern.specs.declared.pattern.Fragment.{Fragment}
 use Rattle.mbe_pattern.specs.Patterns.{Pattern, nothing, variable, token, subtree, repetition, may_be_none}
 use Rattle.mbe_follow.specs.declared.judge.FollowFault.{FollowFault}
 use Rattle.mbe_follow.specs.declared.layout.Piece.{Piece}
 use Rattle.mbe_follow.specs.declared.layout.Piece.TheVariants as piece
 use Rattle.mbe_follow.specs.declared.next.Next.{Next}
 use Rattle.mbe_follow.specs.Following.{token_next, separator_next, subtree_next, variable_next, after_pattern, after_separator, may_be_passed, firsts, first_refused, fault_with, faults_before, follow_faults_of}
-use Rattle.mbe_follow.specs.Judging.{Reach, before, all_before, Judged, judged, ending, required, around, begun, entered, judged_with, judged_of}
+use Rattle.mbe_follow.specs.Judging.{Reach, before, all_before, Judged, judged, required, judged_with, judged_of}
 use Rattle.mbe_follow.specs.Pieces.{pieces_of, all_pieces}
 
 and_more : (a b c : Bool) → ((a && b) && c) ≡ (a && (b && c))

@@ -1,9 +1,8 @@
 -- Worked patterns, and what rustc 1.95 says of each in edition 2024. Each holds by computation.
-use Rattle.std.proofs.Common.{◌≡◌, ◌-◌, ℕ, Bool, true, false, List, [], ◌∷◌, length, codes, refl}
-use Rattle.tt.specs.Forest.{Forest, end, leaf, join}
+use Rattle.std.proofs.Common.{◌≡◌, ℕ, List, [], ◌∷◌, codes, refl}
+use Rattle.tt.specs.Forest.{Forest, end, join}
 use Rattle.tt.specs.Types.DelimiterKind.TheVariants.{Parenthesis, Brace, Bracket}
-use Rattle.tt.specs.Types.Spacing.TheVariants.{Alone, Joint}
-use Rattle.tt_base.proofs.Samples.{punct, subtree}
+use Rattle.tt_base.proofs.Samples.{subtree}
 use Rattle.mbe_pattern.specs.declared.pattern.Fragment.{Fragment}
 use Rattle.mbe_pattern.specs.declared.pattern.Fragment.TheVariants as fragment
 use Rattle.mbe_pattern.specs.declared.pattern.GrammarFragment.{GrammarFragment}
@@ -32,7 +31,7 @@ refused variable which next = record { variable = variable; fragment = which; ne
 abbrev refused_at_once : GrammarFragment → List FollowFault
 refused_at_once which = refused 0 (fragment.Grammar which) 1
 
--- the signs `+`, `;`, `=`, `|`, `:`, `>` and `<` before others
+-- `+`, `;`, `=`, `|`, `{}`, `[]` and `()` before others
 abbrev plus : Forest → Forest
 plus rest = alone 43 rest
 
@@ -76,7 +75,7 @@ meta_any = refl
 tt_any : faults (x (codes "tt") (y (codes "tt") end)) ≡ []
 tt_any = refl
 
--- `$x:expr` before `=>`, `,` and `;`, at the end, and before `+`, `[]`, `$y:ident` and `= >`.
+-- `$x:expr` before `=>`, `,` and `;` and at the end; before `+`, `[]`, `$y:ident` and `= >`. So are `expr_2021` and `stmt`.
 expr_arrow : faults (x (codes "expr") (arrow end)) ≡ []
 expr_arrow = refl
 
@@ -113,7 +112,7 @@ stmt_semicolon = refl
 stmt_braces : faults (x (codes "stmt") (braces end)) ≡ refused_at_once grammar.Stmt
 stmt_braces = refl
 
--- `$x:pat` before `=` and `if`, and before `|`, `;` and `r#if`.
+-- `$x:pat` before `=`, `if` and `in`; before `|`, `;` and `r#if`.
 pat_equals : faults (x (codes "pat") (equals end)) ≡ []
 pat_equals = refl
 
@@ -132,14 +131,14 @@ pat_semicolon = refl
 pat_raw_if : faults (x (codes "pat") (raw_word (codes "if") end)) ≡ refused_at_once grammar.Pat
 pat_raw_if = refl
 
--- `$x:pat_param` before `|`, and before `||`.
+-- `$x:pat_param` before `|`; before `||`.
 pat_param_bar : faults (x (codes "pat_param") (bar end)) ≡ []
 pat_param_bar = refl
 
 pat_param_bars : faults (x (codes "pat_param") (joint 124 (alone 124 end))) ≡ refused_at_once grammar.PatParam
 pat_param_bars = refl
 
--- `$x:path` before `{}`, `where` and `$y:block`, and before `()`, `::` and `$y:ident`.
+-- `$x:path` before `{}`, `where` and `$y:block`; before `()`, `::` and `$y:ident`.
 path_braces : faults (x (codes "path") (braces end)) ≡ []
 path_braces = refl
 
@@ -158,7 +157,7 @@ path_colons = refl
 path_ident : faults (x (codes "path") (y (codes "ident") end)) ≡ refused_at_once grammar.Path
 path_ident = refl
 
--- `$x:ty` before `>>`, `:`, `[]`, `|` and `as`, and before `>=`, `r#as` and `'a`.
+-- `$x:ty` before `>>`, `:`, `[]`, `|` and `as`; before `>=`, `r#as` and `'a`.
 ty_shift : faults (x (codes "ty") (joint 62 (alone 62 end))) ≡ []
 ty_shift = refl
 
@@ -183,7 +182,7 @@ ty_raw_as = refl
 ty_life : faults (x (codes "ty") (life end)) ≡ refused_at_once grammar.Ty
 ty_life = refl
 
--- `$x:vis` before `,`, idents, what begins a type, `$crate` and variables, and before `priv`, `{}`, `=>`, `<-` and others.
+-- `$x:vis` before `,`, idents, what begins a type, `$crate` and `$y:ty`; before `priv`, `{}`, `=>`, `<-` and `$y:tt`.
 vis_comma : faults (x (codes "vis") (comma end)) ≡ []
 vis_comma = refl
 
@@ -243,14 +242,14 @@ in_required = refl
 at_last : faults (x (codes "expr") (rounds (comma end) (alone 63 end))) ≡ []
 at_last = refl
 
--- `$x:expr $($(,)?);+ +`: a repetition of what may be nothing may be passed, and its separator may come first.
+-- `$x:expr $($(,)?);+ +` and `$x:expr $($(,)?)=+ ,`: a repetition of what may be nothing may be passed, and its separator may come first.
 passed_inside : faults (x (codes "expr") (rounds (rounds (comma end) (alone 63 end)) (joint 59 (alone 43 (plus end))))) ≡ refused 0 (fragment.Grammar grammar.Expr) 5
 passed_inside = refl
 
 separator_first : faults (x (codes "expr") (rounds (rounds (comma end) (alone 63 end)) (joint 61 (alone 43 (comma end))))) ≡ refused 0 (fragment.Grammar grammar.Expr) 4
 separator_first = refl
 
--- `$x:expr $($y:vis),+ ;`: a visibility is not passed, though it may take nothing.
+-- `$x:expr $($y:vis),+ ,`: a visibility is not passed, though it may take nothing.
 vis_not_passed : faults (x (codes "expr") (rounds (y (codes "vis") end) (joint 44 (alone 43 (comma end))))) ≡ refused 0 (fragment.Grammar grammar.Expr) 2
 vis_not_passed = refl
 

@@ -1,4 +1,4 @@
--- Which variables of a pattern something may follow that the compiler refuses there.
+-- Which variables of a pattern something may follow that the compiler refuses there: rustc 1.95, in edition 2024.
 use Rattle.std.specs.Prelude.{◌+◌, ◌&&◌, ◌||◌, ℕ, Bool, true, false, List, [], ◌∷◌, ◌++◌, Option, None, Some, option_to_list, codes, if◌then◌else◌}
 use Rattle.tt.specs.Types.DelimiterKind.{DelimiterKind}
 use Rattle.tt.specs.Types.DelimiterKind.TheVariants as delimited

@@ -1,6 +1,5 @@
 -- What may come first in the open levels of a pattern, by its pieces from the last to the first.
-use Rattle.std.specs.Prelude.{◌&&◌, ◌||◌, ℕ, Bool, true, false, List, [], ◌∷◌, ◌++◌, map, reverse, Option, None, Some, option_to_list, if◌then◌else◌}
-use Rattle.mbe_pattern.specs.declared.pattern.Fragment.{Fragment}
+use Rattle.std.specs.Prelude.{◌&&◌, ◌||◌, Bool, true, false, List, [], ◌∷◌, ◌++◌, map, reverse, Option, None, option_to_list, if◌then◌else◌}
 use Rattle.mbe_pattern.specs.declared.pattern.RepeatKind.{RepeatKind}
 use Rattle.mbe_pattern.specs.Patterns.{may_be_none}
 use Rattle.mbe_follow.specs.declared.judge.FollowFault.{FollowFault}

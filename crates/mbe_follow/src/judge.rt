@@ -1,5 +1,5 @@
 //! Goes through the pieces of a pattern, from the last to the first, and finds what may not follow a variable.
-ghost use Rattle.std.specs.Prelude.{◌≡◌, ◌∷◌, ◌++◌, [], None, List, map, reverse, IfOk, OnOk, option_to_list, if◌then◌else◌};
+ghost use Rattle.std.specs.Prelude.{◌≡◌, ◌∷◌, ◌++◌, [], None, map, reverse, IfOk, OnOk, option_to_list, if◌then◌else◌};
 ghost use Rattle.tt.specs.Iters.{rest_of};
 ghost use Rattle.mbe_pattern.specs.Patterns.{may_be_none};
 ghost use Rattle.mbe_pattern.specs.Placed.{pattern_of};
@@ -247,8 +247,8 @@ fn faults_in(alloc: Global, pieces: &[Piece]) -> Result<Vec<FollowFault>, AllocE
 /// repetition is a part behind what the repetition holds. Behind the last variable of a repetition come its separator and what follows the
 /// repetition, but not another round.
 ///
-/// Time is at most the number of parts times the number of parts that may come behind one place. Memory is linear. Fails only if memory runs
-/// out.
+/// Time is at most the number of parts times how many parts and ends of repetitions may come behind one place. Memory is linear. Fails only
+/// if memory runs out.
 pub fn follow_faults(alloc: Global, pattern: TtIter<'_>) -> Result<Vec<FollowFault>, AllocError>
     ensures { IfOk result (λ faults. faults.items ≡ follow_faults_of (pattern_of (rest_of pattern.entry))) }
 {

@@ -2,7 +2,6 @@ use Rattle.std.proofs.Common.{rules, ◌≡◌, reverse, ap, ◌∙◌}
 use Rattle.tt.specs.Iters.{rest_of}
 use Rattle.mbe_pattern.specs.Placed.{pattern_of}
 use Rattle.mbe_follow.specs.Judging.{judged_of}
-use Rattle.mbe_follow.specs.Pieces.{all_pieces}
 use Rattle.mbe_follow.proofs.Judged.{judged_whole}
 use Rattle.mbe_follow.proofs.judge.follow_faults.Goals as goal
 

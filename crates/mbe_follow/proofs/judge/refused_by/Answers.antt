@@ -1,6 +1,5 @@
 use Rattle.std.proofs.Common.{rules, ◌≡◌, ℕ, ◌-◌, ◌<◌, suc, Some, None, true, List, length, get_or, take, cond, map, reverse, ap, sym, ◌∙◌, ◌∷◌, ◌++◌, [], arith}
 use Rattle.std.proofs.Math.Seq.{take-suc}
-use Rattle.mbe_pattern.specs.declared.pattern.Fragment.{Fragment}
 use Rattle.mbe_follow.specs.declared.judge.Reach as rust_reach
 use Rattle.mbe_follow.specs.Following.{first_refused}
 use Rattle.mbe_follow.specs.Judging.{all_before, reach_of}

@@ -1,4 +1,4 @@
-use Rattle.std.proofs.Common.{rules, ◌≡◌, Bool, true, false, Some, None, [], cond, option_to_list, ap, sym, ◌∙◌}
+use Rattle.std.proofs.Common.{rules, ◌≡◌, true, false, Some, None, [], cond, option_to_list, ap, sym, ◌∙◌}
 use Rattle.mbe_follow.specs.Following.{first_refused, may_follow}
 use Rattle.mbe_follow.specs.Judging.{reach_of}
 use Rattle.mbe_follow.proofs.Refusing.{level_begin, level_end}
