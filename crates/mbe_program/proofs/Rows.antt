@@ -1,4 +1,4 @@
--- Worked programs and their runs, each instruction at least once.
+-- Worked programs and their runs, each instruction at least once, and worked positions.
 use Rattle.std.proofs.Common.{◌≡◌, inl, inr, zero, suc, List, [], ◌∷◌, Some, codes, refl}
 use Rattle.tt.specs.Forest.{end}
 use Rattle.tt.specs.Types.DelimiterKind.TheVariants.{Parenthesis}
@@ -14,6 +14,7 @@ use Rattle.mbe_pattern.specs.declared.pattern.Fragment.TheVariants as fragment
 use Rattle.mbe_pattern.specs.declared.pattern.RepeatKind.TheVariants as repeat
 use Rattle.mbe_pattern.specs.declared.pattern.Variable.{Variable}
 use Rattle.mbe_program.specs.Answers.{HasNoRun}
+use Rattle.mbe_program.specs.Laying.{level_spots, places_in}
 use Rattle.mbe_program.specs.Program.{Instruction, take, pass, enter, leave, begin, close, place_at, program_of}
 use Rattle.mbe_program.specs.Runs.{IsRun}
 
@@ -103,3 +104,11 @@ none_row = (3, inr (refl, (_, refl, inr (refl, (_, refl, (refl, ((refl, refl), r
 notes_row : notes_of (pattern_of listed) (round (took (word (codes "a") end) done) (over (round done (over done))))
     ≡ begun 4 ∷ taken 5 (word (codes "a") end) ∷ ended 4 ∷ begun 1 ∷ ended 1 ∷ []
 notes_row = refl
+
+-- `(a)` has four positions: before and behind the subtree, and before and behind `a` inside it.
+places_row : places_in (held_in Parenthesis (word (codes "a") end)) ≡ 4
+places_row = refl
+
+-- Inside position 3, with five tokens behind the level, `a` has two positions; six tokens are left at the first.
+level_row : level_spots 3 5 (word (codes "a") end) ≡ record { trees = word (codes "a") end; outside = 3; left = 6 } ∷ record { trees = end; outside = 3; left = 5 } ∷ []
+level_row = refl

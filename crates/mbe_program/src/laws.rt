@@ -1,12 +1,16 @@
 //! Laws of programs: each is the contract of a function without effect.
-ghost use Rattle.std.specs.Prelude.{◌≡◌, ◌↔◌, List};
-ghost use Rattle.tt.specs.Forest.{Forest};
+ghost use Rattle.std.specs.Prelude.{◌≡◌, ◌≤◌, ◌*◌, ◌↔◌, List, suc, length};
+ghost use Rattle.tt.specs.Forest.{Forest, size};
 ghost use Rattle.mbe_matcher.specs.Marks.{Note, notes_of};
 ghost use Rattle.mbe_matcher.specs.Readings.{Reading, IsInstance, IsNoInstance, IsReadBy, IsAmbiguous};
 ghost use Rattle.mbe_pattern.specs.Patterns.{Pattern};
 ghost use Rattle.mbe_program.specs.Answers.{HasNoRun, HasOneRun, HasTwoRuns};
-ghost use Rattle.mbe_program.specs.Program.{program_of};
+ghost use Rattle.mbe_program.specs.Laying.{places_in};
+ghost use Rattle.mbe_program.specs.Program.{Instruction, program_of};
 ghost use Rattle.mbe_program.specs.Runs.{IsRun};
+ghost use Rattle.mbe_program.specs.Searching.{log_of, HaveAllGoneOn};
+ghost use Rattle.mbe_program.specs.Tables.{Table, IsTableOf};
+ghost use Rattle.mbe_program.specs.declared.search.Search.{Search};
 
 /// States that the runs of a pattern's program are the readings of the pattern, with the same notes: each reading is a run, each run is a
 /// reading, and readings that differ have notes that differ.
@@ -22,4 +26,11 @@ pub fn as_many_runs()
     ensures none { (pattern : Pattern) → (input : Forest) → HasNoRun (program_of pattern) input ↔ IsNoInstance pattern input }
     ensures one { (pattern : Pattern) → (input : Forest) → (notes : List Note) → HasOneRun (program_of pattern) input notes ↔ ((reading : Reading) × IsReadBy pattern input reading × (notes ≡ notes_of pattern reading)) }
     ensures two { (pattern : Pattern) → (input : Forest) → HasTwoRuns (program_of pattern) input ↔ IsAmbiguous pattern input }
+{}
+
+/// States that a search is short: it has at most two arrivals for each place of the program before each position of the input, and an input
+/// has at most two positions for each token, and two more.
+pub fn searches_are_short()
+    ensures arrivals { (program : List Instruction) → (input : Forest) → (table : Table) → (search : Search) → IsTableOf input table → HaveAllGoneOn program table search → length (log_of search) ≤ 2 * (suc (length program) * table.count) }
+    ensures positions { (input : Forest) → suc (places_in input) ≤ 2 * suc (size input) }
 {}

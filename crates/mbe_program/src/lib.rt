@@ -6,6 +6,21 @@
 //! has no further round.
 //!
 //! `laws` state that the runs of a pattern's program are the readings of the pattern, one by one.
+//!
+//! `run` answers in how many ways a program runs through an input. It searches all runs at once, from cell to cell. A cell is a place of the
+//! program before a position of the input. It goes on once, and once more if another way leads there too, so a search has at most twice as
+//! many arrivals as there are cells.
 #![tactic(auto)]
 
+mod cell;
+mod fragment;
+mod instruction;
 pub mod laws;
+mod moves;
+mod outcome;
+mod positions;
+mod search;
+
+pub use instruction::Instruction;
+pub use mbe_matcher::Mark;
+pub use outcome::{Answer, run};

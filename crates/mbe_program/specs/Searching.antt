@@ -1,0 +1,91 @@
+-- A search as rows of ways and a log of arrivals.
+use Rattle.std.specs.Prelude.{◌≡◌, ◌⊎◌, ◌+◌, ◌-◌, ◌<◌, ◌≤◌, ℕ, suc, List, [], ◌∷◌, ◌++◌, map, length, replicate, slice_index_or}
+use Rattle.mbe_matcher.specs.Marks.{Note}
+use Rattle.tt.specs.Forest.{Forest}
+use Rattle.mbe_program.specs.Cells.{IsCell, Hop, start}
+use Rattle.mbe_program.specs.Tables.{Table, IsTableOf}
+use Rattle.mbe_program.specs.Moving.{notes_of_mark}
+use Rattle.mbe_program.specs.Program.{Instruction}
+use Rattle.mbe_program.specs.Ways.{Coming, IsAt, IsKept, Tried}
+use Rattle.mbe_program.specs.declared.cell.Cell.{Cell}
+use Rattle.mbe_program.specs.declared.moves.Move.{Move}
+use Rattle.mbe_program.specs.declared.search.Arrival.{Arrival}
+use Rattle.mbe_program.specs.declared.search.Search.{Search}
+use Rattle.mbe_program.specs.declared.search.Way.{Way}
+use Rattle.mbe_program.specs.declared.search.Way.TheVariants as way
+
+-- an arrival, with the notes of its last step
+abbrev pub coming_of : Arrival → Coming Cell Note
+coming_of it = record { cell = it.cell; before = it.before; notes = notes_of_mark it.mark; is_many = it.is_many }
+
+abbrev pub log_of : Search → List (Coming Cell Note)
+log_of search = map coming_of search.log.items
+
+abbrev pub rows_of : Search → List (List Way)
+rows_of search = map (λ row. row.items) search.rows.items
+
+-- how many ways to a cell are known
+abbrev pub way_in : (rows : List (List Way)) → Cell → Way
+way_in rows it = slice_index_or (slice_index_or rows it.position []) it.left way.Unseen
+
+-- a row that is made that long, if it is shorter
+abbrev pub filled : (width : ℕ) → List Way → List Way
+filled width row = row ++ replicate (width - length row) way.Unseen
+
+-- no row is longer than that
+abbrev pub AreNarrow : (width : ℕ) → List (List Way) → Type 0
+AreNarrow width [] = Unit {0}
+AreNarrow width (row ∷ rows) = (length row ≤ width) × AreNarrow width rows
+
+-- how many arrivals there are at most
+abbrev pub way_weight : Way → ℕ
+way_weight way.Unseen = 0
+way_weight way.Once = 1
+way_weight way.Often = 2
+
+abbrev pub row_weight : List Way → ℕ
+row_weight [] = 0
+row_weight (it ∷ others) = way_weight it + row_weight others
+
+abbrev pub rows_weight : List (List Way) → ℕ
+rows_weight [] = 0
+rows_weight (row ∷ rows) = row_weight row + rows_weight rows
+
+-- no row is longer than that, and the log has no more arrivals than the known ways allow
+pub record IsRoomy (width : ℕ) (search : Search) : Type 0 where
+  pub narrow : AreNarrow width (rows_of search)
+  pub least : length (log_of search) ≤ rows_weight (rows_of search)
+
+-- the table is of some input
+abbrev pub IsTable : Table → Type 0
+IsTable table = (input : Forest) × IsTableOf input table
+
+-- the first arrivals of the log, so many, have gone on
+pub record HaveGoneOn (program : List Instruction) (table : Table) (i : ℕ) (search : Search) : Type 0 where
+  pub kept : IsKept Cell Note (start program table) (Hop program table) (way_in (rows_of search)) (log_of search) (Tried Cell Note (start program table) (Hop program table) (log_of search) i)
+  pub upto : i ≤ length (log_of search)
+  pub sized : length search.rows.items ≡ table.count
+  pub roomy : IsRoomy (suc (length program)) search
+  pub inside : (k : ℕ) (it : Coming Cell Note) → IsAt Cell Note (log_of search) k it → (it.cell.position < table.count) × (it.cell.left ≤ length program)
+
+-- all arrivals have gone on
+abbrev pub HaveAllGoneOn : (program : List Instruction) → Table → Search → Type 0
+HaveAllGoneOn program table search = HaveGoneOn program table (length (log_of search)) search
+
+-- the arrival by a step from the arrival of that number
+abbrev pub coming_by : Coming Cell Note → (number : ℕ) → Move → Coming Cell Note
+coming_by from number step = record { cell = step.to; before = suc number; notes = notes_of_mark step.mark; is_many = from.is_many }
+
+-- the fewest tokens that are left at these arrivals, or so many if all have more left
+pub record IsFewest (table : Table) (most : ℕ) (log : List (Coming Cell Note)) (left : ℕ) : Type 0 where
+  pub upto : left ≤ most
+  pub found : (left ≡ most) ⊎ ((k : ℕ) × (it : Coming Cell Note) × IsAt Cell Note log k it × (left ≡ table.left it.cell.position))
+  pub least : (k : ℕ) (it : Coming Cell Note) → IsAt Cell Note log k it → left ≤ table.left it.cell.position
+
+-- each arrival comes from one that was logged before it
+abbrev pub AreInOrder : (log : List (Coming Cell Note)) → Type 0
+AreInOrder log = (k : ℕ) → (it : Coming Cell Note) → IsAt Cell Note log k it → it.before ≤ k
+
+-- the arrival of that number is at the last cell: nothing is left of the program, outside of all levels
+abbrev pub EndsAt : (log : List (Coming Cell Note)) → (k : ℕ) → Type 0
+EndsAt log k = (it : Coming Cell Note) × IsAt Cell Note log k it × IsCell it.cell 0 0
