@@ -5,14 +5,12 @@ pub mod Arrived
 pub mod Arriving
 pub mod Backward
 pub mod Beginning
-pub mod Built
-pub mod CutWhole
 pub mod Empty
 pub mod Expanding
 pub mod Fewest
+pub mod GoingOn
 pub mod Filling
 pub mod Forward
-pub mod GoingOn
 pub mod Hops
 pub mod Laid
 pub mod LaidTable

@@ -1,11 +1,8 @@
 -- A pattern as a program, and the program's runs.
 pub mod Answers
-pub mod Assembling
 pub mod Cells
-pub mod Cutting
 pub mod Laying
 pub mod Moving
-pub mod Pieces
 pub mod Positions
 pub mod Program
 pub mod Runs

@@ -12,18 +12,15 @@
 //! many arrivals as there are cells.
 #![tactic(auto)]
 
-mod assemble;
 mod cell;
 mod fragment;
 mod instruction;
 pub mod laws;
 mod moves;
 mod outcome;
-mod parse;
 mod positions;
 mod search;
 
-pub use assemble::program_of;
 pub use instruction::Instruction;
 pub use mbe_matcher::Mark;
 pub use outcome::{Answer, run};
