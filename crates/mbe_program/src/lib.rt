@@ -20,6 +20,8 @@ mod moves;
 mod outcome;
 mod positions;
 mod search;
+#[cfg(test)]
+mod tests;
 
 pub use instruction::Instruction;
 pub use mbe_matcher::Mark;
