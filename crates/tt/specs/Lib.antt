@@ -31,8 +31,10 @@ pub use Rattle.tt_view.specs.Shortest
 pub use Rattle.tt_view.specs.Stored
 pub use Rattle.tt_view.specs.TableOrder
 pub use Rattle.tt_view.specs.Tables
+pub use Rattle.tt_view.specs.TokenKinds
 pub use Rattle.tt_view.specs.Uses
 pub use Rattle.tt_view.specs.Counts
+pub use Rattle.tt_view.specs.FirstKinds
 pub use Rattle.tt_view.specs.Iters
 pub use Rattle.tt_view.specs.NewIds
 pub use Rattle.tt_view.specs.Pieces

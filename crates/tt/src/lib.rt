@@ -19,6 +19,6 @@ pub use tt_base::{
     token_to_literal,
 };
 pub use tt_view::{
-    FlatTokens, MAX_GLUED_PUNCT_LEN, Split, SubtreeView, TokenTreesView, TopSubtree, TreeWalk,
-    TtElement, TtIter, TtIterSavepoint,
+    FlatTokens, MAX_GLUED_PUNCT_LEN, Split, SubtreeView, TokenKind, TokenTreesView, TopSubtree,
+    TreeWalk, TtElement, TtIter, TtIterSavepoint,
 };

@@ -6,6 +6,7 @@ pub mod FewMeeting
 pub mod InOrder
 pub mod InternedFacts
 pub mod Joined
+pub mod KindDecoded
 pub mod ListTables
 pub mod Meeting
 pub mod MostBytes

@@ -3,6 +3,7 @@ pub mod Counted
 pub mod CountedValues
 pub mod Few
 pub mod InternedTables
+pub mod KindAt
 pub mod Leading
 pub mod Meeting
 pub mod Packed
@@ -12,5 +13,6 @@ pub mod Room
 pub mod StoredIn
 pub mod TablesOf
 pub mod TokenAt
+pub mod TokenKinds
 pub mod WriterOf
 pub mod Writing

@@ -7,8 +7,11 @@ ghost use Rattle.tt_base.specs.Moves.{first_token, after_token, after_tree};
 ghost use Rattle.tt_tables.proofs.StoredAlike.{HasAhead-prop};
 ghost use Rattle.tt_tables.specs.Tables.{tables_from};
 ghost use Rattle.tt_pack.specs.StoredIn.{bytes_for, bytes_in, tables_in, tables_stored};
+ghost use Rattle.tt_pack.specs.TokenKinds.{GivesKind};
 
+use crate::kind_reader::KindReader;
 use crate::packed::Packed;
+use crate::token_kind::TokenKind;
 use crate::token_reader::TokenReader;
 use tt_base::TokenTree;
 
@@ -152,5 +155,28 @@ impl<'a> Reader<'a> {
         };
         self.offset = below.offset + tokens.child_bytes;
         Some((token, below))
+    }
+
+    /// Takes the next tree. Returns what its token is and a second reader, as `advance_skip` does, but makes no token: it looks up no span
+    /// and copies no symbol.
+    #[inline(always)]
+    pub fn advance_skip_kind(&mut self) -> Option<(TokenKind<'a>, Reader<'a>)>
+        ensures token { MatchOption result (first_token (ahead_of self.old) ≡ None) (λ found. GivesKind (first_token (ahead_of self.old)) (Some found.0)) }
+        ensures end { (result ≡ None) ↔ (length (bytes_of self.old) ≤ offset_of self.old) }
+        ensures below { IfSome result (λ found. StepsTo self.old (after_token (ahead_of self.old)) found.1) }
+        ensures moved { StepsTo self.old (after_tree (ahead_of self.old)) self.new }
+    {
+        let tree = self.tree?;
+        let mut kinds = KindReader::new(tree);
+        kinds.decode_here(self.offset);
+        let kind = kinds.kind?;
+        self.steps = self.steps.saturating_add(1);
+        let below = Reader {
+            tree: self.tree,
+            offset: tree.bytes().len() - kinds.left,
+            steps: self.steps,
+        };
+        self.offset = below.offset + kinds.child_bytes;
+        Some((kind, below))
     }
 }

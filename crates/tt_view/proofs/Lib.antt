@@ -3,6 +3,7 @@ pub mod Cuts
 pub mod Drained
 pub mod FlatPlaces
 pub mod Frames
+pub mod FirstKinds
 pub mod HeldPlaces
 pub mod LeafAt
 pub mod NewIds

@@ -1,5 +1,6 @@
 -- The definitions that the contracts of trees, views and iterators cite; and, from the crates below, what is stored for a tree and why
 -- none is.
+pub use Rattle.tt_pack.specs.TokenKinds
 pub use Rattle.tt_tables.specs.AstIds
 pub use Rattle.tt_tables.specs.Cost
 pub use Rattle.tt_tables.specs.Counts
@@ -10,6 +11,7 @@ pub use Rattle.tt_tables.specs.TableOrder
 pub use Rattle.tt_tables.specs.Tables
 pub use Rattle.tt_tables.specs.Uses
 pub mod Cuts
+pub mod FirstKinds
 pub mod Frames
 pub mod HeldPlaces
 pub mod Innermost

@@ -24,4 +24,5 @@ pub use split::Split;
 pub use subtree_view::SubtreeView;
 pub use top_subtree::TopSubtree;
 pub use tree_walk::TreeWalk;
+pub use tt_pack::TokenKind;
 pub use view::TokenTreesView;

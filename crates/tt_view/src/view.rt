@@ -22,7 +22,7 @@ use crate::subtree_view::SubtreeView;
 use crate::top_subtree::TopSubtree;
 use std::alloc::Global;
 use tt_base::{Leaf, Span, TokenTree};
-use tt_pack::{Packed, Reader};
+use tt_pack::{Packed, Reader, TokenKind};
 
 /// A view of a list of trees, which follow one another in a stored tree.
 #[derive(Clone, Copy)]
@@ -57,6 +57,7 @@ impl<'a> TokenTreesView<'a> {
     ghost use Rattle.tt_view.specs.Views.{trees_of, steps_of_view};
     ghost use Rattle.tt_view.specs.SubtreeViews.{root_of, flat_rest};
     ghost use Rattle.tt_view.specs.Iters.{rest_of};
+    ghost use Rattle.tt_view.specs.FirstKinds.{IsFirstKind};
     ghost use Rattle.tt_view.specs.Pieces.{left_in, is_done, asks_by};
 
     /// Returns the empty list.
@@ -266,6 +267,22 @@ impl<'a> TokenTreesView<'a> {
         let len = count_below(&token);
         self.len -= 1 + len;
         Some((token, TokenTreesView { reader: below, len }))
+    }
+
+    // Takes the first tree, and returns what it is. Makes no token.
+    #[inline(always)]
+    pub(crate) fn next_kind(&mut self) -> Option<TokenKind<'a>>
+        ensures kind { IsFirstKind (trees_of self.old) result }
+        ensures rest { trees_of self.new ≡ after_tree (trees_of self.old) }
+        ensures steps { steps_of_view self.new ≡ step_after (steps_of_view self.old) (trees_of self.old) }
+    {
+        if self.len == 0 {
+            return None;
+        }
+        let (kind, _) = self.reader.advance_skip_kind()?;
+        let len = kind.count_below();
+        self.len -= 1 + len;
+        Some(kind)
     }
 
     // Returns the first token if it is a leaf, and the trees after it.

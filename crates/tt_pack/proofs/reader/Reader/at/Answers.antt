@@ -1,6 +1,5 @@
 use Rattle.std.proofs.Common.{rules}
 use Rattle.tt_tables.proofs.StoredAlike.{ahead_is}
-use Rattle.tt_pack.specs.StoredIn.{bytes_for, tables_stored}
 use Rattle.tt_pack.proofs.reader.Reader.at.Goals as goal
 
 pub invariant_of-result : goal.invariant_of-result
