@@ -15,6 +15,7 @@ pub use Rattle.tt_base.specs.declared.scan.LiteralScan
 pub use Rattle.tt_base.specs.declared.span.Span
 pub use Rattle.tt_base.specs.declared.span.SpanPart
 pub use Rattle.tt_base.specs.declared.token_tree.TokenTree
+pub use Rattle.tt_pack.specs.declared.token_kind.TokenKind
 pub use Rattle.tt_view.specs.declared.cursor.Cursor
 pub use Rattle.tt_view.specs.declared.flat.FlatTokens
 pub use Rattle.tt_view.specs.declared.iter.TtElement
