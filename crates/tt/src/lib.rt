@@ -20,5 +20,5 @@ pub use tt_base::{
 };
 pub use tt_view::{
     FlatTokens, MAX_GLUED_PUNCT_LEN, Split, SubtreeView, TokenKind, TokenTreesView, TopSubtree,
-    TreeWalk, TtElement, TtIter, TtIterSavepoint,
+    TreeWalk, TtElement, TtIter, TtIterSavepoint, is_glued_three, is_glued_two,
 };

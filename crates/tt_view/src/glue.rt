@@ -43,19 +43,17 @@ const TWOS: [[char; 2]; 21] = [
     ['|', '|'],
 ];
 
-// Returns whether the characters of two puncts are an operator.
-fn is_two(first: &Punct, second: &Punct) -> bool
-    ensures { result ≡ is_one_of twos (first.now.char ∷ second.now.char ∷ []) }
+/// Returns whether the characters of two puncts are one operator (docs/FORMATS.md, "Puncts of one operator").
+pub fn is_glued_two(first: char, second: char) -> bool
+    ensures { result ≡ is_one_of twos (first ∷ second ∷ []) }
 {
-    let (first, second) = (first.char, second.char);
     TWOS.contains(&[first, second])
 }
 
-// Returns whether the characters of three puncts are an operator.
-fn is_three(first: &Punct, second: &Punct, third: &Punct) -> bool
-    ensures { result ≡ is_one_of threes (first.now.char ∷ second.now.char ∷ third.now.char ∷ []) }
+/// Returns whether the characters of three puncts are one operator (docs/FORMATS.md, "Puncts of one operator").
+pub fn is_glued_three(first: char, second: char, third: char) -> bool
+    ensures { result ≡ is_one_of threes (first ∷ second ∷ third ∷ []) }
 {
-    let (first, second, third) = (first.char, second.char, third.char);
     THREES.contains(&[first, second, third])
 }
 
@@ -85,7 +83,7 @@ impl<'a> TtIter<'a> {
             *self = last;
             return Ok(puncts);
         }
-        if is_two(&first, &second) {
+        if is_glued_two(first.char, second.char) {
             puncts.push(second);
             *self = behind;
             return Ok(puncts);
@@ -103,7 +101,7 @@ impl<'a> TtIter<'a> {
         }
         let mut last = self.fork();
         let third = last.expect_single_punct().ok()?;
-        if is_three(first, second, &third) {
+        if is_glued_three(first.char, second.char, third.char) {
             Some((third, last))
         } else {
             None

@@ -18,7 +18,7 @@ mod view;
 
 pub use cursor::Cursor;
 pub use flat::FlatTokens;
-pub use glue::MAX_GLUED_PUNCT_LEN;
+pub use glue::{MAX_GLUED_PUNCT_LEN, is_glued_three, is_glued_two};
 pub use iter::{TtElement, TtIter, TtIterSavepoint};
 pub use split::Split;
 pub use subtree_view::SubtreeView;
