@@ -3,34 +3,13 @@ use crate::counts::Counts;
 use expand_items::definitions_in;
 use expand_text::ExpandOptions;
 use mbe_follow::{FollowFault, allowed_behind, follow_faults, part_spans};
-use mbe_pattern::{Fragment, GrammarFragment};
+use mbe_pattern::Fragment;
 use std::alloc::{AllocError, Global};
 use syntax_diagnostic::{Diagnostic, Level, PlacedNote, SourceFile, Style, diagnostic_text};
 use tt::{Leaf, Span, TokenTreesView, TtElement, TtIter};
 
 // How many of these warnings are shown for a text at most.
 const MOST_SHOWN: usize = 100;
-
-// Returns the name of a fragment.
-fn name_of(fragment: Fragment) -> &'static str {
-    match fragment {
-        Fragment::Ident => "ident",
-        Fragment::Literal => "literal",
-        Fragment::Lifetime => "lifetime",
-        Fragment::Block => "block",
-        Fragment::Vis => "vis",
-        Fragment::Tt => "tt",
-        Fragment::Grammar(GrammarFragment::Expr) => "expr",
-        Fragment::Grammar(GrammarFragment::Expr2021) => "expr_2021",
-        Fragment::Grammar(GrammarFragment::Ty) => "ty",
-        Fragment::Grammar(GrammarFragment::Pat) => "pat",
-        Fragment::Grammar(GrammarFragment::PatParam) => "pat_param",
-        Fragment::Grammar(GrammarFragment::Path) => "path",
-        Fragment::Grammar(GrammarFragment::Stmt) => "stmt",
-        Fragment::Grammar(GrammarFragment::Item) => "item",
-        Fragment::Grammar(GrammarFragment::Meta) => "meta",
-    }
-}
 
 // The warnings of a text so far.
 #[derive(Drop)]
@@ -54,7 +33,7 @@ impl Warnings {
         if self.count > MOST_SHOWN {
             return Ok(());
         }
-        let name = name_of(fragment);
+        let name = fragment.name();
         let allowed = allowed_behind(fragment).unwrap_or("anything");
         let message = format!(in alloc;
             "the compiler does not allow this behind a variable of `{name}`"

@@ -1,5 +1,5 @@
-//! Opaque subtrees that need no parentheses in their places, and types that need some after `as`. The walk keeps the open subtrees in memory, so only memory limits the depth of
-//! a tree.
+//! Opaque subtrees that need no parentheses in their places, and types that need some after `as`. The walk keeps the open subtrees in
+//! memory, so only memory limits the depth of a tree.
 ghost use Rattle.std.specs.Prelude.{◌≡◌, IfOk, IfErr};
 ghost use Rattle.tt.specs.Iters.{rest_of};
 ghost use Rattle.tt.specs.Stored.{IsWithinLimits};
@@ -184,9 +184,8 @@ fn place_of(enclosure: Enclosure, position: Position) -> Place
     }
 }
 
-/// Returns the expansion of a call, these trees, under that delimiter, with each opaque subtree that needs no parentheses as an invisible one, and
-/// with parentheses around any other type after `as`.
-/// `position` is that before the first of the trees, and `enclosure` is theirs.
+/// Returns the expansion of a call, these trees, under that delimiter, with each opaque subtree that needs no parentheses as an invisible
+/// one, and with parentheses around any other type after `as`. `position` is that before the first of the trees, and `enclosure` is theirs.
 /// The fault is `Memory`, or a limit that the tree exceeds.
 pub fn loosened(
     alloc: Global,

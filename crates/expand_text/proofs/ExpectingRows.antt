@@ -8,10 +8,7 @@ use Rattle.tt.specs.Types.DelimiterKind.TheVariants.{Brace}
 use Rattle.tt.specs.Types.Leaf.{Leaf}
 use Rattle.tt_base.proofs.Samples.{ident, span}
 use Rattle.tt_base.specs.Token.{delimiter}
-use Rattle.mbe_pattern.specs.Spelling.{fragment_named}
-use Rattle.mbe_pattern.specs.declared.pattern.Fragment.{Fragment}
 use Rattle.mbe_pattern.specs.declared.pattern.Fragment.TheVariants as fragment
-use Rattle.mbe_pattern.specs.declared.pattern.GrammarFragment.TheVariants as grammar
 use Rattle.mbe_pattern.specs.declared.pattern.Variable.{Variable}
 use Rattle.mbe_pattern.specs.Patterns as pattern
 use Rattle.mbe_matcher.specs.Labels.{take, same, enter, leave}
@@ -19,25 +16,7 @@ use Rattle.mbe_rules.specs.declared.macro_rules.ArmPart.{ArmPart}
 use Rattle.mbe_rules.specs.Arms.{Arm}
 use Rattle.mbe_rules.specs.Templates.{nothing}
 use Rattle.mbe_rules.specs.Waiting.{AreWaitingIn, in_arm}
-use Rattle.expand_text.specs.Expecting.{IsExpected, added, different, fragment_name, label_text, quoted, three_of}
-
--- A pattern reads the name of a fragment as that fragment.
-names_agree : (it : Fragment) → fragment_named (fragment_name it) ≡ Some it
-names_agree fragment.Ident = refl
-names_agree fragment.Literal = refl
-names_agree fragment.Lifetime = refl
-names_agree fragment.Block = refl
-names_agree fragment.Vis = refl
-names_agree fragment.Tt = refl
-names_agree (fragment.Grammar grammar.Expr) = refl
-names_agree (fragment.Grammar grammar.Expr2021) = refl
-names_agree (fragment.Grammar grammar.Ty) = refl
-names_agree (fragment.Grammar grammar.Pat) = refl
-names_agree (fragment.Grammar grammar.PatParam) = refl
-names_agree (fragment.Grammar grammar.Path) = refl
-names_agree (fragment.Grammar grammar.Stmt) = refl
-names_agree (fragment.Grammar grammar.Item) = refl
-names_agree (fragment.Grammar grammar.Meta) = refl
+use Rattle.expand_text.specs.Expecting.{IsExpected, added, different, label_text, quoted, three_of}
 
 -- A variable is as in its pattern, a bracket as it opens.
 abbrev variable : Option (List ℕ) → Variable

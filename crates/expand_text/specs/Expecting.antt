@@ -9,39 +9,14 @@ use Rattle.tt_base.specs.LeafText.{leaf_text}
 use Rattle.expand_items.specs.Items.{Call}
 use Rattle.expand_text.specs.declared.fault.MacroFault.{MacroFault}
 use Rattle.expand_text.specs.declared.fault.MacroFault.TheVariants as wrong
-use Rattle.mbe_pattern.specs.declared.pattern.Fragment.{Fragment}
-use Rattle.mbe_pattern.specs.declared.pattern.Fragment.TheVariants as fragment
-use Rattle.mbe_pattern.specs.declared.pattern.GrammarFragment.{GrammarFragment}
-use Rattle.mbe_pattern.specs.declared.pattern.GrammarFragment.TheVariants as grammar
 use Rattle.mbe_pattern.specs.declared.pattern.Variable.{Variable}
+use Rattle.mbe_pattern.specs.Spelling.{fragment_name}
 use Rattle.mbe_matcher.specs.Labels.{Label, take, same, enter, leave}
 use Rattle.mbe_rules.specs.declared.macro_rules.ArmPart.{ArmPart}
 use Rattle.mbe_rules.specs.declared.macro_rules.Expansion.TheVariants as expansion
 use Rattle.mbe_rules.specs.Arms.{Arm}
 use Rattle.mbe_rules.specs.Expansions.{IsExpansion}
 use Rattle.mbe_rules.specs.Waiting.{AreWaitingIn, part_in}
-
--- the name of a fragment of Rust's grammar
-abbrev pub grammar_name : GrammarFragment → List ℕ
-grammar_name grammar.Expr = codes "expr"
-grammar_name grammar.Expr2021 = codes "expr_2021"
-grammar_name grammar.Ty = codes "ty"
-grammar_name grammar.Pat = codes "pat"
-grammar_name grammar.PatParam = codes "pat_param"
-grammar_name grammar.Path = codes "path"
-grammar_name grammar.Stmt = codes "stmt"
-grammar_name grammar.Item = codes "item"
-grammar_name grammar.Meta = codes "meta"
-
--- the name of a fragment
-abbrev pub fragment_name : Fragment → List ℕ
-fragment_name fragment.Ident = codes "ident"
-fragment_name fragment.Literal = codes "literal"
-fragment_name fragment.Lifetime = codes "lifetime"
-fragment_name fragment.Block = codes "block"
-fragment_name fragment.Vis = codes "vis"
-fragment_name fragment.Tt = codes "tt"
-fragment_name (fragment.Grammar it) = grammar_name it
 
 -- how a bracket opens
 abbrev pub opening : DelimiterKind → List ℕ

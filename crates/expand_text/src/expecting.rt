@@ -6,11 +6,11 @@ ghost use Rattle.mbe_matcher.specs.Labels.{label_of};
 ghost use Rattle.mbe_rules.specs.Arms.{Arm};
 ghost use Rattle.mbe_rules.specs.Expansions.{AreMade};
 ghost use Rattle.mbe_rules.specs.Waiting.{part_in};
-ghost use Rattle.expand_text.specs.Expecting.{IsExpected, added, fragment_name, grammar_name, is_control, label_text, name_text, opening, part_added, parts_named, quoted, rule_text, token_text, variable_text};
+ghost use Rattle.expand_text.specs.Expecting.{IsExpected, added, is_control, label_text, name_text, opening, part_added, parts_named, quoted, rule_text, token_text, variable_text};
 
 use crate::memory::OutOfMemory;
 use mbe_matcher::Atom;
-use mbe_pattern::{Fragment, GrammarFragment, Variable};
+use mbe_pattern::Variable;
 use mbe_rules::{ArmPart, MacroRules};
 use std::alloc::{AllocError, Global};
 use tt::{DelimiterKind, Leaf, Symbol, TtIter};
@@ -20,38 +20,6 @@ const MOST_NAMED: usize = 3;
 
 // The longest text of a part that a message quotes, in bytes.
 const MOST_QUOTED: usize = 40;
-
-// Returns the name of a fragment of Rust's grammar.
-fn grammar_name(fragment: GrammarFragment) -> &'static str
-    ensures { result.now ≡ grammar_name fragment }
-{
-    match fragment {
-        GrammarFragment::Expr => "expr",
-        GrammarFragment::Expr2021 => "expr_2021",
-        GrammarFragment::Ty => "ty",
-        GrammarFragment::Pat => "pat",
-        GrammarFragment::PatParam => "pat_param",
-        GrammarFragment::Path => "path",
-        GrammarFragment::Stmt => "stmt",
-        GrammarFragment::Item => "item",
-        GrammarFragment::Meta => "meta",
-    }
-}
-
-// Returns the name of a fragment.
-fn fragment_name(fragment: Fragment) -> &'static str
-    ensures { result.now ≡ fragment_name fragment }
-{
-    match fragment {
-        Fragment::Ident => "ident",
-        Fragment::Literal => "literal",
-        Fragment::Lifetime => "lifetime",
-        Fragment::Block => "block",
-        Fragment::Vis => "vis",
-        Fragment::Tt => "tt",
-        Fragment::Grammar(fragment) => grammar_name(fragment),
-    }
-}
 
 // Returns how a bracket opens.
 fn opening(kind: DelimiterKind) -> &'static str
@@ -82,7 +50,7 @@ fn variable_text(alloc: Global, variable: &Variable) -> Result<String, AllocErro
     let mut text = "$".to_string(alloc)?;
     text.push_str(name_text(variable))?;
     text.push_str(":")?;
-    text.push_str(fragment_name(variable.fragment))?;
+    text.push_str(variable.fragment.name())?;
     Ok(text)
 }
 

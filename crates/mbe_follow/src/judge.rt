@@ -1,7 +1,6 @@
 //! Goes through the pieces of a pattern, from the last to the first, and finds what may not follow a variable.
 ghost use Rattle.std.specs.Prelude.{◌≡◌, ◌∷◌, ◌++◌, [], None, map, reverse, IfOk, OnOk, option_to_list, if◌then◌else◌};
 ghost use Rattle.tt.specs.Iters.{rest_of};
-ghost use Rattle.mbe_pattern.specs.Patterns.{may_be_none};
 ghost use Rattle.mbe_pattern.specs.Placed.{pattern_of};
 ghost use Rattle.mbe_follow.specs.Following.{first_refused, follow_faults_of};
 ghost use Rattle.mbe_follow.specs.Judging.{all_before, around, begun, ending, entered, judged, judged_by, judged_of, judged_with, reach_of, required};
@@ -109,16 +108,6 @@ fn refused_by(levels: &[Reach], fragment: Fragment) -> Option<usize>
     None
 }
 
-// Returns whether a repetition may have no round.
-fn may_be_none(kind: RepeatKind) -> bool
-    ensures { result ≡ may_be_none kind }
-{
-    match kind {
-        RepeatKind::ZeroOrMore | RepeatKind::ZeroOrOne => true,
-        RepeatKind::OneOrMore => false,
-    }
-}
-
 // Returns the level before a repetition of that kind, given what may come first in it.
 fn around(kind: RepeatKind, inner: Reach, level: Reach) -> Result<Reach, AllocError>
     ensures { IfOk result (λ made. reach_of made ≡ around kind (reach_of inner) (reach_of level)) }
@@ -132,7 +121,7 @@ fn around(kind: RepeatKind, inner: Reach, level: Reach) -> Result<Reach, AllocEr
     if let (Some(next), true) = (separator, is_open) {
         firsts.push(next)?;
     }
-    let is_passed = may_be_none(kind) | is_open;
+    let is_passed = kind.may_be_none() | is_open;
     if is_passed {
         firsts.extend_from_slice(&level.firsts)?;
     }

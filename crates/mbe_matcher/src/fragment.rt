@@ -14,7 +14,7 @@ use std::alloc::{AllocError, Global};
 use tt::{DelimiterKind, Leaf, LitKind, TokenTreesView, TtElement, TtIter};
 
 /// Returns whether the first trees are such leaves, one by one.
-pub(crate) fn are_leaves_like(leaves: &[Leaf], mut trees: TtIter<'_>) -> bool
+pub fn are_leaves_like(leaves: &[Leaf], mut trees: TtIter<'_>) -> bool
     ensures { IsTrue result ↔ AreLeavesLike leaves.now (rest_of trees.entry) }
 {
     for leaf in leaves {
@@ -148,7 +148,7 @@ fn visibility_size(mut trees: TtIter<'_>) -> usize
 
 /// Returns how many trees the fragment of Rust's grammar takes from the front; none if it takes none there, or if a subtree that it takes
 /// has other contents than its name in the grammar says. Fails only if memory runs out.
-pub(crate) fn grammar_reach(
+pub fn grammar_reach(
     alloc: Global,
     fragment: GrammarFragment,
     trees: TtIter<'_>,
@@ -160,11 +160,7 @@ pub(crate) fn grammar_reach(
 }
 
 /// Returns whether the fragment takes the trees at the front. Fails only if memory runs out.
-pub(crate) fn takes(
-    alloc: Global,
-    fragment: Fragment,
-    mut trees: TtIter<'_>,
-) -> Result<bool, AllocError>
+pub fn takes(alloc: Global, fragment: Fragment, mut trees: TtIter<'_>) -> Result<bool, AllocError>
     ensures { IfOk result (λ answer. answer ≡ takes fragment (rest_of trees.entry)) }
 {
     match fragment {
@@ -197,11 +193,7 @@ pub(crate) fn takes_nothing(fragment: Fragment, trees: TtIter<'_>) -> bool
 }
 
 /// Returns how many trees the fragment takes. Fails only if memory runs out.
-pub(crate) fn reach(
-    alloc: Global,
-    fragment: Fragment,
-    trees: TtIter<'_>,
-) -> Result<usize, AllocError>
+pub fn reach(alloc: Global, fragment: Fragment, trees: TtIter<'_>) -> Result<usize, AllocError>
     ensures { IfOk result (λ count. count ≡ reach fragment (rest_of trees.entry)) }
 {
     match fragment {

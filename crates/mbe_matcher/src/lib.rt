@@ -31,6 +31,7 @@ mod waiting;
 mod walking;
 
 pub use binding::{Binding, Found};
+pub use fragment::{are_leaves_like, grammar_reach, reach, takes};
 pub use matcher::Matcher;
 pub use mbe_pattern::{Fragment, GrammarFragment, PatternError, RepeatKind, Variable};
 pub use places::Atom;

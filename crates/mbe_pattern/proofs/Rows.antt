@@ -7,12 +7,14 @@ use Rattle.tt.specs.Types.Leaf.TheVariants as leaf_of
 use Rattle.tt.specs.Types.Spacing.TheVariants.{Alone, Joint}
 use Rattle.tt_base.proofs.Samples.{span, punct, ident, subtree}
 use Rattle.mbe_pattern.specs.declared.error.PatternError.TheVariants as error
+use Rattle.mbe_pattern.specs.declared.pattern.Fragment.{Fragment}
 use Rattle.mbe_pattern.specs.declared.pattern.Fragment.TheVariants as fragment
 use Rattle.mbe_pattern.specs.declared.pattern.GrammarFragment.TheVariants as grammar
 use Rattle.mbe_pattern.specs.declared.pattern.RepeatKind.TheVariants as repeat
 use Rattle.mbe_pattern.specs.Faults.{pattern_fault}
 use Rattle.mbe_pattern.specs.Patterns.{Pattern, nothing, variable, token, subtree as held_by, repetition, may_be_empty}
 use Rattle.mbe_pattern.specs.Placed.{pattern_of}
+use Rattle.mbe_pattern.specs.Spelling.{fragment_name, fragment_named}
 use Rattle.mbe_pattern.specs.Units.{unit_size, IsUnitLike}
 
 -- small trees before others: an ident, and puncts with spacing `Alone` or `Joint`
@@ -212,3 +214,21 @@ visibility_repeated = refl
 
 visibility_sound : pattern_fault (rounds (var (codes "v") (codes "vis") (comma end)) (alone 42 end)) ≡ None
 visibility_sound = refl
+
+-- A pattern reads the name of a fragment as that fragment.
+names_agree : (it : Fragment) → fragment_named (fragment_name it) ≡ Some it
+names_agree fragment.Ident = refl
+names_agree fragment.Literal = refl
+names_agree fragment.Lifetime = refl
+names_agree fragment.Block = refl
+names_agree fragment.Vis = refl
+names_agree fragment.Tt = refl
+names_agree (fragment.Grammar grammar.Expr) = refl
+names_agree (fragment.Grammar grammar.Expr2021) = refl
+names_agree (fragment.Grammar grammar.Ty) = refl
+names_agree (fragment.Grammar grammar.Pat) = refl
+names_agree (fragment.Grammar grammar.PatParam) = refl
+names_agree (fragment.Grammar grammar.Path) = refl
+names_agree (fragment.Grammar grammar.Stmt) = refl
+names_agree (fragment.Grammar grammar.Item) = refl
+names_agree (fragment.Grammar grammar.Meta) = refl

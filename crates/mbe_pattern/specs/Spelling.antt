@@ -48,6 +48,28 @@ fragment_named text =
     else (if bytes_eq text (codes "vis") then Some fragment.Vis
     else (if bytes_eq text (codes "tt") then Some fragment.Tt else option_map fragment.Grammar (grammar_named text))))))
 
+-- the name of a fragment of Rust's grammar
+abbrev pub grammar_name : GrammarFragment → List ℕ
+grammar_name grammar.Expr = codes "expr"
+grammar_name grammar.Expr2021 = codes "expr_2021"
+grammar_name grammar.Ty = codes "ty"
+grammar_name grammar.Pat = codes "pat"
+grammar_name grammar.PatParam = codes "pat_param"
+grammar_name grammar.Path = codes "path"
+grammar_name grammar.Stmt = codes "stmt"
+grammar_name grammar.Item = codes "item"
+grammar_name grammar.Meta = codes "meta"
+
+-- the name of a fragment
+abbrev pub fragment_name : Fragment → List ℕ
+fragment_name fragment.Ident = codes "ident"
+fragment_name fragment.Literal = codes "literal"
+fragment_name fragment.Lifetime = codes "lifetime"
+fragment_name fragment.Block = codes "block"
+fragment_name fragment.Vis = codes "vis"
+fragment_name fragment.Tt = codes "tt"
+fragment_name (fragment.Grammar it) = grammar_name it
+
 -- the fragment that an ident names, raw or not
 abbrev pub fragment_from : Option Ident → Option Fragment
 fragment_from None = None

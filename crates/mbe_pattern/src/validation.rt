@@ -119,13 +119,7 @@ fn is_open_behind(closing: Option<Opened>, is_empty: bool, is_open: bool) -> boo
 {
     match closing {
         None => is_open,
-        Some(opened) => {
-            let may_be_none = match opened.kind {
-                RepeatKind::ZeroOrMore | RepeatKind::ZeroOrOne => true,
-                RepeatKind::OneOrMore => false,
-            };
-            is_open && (may_be_none || is_empty)
-        }
+        Some(opened) => is_open && (opened.kind.may_be_none() || is_empty),
     }
 }
 
