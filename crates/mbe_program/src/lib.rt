@@ -13,7 +13,6 @@
 #![tactic(auto)]
 
 mod cell;
-mod fragment;
 mod instruction;
 pub mod laws;
 mod moves;

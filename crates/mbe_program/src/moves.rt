@@ -1,7 +1,6 @@
 //! The steps from a cell of a search.
 ghost use Rattle.std.specs.Prelude.{◌≡◌, ◌≤◌, ◌↔◌, ◌∷◌, true, false, List, length, IfOk, IsTrue, MatchOption};
 ghost use Rattle.mbe_matcher.specs.Fragments.{takes, reach};
-ghost use Rattle.mbe_pattern.specs.Patterns.{may_be_none, may_be_more};
 ghost use Rattle.mbe_pattern.specs.Units.{IsNodeOf, IsUnitLike};
 ghost use Rattle.mbe_program.specs.Moving.{AreMoves, AreMovesAt, AreMovesOf, instructions_of, instruction_of};
 ghost use Rattle.mbe_program.specs.Positions.{table_of};
@@ -12,10 +11,9 @@ ghost use Rattle.tt.specs.Types.DelimiterKind.{DelimiterKind as Kind};
 ghost use Rattle.tt.specs.Views.{trees_of};
 
 use crate::cell::Cell;
-use crate::fragment::{are_leaves_like, grammar_reach, reach, takes};
 use crate::instruction::Instruction;
 use crate::positions::Positions;
-use mbe_matcher::Mark;
+use mbe_matcher::{Mark, are_leaves_like, grammar_reach, reach, takes};
 use mbe_pattern::{Fragment, RepeatKind, Variable, take, unit_size};
 use std::alloc::{AllocError, Global};
 use tt::{DelimiterKind, Leaf, TokenTreesView, TtElement};
@@ -36,26 +34,6 @@ pub(crate) enum Moves<'i> {
     One(Move<'i>),
     /// Two, with different marks.
     Two(Move<'i>, Move<'i>),
-}
-
-// Returns whether a repetition may have no round.
-fn may_be_none(kind: RepeatKind) -> bool
-    ensures { result ≡ may_be_none kind }
-{
-    match kind {
-        RepeatKind::ZeroOrMore | RepeatKind::ZeroOrOne => true,
-        RepeatKind::OneOrMore => false,
-    }
-}
-
-// Returns whether it may have more than one.
-fn may_be_more(kind: RepeatKind) -> bool
-    ensures { result ≡ may_be_more kind }
-{
-    match kind {
-        RepeatKind::ZeroOrMore | RepeatKind::OneOrMore => true,
-        RepeatKind::ZeroOrOne => false,
-    }
 }
 
 // Returns how many trees the fragment takes, if it takes the trees at the front.
@@ -185,7 +163,7 @@ fn begin_from<'i>(
         },
         mark: Some(Mark::Round(after)),
     };
-    if !may_be_none(kind) {
+    if !kind.may_be_none() {
         return Moves::One(into);
     }
     let around = Move {
@@ -215,7 +193,7 @@ fn close_from<'i>(
         },
         mark: Some(Mark::Over(behind)),
     };
-    if !may_be_more(kind) {
+    if !kind.may_be_more() {
         return Moves::One(out);
     }
     let back = Move {
