@@ -35,6 +35,7 @@ pub mod Total
 pub mod Toy
 pub mod ToyTries
 pub mod Tries
+pub mod UnitKinds
 pub mod Wanting
 pub mod Weighing
 pub mod WillTry

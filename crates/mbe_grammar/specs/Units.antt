@@ -1,5 +1,6 @@
 -- The first unit of trees, as a grammar sees it.
 use Rattle.std.specs.Prelude.{ℕ, ◌&&◌, Bool, List, [], ◌∷◌, Option, None, Some, codes, if◌then◌else◌}
+use Rattle.tt.specs.FirstKinds.{IsFirstKind}
 use Rattle.tt.specs.Forest.{Forest, end, leaf, node}
 use Rattle.tt.specs.Gluing.{glued}
 use Rattle.tt.specs.Literal.{kind_of}
@@ -7,6 +8,8 @@ use Rattle.tt.specs.Moves.{after_tree}
 use Rattle.tt.specs.Types.Leaf.{Leaf}
 use Rattle.tt.specs.Types.Leaf.TheVariants as leaf_of
 use Rattle.tt.specs.Types.Punct.{Punct}
+use Rattle.tt.specs.Types.Spacing.{Spacing}
+use Rattle.tt.specs.Types.TokenKind.TheVariants as kind
 use Rattle.mbe_grammar.specs.declared.unit.Unit.{Unit}
 use Rattle.mbe_grammar.specs.declared.unit.Unit.TheVariants as unit
 use Rattle.mbe_grammar.specs.Words.{word_of}
@@ -27,6 +30,10 @@ unit_of_glued (Some puncts) = unit_of_puncts puncts
 -- a `'` and an ident come first
 abbrev pub is_at_lifetime : Forest → Bool
 is_at_lifetime trees = is_at_punct (codes "'") trees && is_at_ident (after_tree trees)
+
+-- the first tree is a punct of that character and spacing
+abbrev pub BeginsWith : (char : ℕ) → Spacing → Forest → Type 0
+BeginsWith char spacing trees = IsFirstKind trees (Some (kind.Punct char spacing))
 
 -- the first unit, which begins with a punct
 abbrev pub punct_unit : Forest → Unit

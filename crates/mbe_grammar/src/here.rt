@@ -26,8 +26,8 @@ impl<'t> Here<'t> {
 
     /// Returns the entry of the unit, which has that many trees.
     #[inline(always)]
-    pub fn entry(self, test: Test, count: usize) -> Entry<'t>
-        ensures { entry result ≡ entry_of (named test) count (trees_of self.entry.rest) }
+    pub fn entry(&self, test: Test, count: usize) -> Entry<'t>
+        ensures { entry result ≡ entry_of (named test) count (trees_of self.now.rest) }
     {
         let Some(name) = test.named() else {
             return Entry::Unit(count);

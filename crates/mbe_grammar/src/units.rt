@@ -100,11 +100,11 @@ impl<'t> Units<'t> {
 
     // Returns the unit after that many trees, which was decoded.
     #[inline(always)]
-    fn here(&self, passed: usize) -> Here<'t>
+    fn here(&self, passed: usize) -> &Here<'t>
         requires within { passed < length self.now.reached.items }
-        ensures { trees_of result.rest ≡ after_trees passed (trees_in self.now) }
+        ensures { trees_of result.now.rest ≡ after_trees passed (trees_in self.now) }
     {
-        self.reached[passed]
+        &self.reached[passed]
     }
 
     /// Returns what the expression at that index of a table does after that many trees.

@@ -1,6 +1,6 @@
 //! Words: idents that the grammar names, and those that are reserved.
 ghost use Rattle.std.specs.Prelude.{◌≡◌};
-ghost use Rattle.mbe_grammar.specs.Words.{word_from_a_or_b, word_from_c_or_d, word_from_e_to_g, word_from_i_or_l, word_from_m, word_from_o_to_r, word_from_s, word_from_t, word_from_u_to_y, word_from_other, word_beginning, word_named, word_of, is_reserved, is_path_segment, is_truth_value, is_first_keyword, begins_expression};
+ghost use Rattle.mbe_grammar.specs.Words.{word_from_a_or_b, word_from_c_or_d, word_from_e_to_g, word_from_i_or_l, word_from_m, word_from_o_to_r, word_from_s, word_from_t, word_from_u_to_y, word_from_other, word_beginning, word_named, word_as, word_of, is_reserved, is_path_segment, is_truth_value, is_first_keyword, begins_expression};
 
 use tt::{Ident, IdentIsRaw};
 
@@ -297,14 +297,21 @@ impl Word {
         }
     }
 
+    /// Returns the word that an ident of that text is; after `r#` it is a name.
+    pub(crate) fn of_text(text: &str, is_raw: IdentIsRaw) -> Word
+        ensures { result ≡ word_as is_raw text.now }
+    {
+        match is_raw {
+            IdentIsRaw::No => Word::named(text),
+            IdentIsRaw::Yes => Word::Name,
+        }
+    }
+
     /// Returns the word that an ident is; after `r#` it is a name.
     pub fn of(ident: &Ident) -> Word
         ensures { result ≡ word_of ident.now }
     {
-        match ident.is_raw {
-            IdentIsRaw::No => Word::named(ident.sym.as_str()),
-            IdentIsRaw::Yes => Word::Name,
-        }
+        Word::of_text(ident.sym.as_str(), ident.is_raw)
     }
 
     /// Returns whether no name may be spelled like this word.

@@ -15,8 +15,8 @@ pub overflow_add-here : goal.overflow_add-here
 overflow_add-here c =
     let trees = trees_in c.args.self.now in
     let here = c.args.here.now in
-    let rest : trees_of c.here-first.result.rest ≡ after_trees here trees = c.here-first.ensures in
-    let unit : c.here-first.result.unit ≡ first_unit (after_trees here trees) = c.here-first.result.is_first ∙ ap first_unit rest in
+    let rest : trees_of c.here-first.result.now.rest ≡ after_trees here trees = c.here-first.ensures in
+    let unit : c.here-first.result.now.unit ≡ first_unit (after_trees here trees) = c.here-first.result.now.is_first ∙ ap first_unit rest in
     let yes : passes c.args.test (first_unit (after_trees here trees)) ≡ true = subst (λ u. passes c.args.test u ≡ true) unit (sym c.passes-passes.ensures ∙ c.if-passes.true) in
     let count : c.taken_size-count.result ≡ count_of c.args.test (after_trees here trees) = search rules in
     omega (arith, within here trees c.args.test yes, count, c.args.self.now.fits)
@@ -26,8 +26,8 @@ returns-in_ok-reach-clause-answer c =
     let trees = trees_in c.args.self.now in
     let here = c.args.here.now in
     let old = c.args.log.now.items in
-    let rest : trees_of c.here-first.result.rest ≡ after_trees here trees = c.here-first.ensures in
-    let unit : c.here-first.result.unit ≡ first_unit (after_trees here trees) = c.here-first.result.is_first ∙ ap first_unit rest in
+    let rest : trees_of c.here-first.result.now.rest ≡ after_trees here trees = c.here-first.ensures in
+    let unit : c.here-first.result.now.unit ≡ first_unit (after_trees here trees) = c.here-first.result.now.is_first ∙ ap first_unit rest in
     let yes : passes c.args.test (first_unit (after_trees here trees)) ≡ true = subst (λ u. passes c.args.test u ≡ true) unit (sym c.passes-passes.ensures ∙ c.if-passes.true) in
     let count : c.taken_size-count.result ≡ count_of c.args.test (after_trees here trees) = search rules in
     elim c.if-noting.branch [
