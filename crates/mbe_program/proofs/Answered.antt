@@ -21,7 +21,7 @@ pub not_often : (it : Way) → (it ≡ way.Unseen) ⊎ (it ≡ way.Once) → it 
 not_often it (inl same) often = let both : way.Unseen ≡ way.Often = sym same ∙ often in cc both
 not_often it (inr same) often = let both : way.Once ≡ way.Often = sym same ∙ often in cc both
 
-module _ (program : List Instruction) (input : Forest) (table : Table) (is : IsTableOf input table) (search : Search) (gone : HaveAllGoneOn program table search) where
+module _ (program : List Instruction) (input : Forest) (table : Table) (is : IsTableOf program input table) (search : Search) (gone : HaveAllGoneOn program table search) where
   abbrev Done : (before : ℕ) → Cell → List Note → Type 0
   Done = Tried Cell Note (start program table) (Hop program table) (log_of search) (length (log_of search))
 

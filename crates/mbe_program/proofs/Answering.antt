@@ -32,7 +32,7 @@ traces_once log (suc n) (suc m) number one other (k, it, before, same, there, tr
     let before_is = traces_once log n m it.before before earlier traces (subst (λ (it : Coming Cell Note). Traces Cell Note log m it.before earlier) it_is traced) in
     noted ∙ ap₂ (λ (a b : List Note). a ++ b) before_is (ap (λ (it : Coming Cell Note). it.notes) (sym it_is)) ∙ sym noted_too
 
-module _ (program : List Instruction) (input : Forest) (table : Table) (is : IsTableOf input table) (ways : Cell → Way) (log : List (Coming Cell Note)) (Done : ℕ → Cell → List Note → Type 0)
+module _ (program : List Instruction) (input : Forest) (table : Table) (is : IsTableOf program input table) (ways : Cell → Way) (log : List (Coming Cell Note)) (Done : ℕ → Cell → List Note → Type 0)
     (kept : IsKept Cell Note (start program table) (Hop program table) ways log Done) (begins : Done 0 (start program table) [])
     (goes : (j : ℕ) (from : Coming Cell Note) (to : Cell) (its : List Note) → IsAt Cell Note log j from → Hop program table from.cell to its → Done (suc j) to its) where
   -- A run ends at the last cell.
@@ -122,10 +122,10 @@ module _ (program : List Instruction) (input : Forest) (table : Table) (is : IsT
   is_reached k it there =
       let own = comes Cell Note (start program table) (Hop program table) (tells program table) decide ways log Done kept k it there in
       let come = has_come program input table is (HasLeft (table.left it.cell.position)) own.0 it.cell own.1 own.2 in
-      (own.0 + 0, own.1 ++ [], come.onward 0 [] (left_of input table is it.cell.position come.levels come.fits.levels_are, refl))
+      (own.0 + 0, own.1 ++ [], come.onward 0 [] (left_of program input table is it.cell.position come.levels come.fits.levels_are, refl))
 
   pub all_reached : (left : ℕ) → Reaches program input left → (k : ℕ) × (it : Coming Cell Note) × IsAt Cell Note log k it × (left ≡ table.left it.cell.position)
   all_reached left (n, notes, run) =
       let end = arrives program input table is (HasLeft left) n notes run in
       let found = reached Cell Note (start program table) (Hop program table) (tells program table) decide ways log Done kept begins goes n end.to notes end.ways in
-      (found.0, found.1, found.2, end.is_last ∙ sym (left_of input table is end.to.position end.levels end.fits.levels_are) ∙ ap (λ (it : Cell). table.left it.position) (sym found.3))
+      (found.0, found.1, found.2, end.is_last ∙ sym (left_of program input table is end.to.position end.levels end.fits.levels_are) ∙ ap (λ (it : Cell). table.left it.position) (sym found.3))

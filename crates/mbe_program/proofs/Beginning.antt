@@ -37,7 +37,7 @@ rows_weigh width (row ∷ rows) narrow =
     let product : (width + width) * suc (length rows) ≡ (width + width) * length rows + (width + width) = omega arith in
     omega (arith, one, rest, least, product)
 
-module _ (program : List Instruction) (table : Table) (input : Forest) (is : IsTableOf input table) where
+module _ (program : List Instruction) (table : Table) (input : Forest) (is : IsTableOf program input table) where
   -- The first arrival is at the start.
   pub begun : (old new : Search) (first : Coming Cell Note) → ((it : Cell) → way_in (rows_of old) it ≡ way.Unseen) → log_of old ≡ [] → length old.rows.items ≡ table.count
       → first ≡ record { cell = start program table; before = 0; notes = []; is_many = false }

@@ -1,6 +1,6 @@
 -- A search in which one more arrival goes on.
 use Rattle.std.proofs.Common.{◌≡◌, inl, inr, ◌<◌, ◌≤◌, ℕ, zero, suc, true, List, [], ◌∷◌, ◌++◌, length, refl, ap, sym, subst, ◌∙◌, arith, append-nil, append_assoc, cond}
-use Rattle.std.specs.Prelude.{◌⊎◌}
+use Rattle.std.specs.Prelude.{Contains, ◌⊎◌}
 use Rattle.mbe_matcher.specs.Fragments.{reach}
 use Rattle.mbe_matcher.specs.Marks.{Note}
 use Rattle.mbe_pattern.specs.Units.{IsNodeOf}
@@ -21,14 +21,14 @@ use Rattle.mbe_program.proofs.Adding.{added_kept, added_grown, gone_on}
 use Rattle.mbe_program.proofs.Arriving.{With}
 use Rattle.mbe_program.proofs.Hops.{is_placed, place_within}
 use Rattle.mbe_program.proofs.Paths.{at_grown, at_either}
-use Rattle.mbe_program.proofs.Placed.{behind_first}
+use Rattle.mbe_program.proofs.Placed.{is_within, behind_first}
 use Rattle.mbe_program.proofs.Telling.{tells, decide}
 
 -- the cell is one of the table and the program
 abbrev pub IsInside : (program : List Instruction) → Table → Cell → Type 0
 IsInside program table it = (it.position < table.count) × (it.left ≤ length program)
 
-module _ (program : List Instruction) (table : Table) (input : Forest) (is : IsTableOf input table) where
+module _ (program : List Instruction) (table : Table) (input : Forest) (is : IsTableOf program input table) where
   next_inside : (n : ℕ) (own : Forest) → table.trees n ≡ own → n < table.count → cond (is_end own) n (suc n) < table.count
   next_inside n end same within = within
   next_inside n (leaf it rest) same within = onward n within (λ none. let both : leaf it rest ≡ end = sym same ∙ none in cc both)
@@ -52,9 +52,9 @@ module _ (program : List Instruction) (table : Table) (input : Forest) (is : IsT
   behind_inside : (it : Instruction) (rest : List Instruction) (left : ℕ) → place_at program left ≡ it ∷ rest → length rest ≤ length program
   behind_inside it rest left same = place_within program input table is rest (behind_first program it rest (is_placed program input table is left (it ∷ rest) same))
 
-  node_inside : (kind : DelimiterKind) (n : ℕ) → n < table.count → HopsFrom program table (enter kind ∷ []) n (record { position = table.inside n; left = 0 }) [] → table.inside n < table.count
-  node_inside kind zero within hops = let none : IsNodeOf kind end = subst (IsNodeOf kind) is.nowhere hops.0 in absurd none
-  node_inside kind (suc n) within hops = (is.into (suc n) (omega arith) within kind hops.0).1
+  node_inside : (kind : DelimiterKind) (n : ℕ) → Contains program (enter kind) → n < table.count → HopsFrom program table (enter kind ∷ []) n (record { position = table.inside n; left = 0 }) [] → table.inside n < table.count
+  node_inside kind zero enters within hops = let none : IsNodeOf kind end = subst (IsNodeOf kind) is.nowhere hops.0 in absurd none
+  node_inside kind (suc n) enters within hops = (is.into (suc n) (omega arith) within kind enters hops.0).1
 
   hops_inside : (place : List Instruction) (from to : Cell) (its : List Note) → place_at program from.left ≡ place → from.position < table.count → HopsFrom program table place from.position to its → IsInside program table to
   hops_inside [] from to its same within hops = absurd hops
@@ -63,7 +63,7 @@ module _ (program : List Instruction) (table : Table) (input : Forest) (is : IsT
   hops_inside (pass leaves ∷ rest) from to its same within (like, at, noted) =
       cell_inside to _ _ at (passed_inside (length leaves) from.position within) (behind_inside (pass leaves) rest from.left same)
   hops_inside (enter kind ∷ rest) from to its same within (node_is, at, noted) =
-      cell_inside to _ _ at (node_inside kind from.position within (node_is, (refl, refl), refl)) (behind_inside (enter kind) rest from.left same)
+      cell_inside to _ _ at (node_inside kind from.position (is_within program (enter kind) rest (is_placed program input table is from.left (enter kind ∷ rest) same)) within (node_is, (refl, refl), refl)) (behind_inside (enter kind) rest from.left same)
   hops_inside (leave ∷ rest) from to its same within (some, at_end, at, noted) =
       cell_inside to _ _ at (is.out from.position within) (behind_inside leave rest from.left same)
   hops_inside (begin op first behind ∷ rest) from to its same within (inl (at, noted)) = cell_inside to _ _ at within (omega arith)

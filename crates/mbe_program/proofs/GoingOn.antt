@@ -19,7 +19,7 @@ use Rattle.mbe_program.proofs.Fewest.{logged_at}
 pub width_is : (program : List Own) → suc (length (instructions_of program)) ≡ length program + 1
 width_is program = let count = length-map program instruction_of in omega (arith, count)
 
-module _ (program : List Own) (table : Table) (number : ℕ) (old : Search) (from : Arrival) (is : IsTable table) (gone : HaveGoneOn (instructions_of program) table number old)
+module _ (program : List Own) (table : Table) (number : ℕ) (old : Search) (from : Arrival) (is : IsTable (instructions_of program) table) (gone : HaveGoneOn (instructions_of program) table number old)
     (less : number < length old.log.items) (own : from ≡ get_or old.log.items number from) where
   there : IsAt Cell Note (log_of old) number (coming_of from)
   there = logged_at old.log.items number from less own

@@ -15,9 +15,9 @@ use Rattle.mbe_program.specs.declared.cell.Cell.{Cell}
 use Rattle.mbe_program.specs.Cells.{IsCell, HopsFrom, Hop}
 use Rattle.mbe_program.specs.Tables.{Table, IsTableOf, AreLevels, passed_to}
 use Rattle.mbe_program.proofs.Levels.{passed_levels, entered_levels}
-use Rattle.mbe_program.proofs.Placed.{IsPlace, behind_first, jumps_to}
+use Rattle.mbe_program.proofs.Placed.{IsPlace, is_within, behind_first, jumps_to}
 
-module _ (program : List Instruction) (input : Forest) (table : Table) (is : IsTableOf input table) where
+module _ (program : List Instruction) (input : Forest) (table : Table) (is : IsTableOf program input table) where
   -- the cell is at this place, before these levels
   pub record Fits (it : Cell) (place : List Instruction) (levels : List Forest) : Type 0 where
     pub place_is : place_at program it.left ≡ place
@@ -109,7 +109,7 @@ module _ (program : List Instruction) (input : Forest) (table : Table) (is : IsT
           hops = subst (λ place. HopsFrom program table place from.position to (took_by (length rest) (taken which.fragment trees) ∷ [])) (sym same)
               (are.0, ap (takes which.fragment) (sym own) ∙ takes_it, (refl, refl), ap (λ trees. took_by (length rest) (taken which.fragment trees) ∷ []) own);
           fits = behind (take which) rest from.left (passed_to table (reach which.fragment (table.trees from.position)) from.position) (after_trees count trees ∷ outer) same
-              (subst (λ k. AreLevels table (passed_to table k from.position) (after_trees count trees ∷ outer)) (sym counts) (passed_levels input table is count from.position trees outer are)) to (refl, refl);
+              (subst (λ k. AreLevels table (passed_to table k from.position) (after_trees count trees ∷ outer)) (sym counts) (passed_levels program input table is count from.position trees outer are)) to (refl, refl);
           goes = goes;
           same = notes_are;
         }
@@ -136,7 +136,7 @@ module _ (program : List Instruction) (input : Forest) (table : Table) (is : IsT
           levels = after_trees (length leaves) trees ∷ outer;
           hops = subst (λ place. HopsFrom program table place from.position to []) (sym same) (subst (IsUnitLike leaves) are.2 like, (refl, refl), refl);
           fits = behind (pass leaves) rest from.left (passed_to table (length leaves) from.position) (after_trees (length leaves) trees ∷ outer) same
-              (passed_levels input table is (length leaves) from.position trees outer are) to (refl, refl);
+              (passed_levels program input table is (length leaves) from.position trees outer are) to (refl, refl);
           goes = goes;
           same = refl;
         }
@@ -151,7 +151,7 @@ module _ (program : List Instruction) (input : Forest) (table : Table) (is : IsT
           place = rest;
           levels = children_of trees ∷ after_tree trees ∷ outer;
           hops = subst (λ place. HopsFrom program table place from.position to []) (sym same) (inner, (refl, refl), refl);
-          fits = behind (enter kind) rest from.left (table.inside from.position) (children_of trees ∷ after_tree trees ∷ outer) same (entered_levels input table is kind from.position trees outer inner are) to (refl, refl);
+          fits = behind (enter kind) rest from.left (table.inside from.position) (children_of trees ∷ after_tree trees ∷ outer) same (entered_levels program input table is kind from.position trees outer (is_within program (enter kind) rest (is_placed from.left (enter kind ∷ rest) same)) inner are) to (refl, refl);
           goes = goes;
           same = refl;
         }

@@ -1,13 +1,14 @@
 -- Positions that are laid level by level.
 use Rattle.std.proofs.Common.{◌≡◌, inl, inr, ◌+◌, ◌<◌, ℕ, zero, suc, true, false, List, [], ◌∷◌, ◌++◌, length, refl, ap, sym, subst, ◌∙◌, arith}
 use Rattle.std.proofs.lemmas.List.{length-append}
-use Rattle.std.specs.Prelude.{◌⊎◌, slice_index_or}
+use Rattle.std.specs.Prelude.{◌⊎◌, Contains, slice_index_or}
 use Rattle.tt.specs.Forest.{Forest, end, leaf, node, size}
 use Rattle.tt.specs.Moves.{after_tree}
 use Rattle.tt.specs.Siblings.{children_of, is_end}
 use Rattle.tt.specs.Types.Delimiter.{Delimiter}
 use Rattle.tt.specs.Types.DelimiterKind.{DelimiterKind}
 use Rattle.mbe_pattern.specs.Units.{IsNodeOf}
+use Rattle.mbe_program.specs.Program.{Instruction, enter}
 use Rattle.mbe_program.specs.Laying.{Spot, spot, level_spots, IsSpot, AreLaid}
 
 -- the positions of a level after its first
@@ -102,8 +103,8 @@ in_level outside behind (node delimiter children rest) (suc n) it is =
     record { out = inner.out; left = inner.left; next = λ goes. inner.next goes }
 
 -- The first level.
-pub laid_first : (input : Forest) → AreLaid input (spot 0 0 end ∷ level_spots 0 0 input) (0 ∷ [])
-laid_first input =
+pub laid_first : (program : List Instruction) (input : Forest) → AreLaid program input (spot 0 0 end ∷ level_spots 0 0 input) (0 ∷ [])
+laid_first program input =
     record {
       nowhere = (spot 0 0 end, refl, refl, refl);
       first = (spot 0 0 input, level_start 0 0 input, refl, refl);
@@ -140,20 +141,20 @@ index_last (it ∷ its) other = index_last its other
 either_less : (n k : ℕ) → n < suc k → (n < k) ⊎ (n ≡ k)
 either_less n k less = grind (arith, less)
 
-module _ (input : Forest) (spots : List Spot) (insides : List ℕ) (laid : AreLaid input spots insides) where
-  -- A first tree that is no subtree holds nothing.
-  pub laid_none : (it : Spot) → IsSpot spots (length insides) it → ((kind : DelimiterKind) → IsNodeOf kind it.trees → ⊥) → AreLaid input spots (insides ++ 0 ∷ [])
+module _ (program : List Instruction) (input : Forest) (spots : List Spot) (insides : List ℕ) (laid : AreLaid program input spots insides) where
+  -- A first tree that the program does not enter holds nothing.
+  pub laid_none : (it : Spot) → IsSpot spots (length insides) it → ((kind : DelimiterKind) → Contains program (enter kind) → IsNodeOf kind it.trees → ⊥) → AreLaid program input spots (insides ++ 0 ∷ [])
   laid_none it there none = record { nowhere = laid.nowhere; first = laid.first; next = laid.next; out = laid.out; into = into }
     where
-      into : (n : ℕ) (other : Spot) → 0 < n → n < length (insides ++ 0 ∷ []) → IsSpot spots n other → (kind : DelimiterKind) → IsNodeOf kind other.trees
+      into : (n : ℕ) (other : Spot) → 0 < n → n < length (insides ++ 0 ∷ []) → IsSpot spots n other → (kind : DelimiterKind) → Contains program (enter kind) → IsNodeOf kind other.trees
           → (0 < slice_index_or (insides ++ 0 ∷ []) n 0) × ((inner : Spot) × IsSpot spots (slice_index_or (insides ++ 0 ∷ []) n 0) inner × (inner.trees ≡ children_of other.trees) × (inner.outside ≡ suc n))
-      into n other some less is kind node_is =
+      into n other some less is kind enters node_is =
           let count = length-append insides (0 ∷ []) in
           elim (either_less n (length insides) (omega (arith, less, count))) [
             | inl before ↦
-                let old = laid.into n other some before is kind node_is in
+                let old = laid.into n other some before is kind enters node_is in
                 subst (λ k. (0 < k) × ((inner : Spot) × IsSpot spots k inner × (inner.trees ≡ children_of other.trees) × (inner.outside ≡ suc n))) (sym (index_before insides 0 n before)) old
-            | inr same ↦ absurd (none kind (subst (λ (it : Spot). IsNodeOf kind it.trees) (spot_once spots n other it is (subst (λ k. IsSpot spots k it) (sym same) there)) node_is))
+            | inr same ↦ absurd (none kind enters (subst (λ (it : Spot). IsNodeOf kind it.trees) (spot_once spots n other it is (subst (λ k. IsSpot spots k it) (sym same) there)) node_is))
           ]
 
   -- What a subtree holds is laid behind all other positions.
@@ -187,13 +188,13 @@ module _ (input : Forest) (spots : List Spot) (insides : List ℕ) (laid : AreLa
               (behind, subst (λ n. IsSpot news n behind) (sym found.out) (spot_before spots level (suc (length insides)) behind next_there), λ positive. found.left)
         ]
 
-    now_into : (n : ℕ) (other : Spot) → 0 < n → n < length new_insides → IsSpot news n other → (kind : DelimiterKind) → IsNodeOf kind other.trees
+    now_into : (n : ℕ) (other : Spot) → 0 < n → n < length new_insides → IsSpot news n other → (kind : DelimiterKind) → Contains program (enter kind) → IsNodeOf kind other.trees
         → (0 < slice_index_or new_insides n 0) × ((inner : Spot) × IsSpot news (slice_index_or new_insides n 0) inner × (inner.trees ≡ children_of other.trees) × (inner.outside ≡ suc n))
-    now_into n other positive less is kind node_is =
+    now_into n other positive less is kind enters node_is =
         let count = length-append insides (length spots ∷ []) in
         elim (either_less n (length insides) (omega (arith, less, count))) [
           | inl before ↦
-              let found = laid.into n other positive before (old n other before is) kind node_is in
+              let found = laid.into n other positive before (old n other before is) kind enters node_is in
               subst (λ k. (0 < k) × ((inner : Spot) × IsSpot news k inner × (inner.trees ≡ children_of other.trees) × (inner.outside ≡ suc n))) (sym (index_before insides (length spots) n before))
               (found.0, (found.1.0, spot_before spots level (slice_index_or insides n 0) found.1.0 found.1.1, found.1.2, found.1.3))
           | inr same ↦ here same
@@ -226,7 +227,7 @@ module _ (input : Forest) (spots : List Spot) (insides : List ℕ) (laid : AreLa
               ),
             )
 
-    pub laid_more : AreLaid input news new_insides
+    pub laid_more : AreLaid program input news new_insides
     laid_more =
         record {
           nowhere = (laid.nowhere.0, spot_before spots level 0 laid.nowhere.0 laid.nowhere.1, laid.nowhere.2, laid.nowhere.3);

@@ -6,6 +6,7 @@ use Rattle.std.specs.Prelude.{slice_get, slice_index_or}
 use Rattle.tt.specs.Forest.{Forest, size}
 use Rattle.tt.specs.Views.{trees_of}
 use Rattle.mbe_program.specs.Laying.{Spot, spot_of, spots_of, IsSpot, AreLaid}
+use Rattle.mbe_program.specs.Program.{Instruction}
 use Rattle.mbe_program.specs.Positions.{trees_in, outside_in, left_in, table_of}
 use Rattle.mbe_program.specs.Tables.{IsTableOf}
 use Rattle.mbe_program.specs.declared.positions.Position.{Position}
@@ -51,9 +52,9 @@ outside_is its n it is = ap (λ (it : Spot). it.outside) (own_spot its n it is)
 pub left_is : (its : Positions) (n : ℕ) (it : Spot) → IsSpot (spots_of its) n it → (table_of its).left n ≡ it.left
 left_is its n it is = ap (λ (it : Spot). it.left) (own_spot its n it is)
 
-module _ (input : Forest) (its : Positions) (laid : AreLaid input (spots_of its) its.insides.items) (all : length its.insides.items ≡ length its.all.items) where
+module _ (program : List Instruction) (input : Forest) (its : Positions) (laid : AreLaid program input (spots_of its) its.insides.items) (all : length its.insides.items ≡ length its.all.items) where
   -- All positions, looked into, are a table.
-  pub laid_table : IsTableOf input (table_of its)
+  pub laid_table : IsTableOf program input (table_of its)
   laid_table =
       record {
         some = in_table its 1 laid.first.0 laid.first.1;
@@ -64,8 +65,8 @@ module _ (input : Forest) (its : Positions) (laid : AreLaid input (spots_of its)
         next = λ n some less goes.
             let found = laid.next n (table_spot its n) some (spot_at its n less) goes in
             (in_table its (suc n) found.0 found.1, trees_are its (suc n) found.0 found.1 ∙ found.2, outside_is its (suc n) found.0 found.1 ∙ found.3);
-        into = λ n some less kind node_is.
-            let found = laid.into n (table_spot its n) some (omega (arith, less, all)) (spot_at its n less) kind node_is in
+        into = λ n some less kind enters node_is.
+            let found = laid.into n (table_spot its n) some (omega (arith, less, all)) (spot_at its n less) kind enters node_is in
             let at = slice_index_or its.insides.items n 0 in
             (found.0, in_table its at found.1.0 found.1.1, trees_are its at found.1.0 found.1.1 ∙ found.1.2, outside_is its at found.1.0 found.1.1 ∙ found.1.3);
         out = λ n less.

@@ -14,10 +14,11 @@ use Rattle.mbe_program.specs.declared.cell.Cell.{Cell}
 use Rattle.mbe_program.specs.Cells.{HopsFrom, Hop, start}
 use Rattle.mbe_program.specs.Tables.{Table, IsTableOf, AreLevels, passed_to}
 use Rattle.mbe_program.specs.Ways.{Comes}
-use Rattle.mbe_program.proofs.Hops.{Fits, behind, jumped, step_by, nowhere_ends, nowhere_stays}
+use Rattle.mbe_program.proofs.Hops.{Fits, behind, is_placed, jumped, step_by, nowhere_ends, nowhere_stays}
 use Rattle.mbe_program.proofs.Levels.{passed_levels, entered_levels, whole_level}
+use Rattle.mbe_program.proofs.Placed.{is_within}
 
-module _ (program : List Instruction) (input : Forest) (table : Table) (is : IsTableOf input table) (Last : List Instruction → List Forest → Type 0) where
+module _ (program : List Instruction) (input : Forest) (table : Table) (is : IsTableOf program input table) (Last : List Instruction → List Forest → Type 0) where
   -- where a hop leads: each run from there is a run from before it
   pub record Lands (place : List Instruction) (levels : List Forest) (to : Cell) (its : List Note) : Type 0 where
     pub to_place : List Instruction
@@ -38,7 +39,7 @@ module _ (program : List Instruction) (input : Forest) (table : Table) (is : IsT
           to_place = rest;
           to_levels = after_trees count trees ∷ outer;
           fits = behind program input table is (take which) rest from.left (passed_to table (reach which.fragment (table.trees from.position)) from.position) (after_trees count trees ∷ outer) same
-              (subst (λ k. AreLevels table (passed_to table k from.position) (after_trees count trees ∷ outer)) (sym counts) (passed_levels input table is count from.position trees outer are)) to at;
+              (subst (λ k. AreLevels table (passed_to table k from.position) (after_trees count trees ∷ outer)) (sym counts) (passed_levels program input table is count from.position trees outer are)) to at;
           onward = λ n more goes. (
             ap (takes which.fragment) are.2 ∙ takes_it,
             (more, ap (λ l. l ++ more) noted ∙ ap (λ trees. took_by (length rest) (taken which.fragment trees) ∷ more) (sym are.2), goes),
@@ -59,7 +60,7 @@ module _ (program : List Instruction) (input : Forest) (table : Table) (is : IsT
           to_place = rest;
           to_levels = after_trees (length leaves) trees ∷ outer;
           fits = behind program input table is (pass leaves) rest from.left (passed_to table (length leaves) from.position) (after_trees (length leaves) trees ∷ outer) same
-              (passed_levels input table is (length leaves) from.position trees outer are) to at;
+              (passed_levels program input table is (length leaves) from.position trees outer are) to at;
           onward = λ n more goes. (
             subst (IsUnitLike leaves) (sym are.2) like,
             subst (λ l. Goes program Last n rest (after_trees (length leaves) trees ∷ outer) (l ++ more)) (sym noted) goes,
@@ -71,7 +72,8 @@ module _ (program : List Instruction) (input : Forest) (table : Table) (is : IsT
           to_place = rest;
           to_levels = children_of trees ∷ after_tree trees ∷ outer;
           fits = behind program input table is (enter kind) rest from.left (table.inside from.position) (children_of trees ∷ after_tree trees ∷ outer) same
-              (entered_levels input table is kind from.position trees outer node_is are) to at;
+              (entered_levels program input table is kind from.position trees outer
+              (is_within program (enter kind) rest (is_placed program input table is from.left (enter kind ∷ rest) same)) node_is are) to at;
           onward = λ n more goes. (
             subst (IsNodeOf kind) (sym are.2) node_is,
             subst (λ l. Goes program Last n rest (children_of trees ∷ after_tree trees ∷ outer) (l ++ more)) (sym noted) goes,
@@ -121,7 +123,7 @@ module _ (program : List Instruction) (input : Forest) (table : Table) (is : IsT
   begins : Fits program input table is (start program table) program (input ∷ [])
   begins =
       let none : length program - length program ≡ 0 = omega arith in
-      record { place_is = ap (λ n. drop n program) none; levels_are = whole_level input table is; within = omega arith }
+      record { place_is = ap (λ n. drop n program) none; levels_are = whole_level program input table is; within = omega arith }
 
   -- a way has come to a place before levels, and each run from there is a whole run
   pub record HasCome (n : ℕ) (to : Cell) (notes : List Note) : Type 0 where

@@ -1,5 +1,6 @@
 -- The levels at the positions of a table.
 use Rattle.std.proofs.Common.{◌≡◌, ◌+◌, ℕ, zero, suc, List, [], ◌∷◌, refl, ap, ap₂, sym, subst, ◌∙◌, arith, cond}
+use Rattle.std.specs.Prelude.{Contains}
 use Rattle.mbe_matcher.specs.Places.{left_in}
 use Rattle.mbe_pattern.specs.Units.{IsNodeOf}
 use Rattle.tt.specs.Forest.{Forest, end, leaf, node, size}
@@ -7,9 +8,10 @@ use Rattle.tt.specs.Gluing.{after_trees}
 use Rattle.tt.specs.Moves.{after_tree}
 use Rattle.tt.specs.Siblings.{children_of, is_end}
 use Rattle.tt.specs.Types.DelimiterKind.{DelimiterKind}
+use Rattle.mbe_program.specs.Program.{Instruction, enter}
 use Rattle.mbe_program.specs.Tables.{Table, IsTableOf, AreLevels, passed_to}
 
-module _ (input : Forest) (table : Table) (is : IsTableOf input table) where
+module _ (program : List Instruction) (input : Forest) (table : Table) (is : IsTableOf program input table) where
   -- As many tokens are left as the levels have.
   pub left_of : (n : ℕ) (levels : List Forest) → AreLevels table n levels → table.left n ≡ left_in levels
   left_of n [] none = ap table.left none ∙ is.none_left
@@ -38,10 +40,10 @@ module _ (input : Forest) (table : Table) (is : IsTableOf input table) where
       passed_levels count (cond (is_end (table.trees n)) n (suc n)) (after_tree trees) outer (next_level n trees outer are)
 
   -- Inside the first tree.
-  pub entered_levels : (kind : DelimiterKind) (n : ℕ) (trees : Forest) (outer : List Forest) → IsNodeOf kind (table.trees n) → AreLevels table n (trees ∷ outer)
+  pub entered_levels : (kind : DelimiterKind) (n : ℕ) (trees : Forest) (outer : List Forest) → Contains program (enter kind) → IsNodeOf kind (table.trees n) → AreLevels table n (trees ∷ outer)
       → AreLevels table (table.inside n) (children_of trees ∷ after_tree trees ∷ outer)
-  entered_levels kind n trees outer is_node (some, within, same, are) =
-      let there = is.into n some within kind is_node in
+  entered_levels kind n trees outer enters is_node (some, within, same, are) =
+      let there = is.into n some within kind enters is_node in
       let goes : table.trees n ≡ end → ⊥ = λ none. subst (IsNodeOf kind) none is_node in
       let behind = is.next n some within goes in (
         there.0,

@@ -5,12 +5,18 @@ pub mod Arrived
 pub mod Arriving
 pub mod Backward
 pub mod Beginning
+pub mod Built
+pub mod CutWhole
 pub mod Empty
 pub mod Expanding
 pub mod Fewest
-pub mod GoingOn
 pub mod Filling
+pub mod Finding
 pub mod Forward
+pub mod Fronts
+pub mod FrontsBackward
+pub mod FrontsForward
+pub mod GoingOn
 pub mod Hops
 pub mod Laid
 pub mod LaidTable
@@ -29,3 +35,4 @@ pub mod SameNotes
 pub mod Short
 pub mod Telling
 pub mod Tracing
+pub mod VariablesIn

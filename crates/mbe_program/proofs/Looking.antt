@@ -1,6 +1,7 @@
 -- One more position is looked into, and how many positions are still to come.
 use Rattle.std.proofs.Common.{◌≡◌, ◌+◌, ◌-◌, ◌<◌, ◌≤◌, ℕ, zero, suc, List, [], ◌∷◌, ◌++◌, length, drop, refl, ap, ap₂, sym, subst, ◌∙◌, arith}
 use Rattle.std.proofs.lemmas.List.{length-append, drop-append-le}
+use Rattle.std.specs.Prelude.{Contains}
 use Rattle.tt.specs.Forest.{Forest, end, leaf, node, size}
 use Rattle.tt.specs.Moves.{after_tree}
 use Rattle.tt.specs.Types.Delimiter.{Delimiter}
@@ -8,6 +9,7 @@ use Rattle.tt.specs.Types.DelimiterKind.{DelimiterKind}
 use Rattle.mbe_pattern.specs.Units.{IsNodeOf}
 use Rattle.mbe_program.specs.Laying.{Spot, spot, spots_of, level_spots, places_in, places_inside, pending, IsSpot, AreLaid}
 use Rattle.mbe_program.specs.Positions.{table_of}
+use Rattle.mbe_program.specs.Program.{Instruction, enter}
 use Rattle.mbe_program.specs.declared.positions.Positions.{Positions}
 use Rattle.mbe_program.proofs.Laid.{spot_once, laid_none, laid_more}
 use Rattle.mbe_program.proofs.LaidTable.{table_spot, spot_at, spots_count, in_table, own_spot}
@@ -35,27 +37,20 @@ drop_here (other ∷ others) (suc n) it is = drop_here others n it is
 pending_here : (spots : List Spot) (n : ℕ) (it : Spot) → IsSpot spots n it → pending (drop n spots) ≡ places_inside it.trees + pending (drop (suc n) spots)
 pending_here spots n it is = ap pending (drop_here spots n it is)
 
-pub none_inside : (trees : Forest) → ((kind : DelimiterKind) → IsNodeOf kind trees → ⊥) → places_inside trees ≡ 0
-none_inside end none = refl
-none_inside (leaf it rest) none = refl
-none_inside (node delimiter children rest) none = absurd (none delimiter.kind refl)
-
 module _ (old new : Positions) (number next : ℕ) (within : number < length old.all.items) (next_is : next ≡ suc number) where
   here : IsSpot (spots_of old) number (table_spot old number)
   here = spot_at old number within
 
-  pub count_none : spots_of new ≡ spots_of old → ((kind : DelimiterKind) → IsNodeOf kind ((table_of old).trees number) → ⊥)
-      → length (spots_of new) + pending (drop next (spots_of new)) ≡ length (spots_of old) + pending (drop number (spots_of old))
-  count_none same none =
+  pub count_none : spots_of new ≡ spots_of old → length (spots_of new) + pending (drop next (spots_of new)) ≤ length (spots_of old) + pending (drop number (spots_of old))
+  count_none same =
       let own = pending_here (spots_of old) number (table_spot old number) here in
-      let nothing = none_inside ((table_of old).trees number) none in
       let now : length (spots_of new) + pending (drop next (spots_of new)) ≡ length (spots_of old) + pending (drop (suc number) (spots_of old)) =
       ap₂ (λ (spots : List Spot) (n : ℕ). length spots + pending (drop n spots)) same next_is in
-      omega (arith, own, nothing, now)
+      omega (arith, own, now)
 
   pub count_more : (outside behind : ℕ) (delimiter : Delimiter) (children rest : Forest) → (table_of old).trees number ≡ node delimiter children rest
       → spots_of new ≡ spots_of old ++ level_spots outside behind children
-      → length (spots_of new) + pending (drop next (spots_of new)) ≡ length (spots_of old) + pending (drop number (spots_of old))
+      → length (spots_of new) + pending (drop next (spots_of new)) ≤ length (spots_of old) + pending (drop number (spots_of old))
   count_more outside behind delimiter children rest trees more =
       let level = level_spots outside behind children in
       let own = pending_here (spots_of old) number (table_spot old number) here in
@@ -70,14 +65,14 @@ module _ (old new : Positions) (number next : ℕ) (within : number < length old
       let level_is = level_count outside behind children in
       omega (arith, own, inside, now, cut, both, lengths, level_is)
 
-  module _ (input : Forest) (some : 0 < number) (looked : length old.insides.items ≡ number) (laid : AreLaid input (spots_of old) old.insides.items) where
-    -- A first tree that is no subtree holds nothing,
-    pub look_none : spots_of new ≡ spots_of old → new.insides.items ≡ old.insides.items ++ 0 ∷ [] → ((kind : DelimiterKind) → IsNodeOf kind ((table_of old).trees number) → ⊥)
-        → AreLaid input (spots_of new) new.insides.items
+  module _ (program : List Instruction) (input : Forest) (some : 0 < number) (looked : length old.insides.items ≡ number) (laid : AreLaid program input (spots_of old) old.insides.items) where
+    -- A first tree that the program does not enter holds nothing,
+    pub look_none : spots_of new ≡ spots_of old → new.insides.items ≡ old.insides.items ++ 0 ∷ []
+        → ((kind : DelimiterKind) → Contains program (enter kind) → IsNodeOf kind ((table_of old).trees number) → ⊥) → AreLaid program input (spots_of new) new.insides.items
     look_none same pushed none =
-        subst (λ spots. AreLaid input spots new.insides.items) (sym same)
-        (subst (AreLaid input (spots_of old)) (sym pushed)
-        (laid_none input (spots_of old) old.insides.items laid (table_spot old number) (subst (λ n. IsSpot (spots_of old) n (table_spot old number)) (sym looked) here) none))
+        subst (λ spots. AreLaid program input spots new.insides.items) (sym same)
+        (subst (AreLaid program input (spots_of old)) (sym pushed)
+        (laid_none program input (spots_of old) old.insides.items laid (table_spot old number) (subst (λ n. IsSpot (spots_of old) n (table_spot old number)) (sym looked) here) none))
 
     goes : (delimiter : Delimiter) (children rest : Forest) → (table_of old).trees number ≡ node delimiter children rest → (table_of old).trees number ≡ end → ⊥
     goes delimiter children rest trees none = let both : node delimiter children rest ≡ end = sym trees ∙ none in cc both
@@ -90,7 +85,7 @@ module _ (old new : Positions) (number next : ℕ) (within : number < length old
     -- and what a subtree holds is laid behind all other positions.
     pub look_more : (delimiter : Delimiter) (children rest : Forest) → (table_of old).trees number ≡ node delimiter children rest
         → spots_of new ≡ spots_of old ++ level_spots next ((table_of old).left next) children → new.insides.items ≡ old.insides.items ++ length old.all.items ∷ []
-        → AreLaid input (spots_of new) new.insides.items
+        → AreLaid program input (spots_of new) new.insides.items
     look_more delimiter children rest trees more pushed =
         let after = suc (length old.insides.items) in
         let after_is : after ≡ next = omega (arith, looked, next_is) in
@@ -98,9 +93,9 @@ module _ (old new : Positions) (number next : ℕ) (within : number < length old
         let behind = table_spot old after in
         let there = subst (λ n. IsSpot (spots_of old) n (table_spot old number)) (sym looked) here in
         let next_there = spot_at old after (subst (λ n. n < length old.all.items) numbers (next_within delimiter children rest trees)) in
-        let laid_now = laid_more input (spots_of old) old.insides.items laid (table_spot old number) behind delimiter children rest (omega (arith, some, looked)) there trees next_there in
-        subst (λ spots. AreLaid input spots new.insides.items) (sym (more ∙ ap (λ n. spots_of old ++ level_spots n ((table_of old).left n) children) (sym after_is)))
-        (subst (AreLaid input (spots_of old ++ level_spots after behind.left children)) (sym (pushed ∙ ap (λ n. old.insides.items ++ n ∷ []) (sym (spots_count old)))) laid_now)
+        let laid_now = laid_more program input (spots_of old) old.insides.items laid (table_spot old number) behind delimiter children rest (omega (arith, some, looked)) there trees next_there in
+        subst (λ spots. AreLaid program input spots new.insides.items) (sym (more ∙ ap (λ n. spots_of old ++ level_spots n ((table_of old).left n) children) (sym after_is)))
+        (subst (AreLaid program input (spots_of old ++ level_spots after behind.left children)) (sym (pushed ∙ ap (λ n. old.insides.items ++ n ∷ []) (sym (spots_count old)))) laid_now)
 
     -- The tokens at a subtree are its own one, those inside and those behind it.
     pub look_left : (delimiter : Delimiter) (children rest : Forest) → (table_of old).trees number ≡ node delimiter children rest

@@ -1,8 +1,9 @@
 -- Where the instructions of a pattern are in a program.
-use Rattle.std.proofs.Common.{◌≡◌, ◌+◌, ℕ, suc, List, [], ◌∷◌, ◌++◌, length, ap, ap₂, sym, ◌∙◌, arith, append_assoc}
+use Rattle.std.proofs.Common.{◌≡◌, ◌+◌, ℕ, suc, List, [], ◌∷◌, ◌++◌, length, refl, ap, ap₂, sym, subst, ◌∙◌, arith, append_assoc}
 use Rattle.std.proofs.Math.Seq.{drop-append_seam}
 use Rattle.std.proofs.lemmas.List.{length-append}
-use Rattle.std.specs.Prelude.{◌-◌, drop}
+use Rattle.std.proofs.lemmas.List.Elements.{Contains-append_right}
+use Rattle.std.specs.Prelude.{◌-◌, Contains, drop}
 use Rattle.mbe_matcher.specs.Marks.{pass_count, step_count}
 use Rattle.mbe_pattern.specs.Patterns.{Pattern, nothing, variable, token, subtree, repetition}
 use Rattle.tt.specs.Types.Leaf.{Leaf}
@@ -34,7 +35,11 @@ module _ (program : List Instruction) where
   abbrev pub IsPlace : List Instruction → Type 0
   IsPlace place = (before : List Instruction) × (program ≡ before ++ place)
 
-  -- So is what follows its first instruction,
+  -- The first instruction at a place is one of the program.
+  pub is_within : (it : Instruction) (rest : List Instruction) → IsPlace (it ∷ rest) → Contains program it
+  is_within it rest (before, is) = subst (λ its. Contains its it) (sym is) (Contains-append_right before (it ∷ rest) it (0, omega arith, refl))
+
+  -- What follows it is a place too,
   pub behind_first : (it : Instruction) (rest : List Instruction) → IsPlace (it ∷ rest) → IsPlace rest
   behind_first it rest (before, is) = (before ++ it ∷ [], is ∙ sym (append_assoc before (it ∷ []) rest))
 

@@ -17,6 +17,7 @@ use Rattle.mbe_program.specs.Answers.{HasNoRun}
 use Rattle.mbe_program.specs.Laying.{level_spots, places_in}
 use Rattle.mbe_program.specs.Program.{Instruction, take, pass, enter, leave, begin, close, place_at, program_of}
 use Rattle.mbe_program.specs.Runs.{IsRun}
+use Rattle.mbe_program.specs.Variables.{variable_at, variables_in}
 
 -- the variable `$x:ident`, and the token `,`
 abbrev x : Variable
@@ -82,6 +83,11 @@ listing_row = refl
 spelled_row : program_of (pattern_of listed) ≡ listing
 spelled_row = refl
 
+-- The number of `$x` is 5, and it is in the repetition 4.
+variables_row : variables_in [] listing ≡ variable_at x 5 (4 ∷ []) ∷ []
+variables_row = refl
+
+-- Six instructions are left at the first round.
 first_round : place_at listing 6 ≡ take x ∷ close repeat.ZeroOrMore 7 ∷ begin repeat.ZeroOrOne 3 1 ∷ pass a_comma ∷ close repeat.ZeroOrOne 3 ∷ leave ∷ []
 first_round = refl
 

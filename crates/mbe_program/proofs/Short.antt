@@ -8,7 +8,7 @@ use Rattle.mbe_program.specs.Tables.{Table, IsTableOf}
 use Rattle.mbe_program.specs.declared.search.Search.{Search}
 use Rattle.mbe_program.proofs.Beginning.{log_bound}
 
-pub few_arrivals : (program : List Instruction) (input : Forest) (table : Table) (search : Search) → IsTableOf input table → HaveAllGoneOn program table search
+pub few_arrivals : (program : List Instruction) (input : Forest) (table : Table) (search : Search) → IsTableOf program input table → HaveAllGoneOn program table search
     → length (log_of search) ≤ 2 * (suc (length program) * table.count)
 few_arrivals program input table search is gone = let few = log_bound program table input is (length (log_of search)) search gone in omega (arith, few)
 

@@ -1,11 +1,12 @@
 -- Positions that are laid level by level.
-use Rattle.std.specs.Prelude.{◌≡◌, ◌+◌, ◌<◌, ℕ, zero, suc, List, [], ◌∷◌, map, length, slice_index_or}
+use Rattle.std.specs.Prelude.{◌≡◌, ◌+◌, ◌<◌, ℕ, zero, suc, List, [], ◌∷◌, map, length, Contains, slice_index_or}
 use Rattle.tt.specs.Forest.{Forest, end, leaf, node, size}
 use Rattle.tt.specs.Moves.{after_tree}
 use Rattle.tt.specs.Siblings.{children_of}
 use Rattle.tt.specs.Types.DelimiterKind.{DelimiterKind}
 use Rattle.tt.specs.Views.{trees_of}
 use Rattle.mbe_pattern.specs.Units.{IsNodeOf}
+use Rattle.mbe_program.specs.Program.{Instruction, enter}
 use Rattle.mbe_program.specs.declared.positions.Position.{Position}
 use Rattle.mbe_program.specs.declared.positions.Positions.{Positions}
 
@@ -53,11 +54,12 @@ IsSpot [] n it = ⊥
 IsSpot (other ∷ others) zero it = it ≡ other
 IsSpot (other ∷ others) (suc n) it = IsSpot others n it
 
--- positions of an input, of which those before a number know what is inside their first trees
-pub record AreLaid (input : Forest) (spots : List Spot) (insides : List ℕ) : Type 0 where
+-- positions of an input, of which those before a number know what is inside their first trees, if the program enters subtrees of that kind
+pub record AreLaid (program : List Instruction) (input : Forest) (spots : List Spot) (insides : List ℕ) : Type 0 where
   pub nowhere : (it : Spot) × IsSpot spots 0 it × (it.trees ≡ end) × (it.left ≡ 0)
   pub first : (it : Spot) × IsSpot spots 1 it × (it.trees ≡ input) × (it.outside ≡ 0)
   pub next : (n : ℕ) (it : Spot) → 0 < n → IsSpot spots n it → (it.trees ≡ end → ⊥) → (other : Spot) × IsSpot spots (suc n) other × (other.trees ≡ after_tree it.trees) × (other.outside ≡ it.outside)
   pub out : (n : ℕ) (it : Spot) → IsSpot spots n it → (other : Spot) × IsSpot spots it.outside other × (0 < n → it.left ≡ size it.trees + other.left)
-  pub into : (n : ℕ) (it : Spot) → 0 < n → n < length insides → IsSpot spots n it → (kind : DelimiterKind) → IsNodeOf kind it.trees
+  pub into : (n : ℕ) (it : Spot) → 0 < n → n < length insides → IsSpot spots n it → (kind : DelimiterKind) → Contains program (enter kind)
+      → IsNodeOf kind it.trees
       → (0 < slice_index_or insides n 0) × ((other : Spot) × IsSpot spots (slice_index_or insides n 0) other × (other.trees ≡ children_of it.trees) × (other.outside ≡ suc n))

@@ -56,9 +56,9 @@ pub record IsRoomy (width : ℕ) (search : Search) : Type 0 where
   pub narrow : AreNarrow width (rows_of search)
   pub least : length (log_of search) ≤ rows_weight (rows_of search)
 
--- the table is of some input
-abbrev pub IsTable : Table → Type 0
-IsTable table = (input : Forest) × IsTableOf input table
+-- the table is of some input, for the program
+abbrev pub IsTable : (program : List Instruction) → Table → Type 0
+IsTable program table = (input : Forest) × IsTableOf program input table
 
 -- the first arrivals of the log, so many, have gone on
 pub record HaveGoneOn (program : List Instruction) (table : Table) (i : ℕ) (search : Search) : Type 0 where

@@ -1,10 +1,11 @@
 //! Laws of programs: each is the contract of a function without effect.
-ghost use Rattle.std.specs.Prelude.{◌≡◌, ◌≤◌, ◌*◌, ◌↔◌, List, suc, length};
+ghost use Rattle.std.specs.Prelude.{◌≡◌, ◌≤◌, ◌*◌, ◌↔◌, ℕ, List, suc, length};
 ghost use Rattle.tt.specs.Forest.{Forest, size};
+ghost use Rattle.mbe_matcher.specs.Fronts.{StopsAt};
 ghost use Rattle.mbe_matcher.specs.Marks.{Note, notes_of};
 ghost use Rattle.mbe_matcher.specs.Readings.{Reading, IsInstance, IsNoInstance, IsReadBy, IsAmbiguous};
 ghost use Rattle.mbe_pattern.specs.Patterns.{Pattern};
-ghost use Rattle.mbe_program.specs.Answers.{HasNoRun, HasOneRun, HasTwoRuns};
+ghost use Rattle.mbe_program.specs.Answers.{HasNoRun, HasOneRun, HasTwoRuns, Reach};
 ghost use Rattle.mbe_program.specs.Laying.{places_in};
 ghost use Rattle.mbe_program.specs.Program.{Instruction, program_of};
 ghost use Rattle.mbe_program.specs.Runs.{IsRun};
@@ -28,9 +29,14 @@ pub fn as_many_runs()
     ensures two { (pattern : Pattern) → (input : Forest) → HasTwoRuns (program_of pattern) input ↔ IsAmbiguous pattern input }
 {}
 
+/// States that the farthest place that a pattern's program comes to in an input is the place where the pattern stops.
+pub fn as_far()
+    ensures { (pattern : Pattern) → (input : Forest) → (at : ℕ) → Reach (program_of pattern) input at ↔ StopsAt pattern input at }
+{}
+
 /// States that a search is short: it has at most two arrivals for each place of the program before each position of the input, and an input
 /// has at most two positions for each token, and two more.
 pub fn searches_are_short()
-    ensures arrivals { (program : List Instruction) → (input : Forest) → (table : Table) → (search : Search) → IsTableOf input table → HaveAllGoneOn program table search → length (log_of search) ≤ 2 * (suc (length program) * table.count) }
+    ensures arrivals { (program : List Instruction) → (input : Forest) → (table : Table) → (search : Search) → IsTableOf program input table → HaveAllGoneOn program table search → length (log_of search) ≤ 2 * (suc (length program) * table.count) }
     ensures positions { (input : Forest) → suc (places_in input) ≤ 2 * suc (size input) }
 {}

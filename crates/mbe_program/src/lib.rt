@@ -5,6 +5,10 @@
 //! jumps. A run goes through the program and an input, and notes the trees that a variable takes, that a round begins, and that a repetition
 //! has no further round.
 //!
+//! `Program::new` has `validate` of `mbe_pattern` check the trees of a pattern, and makes their program: `parse` cuts the pattern into pieces,
+//! one for each instruction, and `assemble` goes through them from the last, so that it knows where each jump leads. `variables` finds the
+//! variables in the instructions.
+//!
 //! `laws` state that the runs of a pattern's program are the readings of the pattern, one by one.
 //!
 //! `run` answers in how many ways a program runs through an input. It searches all runs at once, from cell to cell. A cell is a place of the
@@ -12,16 +16,22 @@
 //! many arrivals as there are cells.
 #![tactic(auto)]
 
+mod assemble;
 mod cell;
 mod instruction;
 pub mod laws;
 mod moves;
 mod outcome;
+mod parse;
 mod positions;
+mod program;
 mod search;
 #[cfg(test)]
 mod tests;
+mod variables;
 
+pub use assemble::program_of;
 pub use instruction::Instruction;
-pub use mbe_matcher::Mark;
+pub use mbe_matcher::{Binder, Mark};
 pub use outcome::{Answer, run};
+pub use program::Program;

@@ -101,7 +101,7 @@ fn answer_of<'i>(
     count: usize,
 ) -> Result<Answer<'i>, AllocError>
     requires { AreInOrder (log_of search.now) }
-    ensures { IfOk result (λ answer. (program : List Step) → (input : Forest) → IsTableOf input (table_of positions.now) → HaveAllGoneOn program (table_of positions.now) search.now → size input ≡ count → IsAnswer program input answer) }
+    ensures { IfOk result (λ answer. (program : List Step) → (input : Forest) → IsTableOf program input (table_of positions.now) → HaveAllGoneOn program (table_of positions.now) search.now → size input ≡ count → IsAnswer program input answer) }
 {
     let Some(last) = last_arrival(&search.log) else {
         let left = fewest_left(&search.log, positions, count);
@@ -132,7 +132,7 @@ pub fn run<'i>(
     ensures { IfOk result (IsAnswer (instructions_of program.now) (rest_of input.entry)) }
 {
     let count = input.remaining().len();
-    let positions = lay_out(alloc, input)?;
+    let positions = lay_out(alloc, program, input)?;
     let search = search_all(alloc, program, &positions)?;
     answer_of(alloc, &search, &positions, count)
 }

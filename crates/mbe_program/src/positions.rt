@@ -1,19 +1,22 @@
 //! The positions of an input, numbered: those of a level follow one another.
-ghost use Rattle.std.specs.Prelude.{◌≡◌, ◌+◌, ◌<◌, ◌≤◌, ◌^◌, ◌++◌, ◌∷◌, [], suc, drop, length, IfOk, OnOk, MatchOption};
+ghost use Rattle.std.specs.Prelude.{◌≡◌, ◌+◌, ◌<◌, ◌≤◌, ◌^◌, ◌++◌, ◌∷◌, ◌↔◌, [], suc, drop, length, Contains, IfOk, IsTrue, OnOk, MatchOption};
 ghost use Rattle.mbe_pattern.specs.Units.{IsNodeOf};
 ghost use Rattle.tt.specs.Forest.{Forest, node, size};
 ghost use Rattle.tt.specs.Iters.{rest_of};
 ghost use Rattle.tt.specs.Moves.{after_tree};
 ghost use Rattle.tt.specs.Types.Delimiter.{Delimiter};
-ghost use Rattle.tt.specs.Types.DelimiterKind.{DelimiterKind};
+ghost use Rattle.tt.specs.Types.DelimiterKind.{DelimiterKind as Kind};
 ghost use Rattle.tt.specs.Views.{trees_of};
 ghost use Rattle.mbe_program.specs.Laying.{AreLaid, level_spots, pending, places_in, spot, spots_of};
+ghost use Rattle.mbe_program.specs.Moving.{instruction_of, instructions_of};
 ghost use Rattle.mbe_program.specs.Positions.{table_of};
+ghost use Rattle.mbe_program.specs.Program.{enter};
 ghost use Rattle.mbe_program.specs.Tables.{IsTableOf, passed_to};
 
+use crate::instruction::Instruction;
 use mbe_pattern::pass;
 use std::alloc::{AllocError, Global};
-use tt::{TokenTreesView, TtElement, TtIter};
+use tt::{DelimiterKind, TokenTreesView, TtIter};
 
 /// A position: the trees that are left of its level, the number of the position outside the level, and how many tokens are left.
 #[derive(Clone, Copy)]
@@ -138,18 +141,18 @@ impl<'i> Positions<'i> {
         Ok(())
     }
 
-    // Notes what is inside the first tree at the position of that number.
-    fn look_into(&mut self, number: usize) -> Result<(), AllocError>
+    // Notes what is inside the first tree at the position of that number, if the program enters subtrees of its kind.
+    fn look_into(&mut self, program: &[Instruction], number: usize) -> Result<(), AllocError>
         requires number { number < length self.old.all.items }
         requires some { 0 < number }
         requires count { length self.old.insides.items ≡ number }
-        requires laid { (input : Forest) × AreLaid input (spots_of self.old) self.old.insides.items }
-        ensures laid { OnOk result ((input : Forest) → AreLaid input (spots_of self.old) self.old.insides.items → AreLaid input (spots_of self.new) self.new.insides.items) }
+        requires laid { (input : Forest) × AreLaid (instructions_of program.now) input (spots_of self.old) self.old.insides.items }
+        ensures laid { OnOk result ((input : Forest) → AreLaid (instructions_of program.now) input (spots_of self.old) self.old.insides.items → AreLaid (instructions_of program.now) input (spots_of self.new) self.new.insides.items) }
         ensures now_count { OnOk result (length self.new.insides.items ≡ suc number) }
         ensures grown { OnOk result (length (spots_of self.old) ≤ length (spots_of self.new)) }
-        ensures pending { OnOk result (length (spots_of self.new) + pending (drop (suc number) (spots_of self.new)) ≡ length (spots_of self.old) + pending (drop number (spots_of self.old))) }
+        ensures pending { OnOk result (length (spots_of self.new) + pending (drop (suc number) (spots_of self.new)) ≤ length (spots_of self.old) + pending (drop number (spots_of self.old))) }
     {
-        let Some(children) = children_of(self.trees(number)) else {
+        let Some(children) = children_of(program, self.trees(number)) else {
             self.insides.push(0)?;
             return Ok(());
         };
@@ -160,20 +163,53 @@ impl<'i> Positions<'i> {
     }
 }
 
-// Returns what the first tree holds, if it is a subtree.
-fn children_of<'i>(trees: TokenTreesView<'i>) -> Option<TtIter<'i>>
-    ensures { MatchOption result ((kind : DelimiterKind) → IsNodeOf kind (trees_of trees.entry) → ⊥) (λ children. (delimiter : Delimiter) × (trees_of trees.entry ≡ node delimiter (rest_of children) (after_tree (trees_of trees.entry)))) }
+// Returns whether the instruction enters subtrees of that kind.
+fn is_enter(instruction: &Instruction, kind: DelimiterKind) -> bool
+    ensures { IsTrue result ↔ (instruction_of instruction.now ≡ enter kind) }
 {
-    match trees.iter().next() {
-        Some(TtElement::Subtree(_, children)) => Some(children),
-        Some(TtElement::Leaf(_)) | None => None,
+    match instruction {
+        Instruction::Enter(own) => *own == kind,
+        Instruction::Take(_)
+        | Instruction::Pass(_)
+        | Instruction::Leave
+        | Instruction::Begin(_, _, _)
+        | Instruction::Close(_, _) => false,
     }
 }
 
-/// Returns the positions of an input: 0 is outside, and the input begins at position 1.
-pub(crate) fn lay_out<'i>(alloc: Global, input: TtIter<'i>) -> Result<Positions<'i>, AllocError>
-    ensures table { IfOk result (λ positions. IsTableOf (rest_of input.entry) (table_of positions)) }
-    ensures count { IfOk result (λ positions. length positions.all.items ≡ suc (places_in (rest_of input.entry))) }
+// Returns whether the program enters subtrees of that kind.
+fn enters(program: &[Instruction], kind: DelimiterKind) -> bool
+    ensures { IsTrue result ↔ Contains (instructions_of program.now) (enter kind) }
+{
+    for instruction in program {
+        if is_enter(instruction, kind) {
+            return true;
+        }
+    }
+    false
+}
+
+// Returns what the first tree holds, if it is a subtree of a kind that the program enters.
+fn children_of<'i>(program: &[Instruction], trees: TokenTreesView<'i>) -> Option<TtIter<'i>>
+    ensures { MatchOption result ((kind : Kind) → Contains (instructions_of program.now) (enter kind) → IsNodeOf kind (trees_of trees.entry) → ⊥) (λ children. (delimiter : Delimiter) × (trees_of trees.entry ≡ node delimiter (rest_of children) (after_tree (trees_of trees.entry)))) }
+{
+    let (header, children) = trees.iter().expect_subtree().ok()?;
+    if enters(program, header.delimiter.kind) {
+        Some(children)
+    } else {
+        None
+    }
+}
+
+/// Returns the positions of an input that a program may come to: 0 is outside, and the input begins at position 1. Positions inside a subtree
+/// are left out if the program enters no subtree of its kind.
+pub(crate) fn lay_out<'i>(
+    alloc: Global,
+    program: &[Instruction],
+    input: TtIter<'i>,
+) -> Result<Positions<'i>, AllocError>
+    ensures table { IfOk result (λ positions. IsTableOf (instructions_of program.now) (rest_of input.entry) (table_of positions)) }
+    ensures count { IfOk result (λ positions. length positions.all.items ≤ suc (places_in (rest_of input.entry))) }
 {
     let mut positions = Positions {
         all: Vec::new(alloc),
@@ -184,7 +220,7 @@ pub(crate) fn lay_out<'i>(alloc: Global, input: TtIter<'i>) -> Result<Positions<
     positions.add_level(input, 0, 0)?;
     let mut number = 1;
     while number < positions.all.len() {
-        positions.look_into(number)?;
+        positions.look_into(program, number)?;
         number += 1;
     }
     Ok(positions)

@@ -130,7 +130,7 @@ impl<'i> Search<'i> {
         number: usize,
     ) -> Result<(), AllocError>
         requires number { number < length self.old.log.items }
-        requires table { IsTable (table_of positions.now) }
+        requires table { IsTable (instructions_of program.now) (table_of positions.now) }
         requires gone_on { HaveGoneOn (instructions_of program.now) (table_of positions.now) number self.old }
         ensures { OnOk result (HaveGoneOn (instructions_of program.now) (table_of positions.now) (suc number) self.new) }
     {
@@ -182,7 +182,7 @@ fn begin<'i>(
     program: &[Instruction],
     positions: &Positions<'i>,
 ) -> Result<Search<'i>, AllocError>
-    requires { IsTable (table_of positions.now) }
+    requires { IsTable (instructions_of program.now) (table_of positions.now) }
     ensures { IfOk result (HaveGoneOn (instructions_of program.now) (table_of positions.now) 0) }
 {
     let mut search = empty(alloc, positions.all.len())?;
@@ -207,7 +207,7 @@ pub(crate) fn search_all<'i>(
     program: &[Instruction],
     positions: &Positions<'i>,
 ) -> Result<Search<'i>, AllocError>
-    requires { IsTable (table_of positions.now) }
+    requires { IsTable (instructions_of program.now) (table_of positions.now) }
     ensures all { IfOk result (HaveAllGoneOn (instructions_of program.now) (table_of positions.now)) }
     ensures few { IfOk result (λ search. length search.log.items ≤ 2 * (suc (length program.now) * length positions.now.all.items)) }
 {

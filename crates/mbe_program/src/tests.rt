@@ -1,11 +1,12 @@
-//! Runs of small programs.
-use crate::{Answer, Instruction, run};
+//! Runs of small programs, and programs of small patterns.
+use crate::{Answer, Instruction, Program, program_of, run};
 use mbe_pattern::{Fragment, RepeatKind, Variable};
-use std::alloc::Global;
+use std::alloc::{AllocError, Global};
 use std::test::Fail;
 use tt::{
-    ErasedFileAstId, FileId, Leaf, Punct, Spacing, Span, SpanAnchor, SyntaxContext, TextRange,
-    TextSize, TopSubtree, TtFault,
+    Delimiter, DelimiterKind, ErasedFileAstId, FileId, Ident, IdentIsRaw, Leaf, Punct, Spacing,
+    Span, SpanAnchor, Symbol, SyntaxContext, TextRange, TextSize, TopSubtree, TopSubtreeBuilder,
+    TtFault,
 };
 
 // A span of no byte.
@@ -45,6 +46,15 @@ enum Said {
     Two,
 }
 
+// What an answer says.
+fn said_of(answer: &Answer<'_>) -> Said {
+    match answer {
+        Answer::NoRun(at) => Said::None(*at),
+        Answer::OneRun(marks) => Said::One(marks.len()),
+        Answer::TwoRuns => Said::Two,
+    }
+}
+
 // What a run of the program through these puncts answers.
 fn answer_to<const N: usize>(
     alloc: Global,
@@ -52,11 +62,8 @@ fn answer_to<const N: usize>(
     puncts: [Leaf; N],
 ) -> Result<Said, TtFault> {
     let tree = TopSubtree::invisible_from_leaves(alloc, span(), puncts)?;
-    Ok(match run(alloc, program, tree.token_trees().iter())? {
-        Answer::NoRun(at) => Said::None(at),
-        Answer::OneRun(marks) => Said::One(marks.len()),
-        Answer::TwoRuns => Said::Two,
-    })
+    let answer = run(alloc, program, tree.token_trees().iter())?;
+    Ok(said_of(&answer))
 }
 
 // `$x:tt ,` has one run through a tree and a comma, and stops at any other token.
@@ -100,5 +107,159 @@ fn runs_are_counted(rt: HostRuntime) -> Result<(), Fail> {
     ]?;
     assert_eq!(rt; answer_to(alloc, &program, [])?, Said::One(2));
     assert_eq!(rt; answer_to(alloc, &program, [punct(';')])?, Said::Two);
+    Ok(())
+}
+
+// The leaf of a word.
+fn leaf_of(alloc: Global, word: &str) -> Result<Leaf, TtFault> {
+    match word.chars().next() {
+        Some(char) if !char.is_ascii_alphabetic() => Ok(punct(char)),
+        _ => Ok(Leaf::Ident(Ident {
+            sym: Symbol::new(alloc, word)?,
+            span: span(),
+            is_raw: IdentIsRaw::No,
+        })),
+    }
+}
+
+// Adds what a word spells: a parenthesis or a brace opens or closes a subtree, and any other word is a leaf.
+fn add_word(alloc: Global, builder: &mut TopSubtreeBuilder, word: &str) -> Result<(), TtFault> {
+    match word {
+        "(" => builder.open(DelimiterKind::Parenthesis, span()),
+        "{" => builder.open(DelimiterKind::Brace, span()),
+        ")" | "}" => {
+            if builder.is_open() {
+                builder.close(span())?;
+            }
+            Ok(())
+        }
+        _ => Ok(builder.push(leaf_of(alloc, word)?)?),
+    }
+}
+
+// The tree of words with spaces between them.
+fn tree_of(alloc: Global, text: &str) -> Result<TopSubtree, TtFault> {
+    let mut builder = TopSubtreeBuilder::new(alloc, Delimiter::invisible_spanned(span()))?;
+    for word in text.split_whitespace() {
+        add_word(alloc, &mut builder, word)?;
+    }
+    if builder.is_open() {
+        return Err(TtFault::NotOneSubtree);
+    }
+    Ok(builder.build()?)
+}
+
+// The sign of a repetition.
+fn sign(kind: RepeatKind) -> char {
+    match kind {
+        RepeatKind::ZeroOrMore => '*',
+        RepeatKind::OneOrMore => '+',
+        RepeatKind::ZeroOrOne => '?',
+    }
+}
+
+// The bracket that opens a subtree.
+fn bracket(kind: DelimiterKind) -> char {
+    match kind {
+        DelimiterKind::Parenthesis => '(',
+        DelimiterKind::Brace => '{',
+        DelimiterKind::Bracket => '[',
+        DelimiterKind::Invisible | DelimiterKind::InvisibleOpaque => '<',
+    }
+}
+
+// Writes leaves behind a text.
+fn write_leaves(text: &mut String, leaves: &[Leaf]) -> Result<(), AllocError> {
+    for leaf in leaves {
+        write!(text, "{leaf}")?;
+    }
+    Ok(())
+}
+
+// Writes an instruction behind a text.
+fn write_instruction(text: &mut String, instruction: &Instruction) -> Result<(), AllocError> {
+    match instruction {
+        Instruction::Take(variable) => match &variable.name {
+            Some(name) => write!(text, "take {name}; "),
+            None => write!(text, "take _; "),
+        },
+        Instruction::Pass(leaves) => {
+            write!(text, "pass ")?;
+            write_leaves(text, leaves)?;
+            write!(text, "; ")
+        }
+        Instruction::Enter(kind) => write!(text, "enter {}; ", bracket(*kind)),
+        Instruction::Leave => write!(text, "leave; "),
+        Instruction::Begin(kind, first, behind) => {
+            write!(text, "begin{} {first} {behind}; ", sign(*kind))
+        }
+        Instruction::Close(kind, again) => write!(text, "close{} {again}; ", sign(*kind)),
+    }
+}
+
+// The text of the program of a pattern.
+fn program_text(alloc: Global, pattern: &str) -> Result<String, TtFault> {
+    let tree = tree_of(alloc, pattern)?;
+    let mut text = String::new(alloc);
+    for instruction in &program_of(alloc, tree.token_trees().iter())? {
+        write_instruction(&mut text, instruction)?;
+    }
+    Ok(text)
+}
+
+// Patterns and their programs. The numbers of a beginning say how many instructions are left at its first round and behind all rounds, and
+// the number of a close how many are left at another round.
+const PROGRAMS: [(&str, &str); 7] = [
+    ("", "leave; "),
+    ("$ x : tt ,", "take x; pass ,; leave; "),
+    ("( $ x : tt ) a", "enter (; take x; leave; pass a; leave; "),
+    ("$ ( $ x : tt ) +", "begin+ 3 1; take x; close+ 3; leave; "),
+    (
+        "$ ( $ x : tt ) , * ;",
+        "begin* 4 2; pass ,; take x; close* 5; pass ;; leave; ",
+    ),
+    (
+        "{ $ ( a ) * b } c",
+        "enter {; begin* 6 4; pass a; close* 6; pass b; leave; pass c; leave; ",
+    ),
+    (
+        "$ ( $ ( $ x : tt ) , * ; ) ?",
+        "begin? 7 1; begin* 5 3; pass ,; take x; close* 6; pass ;; close? 7; leave; ",
+    ),
+];
+
+#[test]
+fn patterns_have_programs(rt: HostRuntime) -> Result<(), Fail> {
+    for (pattern, wanted) in PROGRAMS {
+        let text = program_text(rt.alloc(), pattern)?;
+        assert_eq!(rt; text.as_str(), wanted);
+    }
+    Ok(())
+}
+
+// What the program of a pattern answers to an input; none if the pattern has a fault.
+fn said_by(alloc: Global, pattern: &str, input: &str) -> Result<Option<Said>, TtFault> {
+    let pattern = tree_of(alloc, pattern)?;
+    let Ok(program) = Program::new(alloc, pattern.token_trees().iter()) else {
+        return Ok(None);
+    };
+    let input = tree_of(alloc, input)?;
+    let answer = program.run(alloc, input.token_trees().iter())?;
+    Ok(Some(said_of(&answer)))
+}
+
+// `$($x:tt),*` reads trees with commas between them: it notes each tree, each round, and that there is no further one.
+#[test]
+fn patterns_read_inputs(rt: HostRuntime) -> Result<(), Fail> {
+    let alloc = rt.alloc();
+    let list = "$ ( $ x : tt ) , *";
+    assert_eq!(rt; said_by(alloc, list, "")?, Some(Said::One(1)));
+    assert_eq!(rt; said_by(alloc, list, "a , ( b c )")?, Some(Said::One(5)));
+    assert_eq!(rt; said_by(alloc, list, "a , ( b c ) d")?, Some(Said::None(5)));
+    assert_eq!(rt;
+        said_by(alloc, "$ ( $ x : tt ) * $ ( $ y : tt ) *", "a")?,
+        Some(Said::Two)
+    );
+    assert_eq!(rt; said_by(alloc, "$ x : nothing", "a")?, None);
     Ok(())
 }

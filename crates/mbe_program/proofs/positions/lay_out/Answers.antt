@@ -4,6 +4,7 @@ use Rattle.std.proofs.lemmas.Result.{err_from_is_err_and}
 use Rattle.tt.specs.Forest.{end}
 use Rattle.tt.specs.Iters.{rest_of}
 use Rattle.tt.specs.Views.{trees_of}
+use Rattle.mbe_program.specs.Moving.{instructions_of}
 use Rattle.mbe_program.specs.Laying.{AreLaid, level_spots, pending, spot, spot_of, spots_of}
 use Rattle.mbe_program.proofs.Laid.{laid_first}
 use Rattle.mbe_program.proofs.LaidTable.{laid_table, spots_count}
@@ -44,6 +45,7 @@ returns-in_err-look_into-clause-count c =
 pub loop-number-init : goal.loop-number-init
 loop-number-init c =
     let input = rest_of c.args.input in
+    let program = instructions_of c.args.program.now in
     let new = c.add_level.new.self in
     let outer : spots_of c.add.new.self ≡ spot 0 0 end ∷ [] =
     c.in_ok-add.ensures.spots ∙ ap (λ l. map spot_of l ++ spot 0 0 (trees_of c.empty.result) ∷ []) c.new.ensures.items ∙ ap (λ trees. spot 0 0 trees ∷ []) c.empty.ensures in
@@ -55,11 +57,11 @@ loop-number-init c =
     let count : length new.insides.items ≡ 1 = ap length insides in
     let many = ap length spots in
     record {
-      laid = subst (λ l. AreLaid input l new.insides.items) (sym spots) (subst (AreLaid input (spot 0 0 end ∷ level_spots 0 0 input)) (sym insides) (laid_first input));
+      laid = subst (λ l. AreLaid program input l new.insides.items) (sym spots) (subst (AreLaid program input (spot 0 0 end ∷ level_spots 0 0 input)) (sym insides) (laid_first program input));
       count = count;
       some = omega arith;
       upto = omega (arith, many);
-      pending = ap (λ l. length l + pending (drop 1 l)) spots ∙ first_count input;
+      pending = omega (arith, ap (λ l. length l + pending (drop 1 l)) spots, first_count input);
     }
 
 pub look_into-requires-clause-number : goal.look_into-requires-clause-number
@@ -95,7 +97,7 @@ loop-number-preserved c =
       count = omega (arith, now_count);
       some = omega arith;
       upto = omega (arith, grown, count, c.loop-number-test.true, c.len.ensures, c.loop-number.positions.all.ok.0);
-      pending = ap (λ n. length (spots_of new) + pending (drop n (spots_of new))) next ∙ c.in_ok-look_into.ensures.pending ∙ c.loop-number.invariant.pending;
+      pending = omega (arith, ap (λ n. length (spots_of new) + pending (drop n (spots_of new))) next, c.in_ok-look_into.ensures.pending, c.loop-number.invariant.pending);
     }
 
 pub returns-clause-table : goal.returns-clause-table
@@ -105,7 +107,7 @@ returns-clause-table c =
     let own = c.loop-number.invariant.count in
     let upto = c.loop-number.invariant.upto in
     let all : length its.insides.items ≡ length its.all.items = omega (arith, count, own, upto, c.loop-number-test.false, c.len.ensures, its.all.ok.0) in
-    laid_table (rest_of c.args.input) its c.loop-number.invariant.laid all
+    laid_table (instructions_of c.args.program.now) (rest_of c.args.input) its c.loop-number.invariant.laid all
 
 pub returns-clause-count : goal.returns-clause-count
 returns-clause-count c =

@@ -1,5 +1,6 @@
 use Rattle.std.proofs.Common.{◌≡◌, ◌+◌, ◌-◌, ◌∷◌, ◌++◌, [], suc, length, length-append, refl, ap, sym, subst, ◌∙◌, arith}
 use Rattle.std.proofs.lemmas.Result.{err_from_is_err_and}
+use Rattle.std.specs.Prelude.{Contains}
 use Rattle.mbe_pattern.specs.Units.{IsNodeOf}
 use Rattle.tt.specs.Forest.{size}
 use Rattle.tt.specs.Iters.{rest_of}
@@ -7,6 +8,8 @@ use Rattle.tt.specs.Moves.{after_tree}
 use Rattle.tt.specs.Types.DelimiterKind.{DelimiterKind}
 use Rattle.tt.specs.Views.{trees_of}
 use Rattle.mbe_program.specs.Laying.{level_spots, spots_of}
+use Rattle.mbe_program.specs.Moving.{instructions_of}
+use Rattle.mbe_program.specs.Program.{enter}
 use Rattle.mbe_program.specs.Positions.{table_of}
 use Rattle.mbe_program.specs.declared.positions.Positions.{Positions}
 use Rattle.mbe_program.proofs.Looking.{count_none, count_more, look_none, look_more, look_behind}
@@ -26,9 +29,10 @@ pub returns-in_default-clause-laid : goal.returns-in_default-clause-laid
 returns-in_default-clause-laid c =
     let old = c.args.self.now in
     let new : Positions = record { all = old.all; insides = c.push.new.self } in
-    let none : (kind : DelimiterKind) → IsNodeOf kind ((table_of old).trees c.args.number) → ⊥ = λ kind node_is. c.in_default.ensures kind (subst (IsNodeOf kind) (sym c.trees.ensures) node_is) in
+    let none : (kind : DelimiterKind) → Contains (instructions_of c.args.program.now) (enter kind) → IsNodeOf kind ((table_of old).trees c.args.number) → ⊥ =
+    λ kind enters node_is. c.in_default.ensures kind enters (subst (IsNodeOf kind) (sym c.trees.ensures) node_is) in
     λ input laid.
-    look_none old new c.args.number (suc c.args.number) c.requires.number refl input c.requires.some c.requires.count laid refl c.in_ok-push.ensures.items none
+    look_none old new c.args.number (suc c.args.number) c.requires.number refl (instructions_of c.args.program.now) input c.requires.some c.requires.count laid refl c.in_ok-push.ensures.items none
 
 pub returns-in_default-clause-now_count : goal.returns-in_default-clause-now_count
 returns-in_default-clause-now_count c =
@@ -40,8 +44,7 @@ pub returns-in_default-clause-pending : goal.returns-in_default-clause-pending
 returns-in_default-clause-pending c =
     let old = c.args.self.now in
     let new : Positions = record { all = old.all; insides = c.push.new.self } in
-    let none : (kind : DelimiterKind) → IsNodeOf kind ((table_of old).trees c.args.number) → ⊥ = λ kind node_is. c.in_default.ensures kind (subst (IsNodeOf kind) (sym c.trees.ensures) node_is) in
-    count_none old new c.args.number (suc c.args.number) c.requires.number refl refl none
+    count_none old new c.args.number (suc c.args.number) c.requires.number refl refl
 
 pub overflow_sub-behind : goal.overflow_sub-behind
 overflow_sub-behind c =
@@ -50,7 +53,7 @@ overflow_sub-behind c =
     let next : c.args.number + 1 ≡ suc c.args.number = omega arith in
     let children = rest_of c.in-Some.children in
     let count : c.len-count.result ≡ size children = c.len-count.ensures ∙ ap size c.remaining.ensures in
-    let behind = look_behind old old c.args.number (c.args.number + 1) c.requires.number next c.requires.laid.0 c.requires.some c.requires.count c.requires.laid.1
+    let behind = look_behind old old c.args.number (c.args.number + 1) c.requires.number next (instructions_of c.args.program.now) c.requires.laid.0 c.requires.some c.requires.count c.requires.laid.1
     c.in-Some.ensures.0 children (after_tree (trees_of c.trees.result)) node_is c.left.result c.len-count.result c.left.ensures count in
     let upto = behind.0 in
     omega (arith, upto)
@@ -62,7 +65,7 @@ overflow_sub-behind-2 c =
     let next : c.args.number + 1 ≡ suc c.args.number = omega arith in
     let children = rest_of c.in-Some.children in
     let count : c.len-count.result ≡ size children = c.len-count.ensures ∙ ap size c.remaining.ensures in
-    let behind = look_behind old old c.args.number (c.args.number + 1) c.requires.number next c.requires.laid.0 c.requires.some c.requires.count c.requires.laid.1
+    let behind = look_behind old old c.args.number (c.args.number + 1) c.requires.number next (instructions_of c.args.program.now) c.requires.laid.0 c.requires.some c.requires.count c.requires.laid.1
     c.in-Some.ensures.0 children (after_tree (trees_of c.trees.result)) node_is c.left.result c.len-count.result c.left.ensures count in
     let upto = behind.0 in
     omega (arith, upto)
@@ -89,7 +92,7 @@ add_level-requires c =
     let next : c.args.number + 1 ≡ suc c.args.number = omega arith in
     let children = rest_of c.in-Some.children in
     let count : c.len-count.result ≡ size children = c.len-count.ensures ∙ ap size c.remaining.ensures in
-    let behind = look_behind old old c.args.number (c.args.number + 1) c.requires.number next c.requires.laid.0 c.requires.some c.requires.count c.requires.laid.1
+    let behind = look_behind old old c.args.number (c.args.number + 1) c.requires.number next (instructions_of c.args.program.now) c.requires.laid.0 c.requires.some c.requires.count c.requires.laid.1
     c.in-Some.ensures.0 children (after_tree (trees_of c.trees.result)) node_is c.left.result c.len-count.result c.left.ensures count in
     let upto = behind.0 in
     omega (arith, upto, count, c.left.type_inv)
@@ -101,7 +104,7 @@ returns-clause-laid c =
     let next : c.args.number + 1 ≡ suc c.args.number = omega arith in
     let children = rest_of c.in-Some.children in
     let count : c.len-count.result ≡ size children = c.len-count.ensures ∙ ap size c.remaining.ensures in
-    let behind = look_behind old old c.args.number (c.args.number + 1) c.requires.number next c.requires.laid.0 c.requires.some c.requires.count c.requires.laid.1
+    let behind = look_behind old old c.args.number (c.args.number + 1) c.requires.number next (instructions_of c.args.program.now) c.requires.laid.0 c.requires.some c.requires.count c.requires.laid.1
     c.in-Some.ensures.0 children (after_tree (trees_of c.trees.result)) node_is c.left.result c.len-count.result c.left.ensures count in
     let new = c.add_level.new.self in
     let all : c.len.result ≡ length old.all.items = omega (arith, c.len.ensures, old.all.ok.0) in
@@ -110,7 +113,7 @@ returns-clause-laid c =
     ap (λ v. v.items) same ∙ c.in_ok-push-2.ensures.items ∙ ap (λ n. old.insides.items ++ n ∷ []) all in
     on_ok c.add_level.result
     (λ spots input laid.
-    look_more old new c.args.number (c.args.number + 1) c.requires.number next input c.requires.some c.requires.count laid c.in-Some.ensures.0 children
+    look_more old new c.args.number (c.args.number + 1) c.requires.number next (instructions_of c.args.program.now) input c.requires.some c.requires.count laid c.in-Some.ensures.0 children
     (after_tree (trees_of c.trees.result)) node_is (spots ∙ ap (λ n. spots_of old ++ level_spots (c.args.number + 1) n children) behind.1) pushed)
     c.add_level.ensures.spots
 
