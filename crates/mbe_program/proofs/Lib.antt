@@ -5,17 +5,22 @@ pub mod Arrived
 pub mod Arriving
 pub mod Backward
 pub mod Beginning
+pub mod Beside
 pub mod Built
+pub mod CountSteps
+pub mod Counted
 pub mod CutWhole
 pub mod Empty
+pub mod Entering
 pub mod Expanding
 pub mod Fewest
 pub mod Filling
 pub mod Finding
+pub mod Fits
 pub mod Forward
-pub mod Fronts
-pub mod FrontsBackward
-pub mod FrontsForward
+pub mod FrontBackward
+pub mod FrontForward
+pub mod FrontLaw
 pub mod GoingOn
 pub mod Hops
 pub mod Laid
@@ -30,9 +35,15 @@ pub mod Picking
 pub mod Placed
 pub mod Putting
 pub mod Results
+pub mod Rounds
 mod Rows
 pub mod SameNotes
 pub mod Short
+pub mod StuckFlags
+pub mod StuckRuns
 pub mod Telling
 pub mod Tracing
 pub mod VariablesIn
+pub mod WaitLaw
+mod WaitRows
+pub mod Waits

@@ -1,12 +1,13 @@
 //! Laws of programs: each is the contract of a function without effect.
-ghost use Rattle.std.specs.Prelude.{◌≡◌, ◌≤◌, ◌*◌, ◌↔◌, ℕ, List, suc, length};
+ghost use Rattle.std.specs.Prelude.{◌≡◌, ◌≤◌, ◌*◌, ◌↔◌, List, ℕ, suc, length};
 ghost use Rattle.tt.specs.Forest.{Forest, size};
-ghost use Rattle.mbe_matcher.specs.Fronts.{StopsAt};
+ghost use Rattle.mbe_matcher.specs.Fronts.{StopsAt, Waits};
 ghost use Rattle.mbe_matcher.specs.Marks.{Note, notes_of};
 ghost use Rattle.mbe_matcher.specs.Readings.{Reading, IsInstance, IsNoInstance, IsReadBy, IsAmbiguous};
 ghost use Rattle.mbe_pattern.specs.Patterns.{Pattern};
 ghost use Rattle.mbe_program.specs.Answers.{HasNoRun, HasOneRun, HasTwoRuns, Reach};
 ghost use Rattle.mbe_program.specs.Laying.{places_in};
+ghost use Rattle.mbe_program.specs.Numbering.{IsStuckRun, parts_of};
 ghost use Rattle.mbe_program.specs.Program.{Instruction, program_of};
 ghost use Rattle.mbe_program.specs.Runs.{IsRun};
 ghost use Rattle.mbe_program.specs.Searching.{log_of, HaveAllGoneOn};
@@ -29,9 +30,16 @@ pub fn as_many_runs()
     ensures two { (pattern : Pattern) → (input : Forest) → HasTwoRuns (program_of pattern) input ↔ IsAmbiguous pattern input }
 {}
 
-/// States that the farthest place that a pattern's program comes to in an input is the place where the pattern stops.
-pub fn as_far()
+/// States that a pattern stops where the steps of its program do: the farthest flat place that they come to is the farthest one before which
+/// a part of the pattern comes next.
+pub fn stops_where_runs_stop()
     ensures { (pattern : Pattern) → (input : Forest) → (at : ℕ) → Reach (program_of pattern) input at ↔ StopsAt pattern input at }
+{}
+
+/// States that a part of a pattern waits at a flat place of an input where some steps of the pattern's program come to the part there, and the
+/// trees are not what it requires.
+pub fn waits_where_runs_are_stuck()
+    ensures { (pattern : Pattern) → (input : Forest) → (at number : ℕ) → Waits pattern input at number ↔ IsStuckRun (program_of pattern) (parts_of pattern) input at number }
 {}
 
 /// States that a search is short: it has at most two arrivals for each place of the program before each position of the input, and an input

@@ -9,15 +9,17 @@
 //! one for each instruction, and `assemble` goes through them from the last, so that it knows where each jump leads. `variables` finds the
 //! variables in the instructions.
 //!
-//! `laws` state that the runs of a pattern's program are the readings of the pattern, one by one.
+//! `laws` state that the runs of a pattern's program are the readings of the pattern, one by one, that the pattern stops where the program's
+//! steps do, and that a part of it waits where they are stuck.
 //!
 //! `run` answers in how many ways a program runs through an input. It searches all runs at once, from cell to cell. A cell is a place of the
 //! program before a position of the input. It goes on once, and once more if another way leads there too, so a search has at most twice as
-//! many arrivals as there are cells.
+//! many arrivals as there are cells. `waiting` answers, by the same search, which parts of a pattern wait at a place of the input.
 #![tactic(auto)]
 
 mod assemble;
 mod cell;
+mod counting;
 mod instruction;
 pub mod laws;
 mod moves;
@@ -26,6 +28,7 @@ mod parse;
 mod positions;
 mod program;
 mod search;
+mod stuck;
 #[cfg(test)]
 mod tests;
 mod variables;
@@ -35,3 +38,4 @@ pub use instruction::Instruction;
 pub use mbe_matcher::{Binder, Mark};
 pub use outcome::{Answer, run};
 pub use program::Program;
+pub use stuck::waiting;

@@ -1,5 +1,5 @@
 //! The positions of an input, numbered: those of a level follow one another.
-ghost use Rattle.std.specs.Prelude.{◌≡◌, ◌+◌, ◌<◌, ◌≤◌, ◌^◌, ◌++◌, ◌∷◌, ◌↔◌, [], suc, drop, length, Contains, IfOk, IsTrue, OnOk, MatchOption};
+ghost use Rattle.std.specs.Prelude.{◌≡◌, ◌+◌, ◌<◌, ◌≤◌, ◌^◌, ◌++◌, ◌∷◌, ◌↔◌, [], suc, drop, length, false, Contains, IfOk, IsTrue, OnOk, MatchOption};
 ghost use Rattle.mbe_pattern.specs.Units.{IsNodeOf};
 ghost use Rattle.tt.specs.Forest.{Forest, node, size};
 ghost use Rattle.tt.specs.Iters.{rest_of};
@@ -142,7 +142,13 @@ impl<'i> Positions<'i> {
     }
 
     // Notes what is inside the first tree at the position of that number, if the program enters subtrees of its kind.
-    fn look_into(&mut self, program: &[Instruction], number: usize) -> Result<(), AllocError>
+    fn look_into(
+        &mut self,
+        program: &[Instruction],
+        enters_some: bool,
+        number: usize,
+    ) -> Result<(), AllocError>
+        requires none { enters_some ≡ false → (kind : Kind) → Contains (instructions_of program.now) (enter kind) → ⊥ }
         requires number { number < length self.old.all.items }
         requires some { 0 < number }
         requires count { length self.old.insides.items ≡ number }
@@ -152,7 +158,7 @@ impl<'i> Positions<'i> {
         ensures grown { OnOk result (length (spots_of self.old) ≤ length (spots_of self.new)) }
         ensures pending { OnOk result (length (spots_of self.new) + pending (drop (suc number) (spots_of self.new)) ≤ length (spots_of self.old) + pending (drop number (spots_of self.old))) }
     {
-        let Some(children) = children_of(program, self.trees(number)) else {
+        let Some(children) = children_of(program, enters_some, self.trees(number)) else {
             self.insides.push(0)?;
             return Ok(());
         };
@@ -189,10 +195,38 @@ fn enters(program: &[Instruction], kind: DelimiterKind) -> bool
     false
 }
 
+// Returns whether the instruction enters subtrees.
+fn is_any_enter(instruction: &Instruction) -> bool
+    ensures { result ≡ false → (kind : Kind) → instruction_of instruction.now ≡ enter kind → ⊥ }
+{
+    matches!(instruction, Instruction::Enter(_))
+}
+
+// Returns whether the program enters subtrees.
+fn enters_any(program: &[Instruction]) -> bool
+    ensures { result ≡ false → (kind : Kind) → Contains (instructions_of program.now) (enter kind) → ⊥ }
+{
+    for instruction in program {
+        if is_any_enter(instruction) {
+            return true;
+        }
+    }
+    false
+}
+
 // Returns what the first tree holds, if it is a subtree of a kind that the program enters.
-fn children_of<'i>(program: &[Instruction], trees: TokenTreesView<'i>) -> Option<TtIter<'i>>
+// `enters_some`: whether the program enters subtrees.
+fn children_of<'i>(
+    program: &[Instruction],
+    enters_some: bool,
+    trees: TokenTreesView<'i>,
+) -> Option<TtIter<'i>>
+    requires none { enters_some ≡ false → (kind : Kind) → Contains (instructions_of program.now) (enter kind) → ⊥ }
     ensures { MatchOption result ((kind : Kind) → Contains (instructions_of program.now) (enter kind) → IsNodeOf kind (trees_of trees.entry) → ⊥) (λ children. (delimiter : Delimiter) × (trees_of trees.entry ≡ node delimiter (rest_of children) (after_tree (trees_of trees.entry)))) }
 {
+    if !enters_some {
+        return None;
+    }
     let (header, children) = trees.iter().expect_subtree().ok()?;
     if enters(program, header.delimiter.kind) {
         Some(children)
@@ -218,9 +252,10 @@ pub(crate) fn lay_out<'i>(
     positions.add(TokenTreesView::empty(), 0, 0)?;
     positions.insides.push(0)?;
     positions.add_level(input, 0, 0)?;
+    let enters_some = enters_any(program);
     let mut number = 1;
     while number < positions.all.len() {
-        positions.look_into(program, number)?;
+        positions.look_into(program, enters_some, number)?;
         number += 1;
     }
     Ok(positions)

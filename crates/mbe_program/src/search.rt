@@ -54,6 +54,7 @@ fn way_of(is_many: bool) -> Way
 fn fill(row: &mut Vec<Way>, width: usize) -> Result<(), AllocError>
     ensures { OnOk result (row.new.items ≡ filled width row.old.items) }
 {
+    row.reserve(width.saturating_sub(row.len()))?;
     for _ in row.len()..width {
         row.push(Way::Unseen)?;
     }

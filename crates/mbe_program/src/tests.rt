@@ -1,5 +1,5 @@
 //! Runs of small programs, and programs of small patterns.
-use crate::{Answer, Instruction, Program, program_of, run};
+use crate::{Answer, Instruction, Program, program_of, run, waiting};
 use mbe_pattern::{Fragment, RepeatKind, Variable};
 use std::alloc::{AllocError, Global};
 use std::test::Fail;
@@ -107,6 +107,46 @@ fn runs_are_counted(rt: HostRuntime) -> Result<(), Fail> {
     ]?;
     assert_eq!(rt; answer_to(alloc, &program, [])?, Said::One(2));
     assert_eq!(rt; answer_to(alloc, &program, [punct(';')])?, Said::Two);
+    Ok(())
+}
+
+// The numbers of the parts that wait at that place of these puncts.
+fn wait_at<const N: usize>(
+    alloc: Global,
+    program: &[Instruction],
+    puncts: [Leaf; N],
+    at: usize,
+) -> Result<Vec<usize>, TtFault> {
+    let tree = TopSubtree::invisible_from_leaves(alloc, span(), puncts)?;
+    Ok(waiting(alloc, program, tree.token_trees().iter(), at)?)
+}
+
+// Of `$($x:tt),* .` the variable, part 0, and the `.`, part 2, wait at the end of nothing, the `.` at a `;`, and the `,`, part 1,
+// and the `.` behind it.
+#[test]
+fn parts_wait(rt: HostRuntime) -> Result<(), Fail> {
+    let alloc = rt.alloc();
+    let program = vec![in alloc;
+        Instruction::Begin(RepeatKind::ZeroOrMore, 4, 2),
+        Instruction::Pass(vec![in alloc; punct(',')]?),
+        take(),
+        Instruction::Close(RepeatKind::ZeroOrMore, 5),
+        Instruction::Pass(vec![in alloc; punct('.')]?),
+        Instruction::Leave,
+    ]?;
+    assert_eq!(rt; wait_at(alloc, &program, [], 0)?, vec![in alloc; 0, 2]?);
+    assert_eq!(rt;
+        wait_at(alloc, &program, [punct(';'), punct(';')], 0)?,
+        vec![in alloc; 2]?
+    );
+    assert_eq!(rt;
+        wait_at(alloc, &program, [punct(';'), punct(';')], 1)?,
+        vec![in alloc; 1, 2]?
+    );
+    assert_eq!(rt;
+        wait_at(alloc, &program, [punct(';'), punct(';')], 3)?,
+        Vec::new(alloc)
+    );
     Ok(())
 }
 

@@ -1,5 +1,5 @@
 -- What a first subtree holds, if the program enters subtrees of its kind.
-use Rattle.std.proofs.Common.{rules, ◌≡◌, sym, subst}
+use Rattle.std.proofs.Common.{rules, ◌≡◌, false, sym, subst}
 use Rattle.std.specs.Prelude.{Contains}
 use Rattle.tt.specs.Iters.{IsFirstSubtree}
 use Rattle.tt.specs.Views.{trees_of}
@@ -8,6 +8,11 @@ use Rattle.mbe_pattern.specs.Units.{IsNodeOf}
 use Rattle.mbe_program.specs.Moving.{instructions_of}
 use Rattle.mbe_program.specs.Program.{enter}
 use Rattle.mbe_program.proofs.positions.children_of.Goals as goal
+
+pub returns-then-not-enters_some : goal.returns-then-not-enters_some
+returns-then-not-enters_some c =
+    let no : c.args.enters_some ≡ false = search rules in
+    λ kind enters node_is. c.requires.none no kind enters
 
 pub returns-then-enters : goal.returns-then-enters
 returns-then-enters c =

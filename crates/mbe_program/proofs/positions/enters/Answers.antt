@@ -1,17 +1,11 @@
-use Rattle.std.proofs.Common.{rules, ◌≡◌, inl, inr, ℕ, zero, suc, ◌<◌, ◌≤◌, List, [], ◌∷◌, length, refl, sym, subst, ap, ◌∙◌, arith}
+use Rattle.std.proofs.Common.{rules, ◌≡◌, inl, inr, ◌≤◌, length, refl, sym, subst, ◌∙◌, arith}
 use Rattle.std.proofs.lemmas.List.{length-map}
 use Rattle.std.specs.Prelude.{slice_index_or}
 use Rattle.mbe_program.specs.Moving.{instruction_of, instructions_of}
-use Rattle.mbe_program.specs.Program.{Instruction, enter}
-use Rattle.mbe_program.specs.declared.instruction.Instruction.{Instruction as Own}
+use Rattle.mbe_program.specs.Program.{enter}
+use Rattle.mbe_program.proofs.Entering.{instruction_at}
 use Rattle.mbe_program.proofs.Results.{less_or_not}
 use Rattle.mbe_program.proofs.positions.enters.Goals as goal
-
-instruction_at : (its : List Own) (n : ℕ) (it : Own) (other : Instruction) → n < length its → it ≡ slice_index_or its n it
-    → slice_index_or (instructions_of its) n other ≡ instruction_of it
-instruction_at [] n it other less is = absurd (omega (arith, less))
-instruction_at (first ∷ its) zero it other less is = ap instruction_of (sym is)
-instruction_at (first ∷ its) (suc n) it other less is = instruction_at its n it other (omega (arith, less)) is
 
 pub returns-then-is_enter : goal.returns-then-is_enter
 returns-then-is_enter c =
