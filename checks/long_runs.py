@@ -25,6 +25,7 @@ BUILT_TOKENS = 600_000
 RULE_LEVELS = 200
 POINTS = 1_000
 BRACKETS = 1_000_000
+OPTIONS = 1_500
 # A span of zeros.
 ZERO = "0:0@0..0#0"
 
@@ -166,6 +167,14 @@ def long_line(program):
     text = "x" * LONG_TEXT
     commands = [f"item sub paren {ZERO} {ZERO} 1", f"item ident plain {ZERO} {text}", "list 0", "show 0", "symbols 0"]
     wants("answers", answers_of(program, commands), ["ok", "ok", "ok", f"({text})", text, "end"])
+
+
+def many_options(program):
+    """A pattern of many options: as many tokens match in one way, fewer in several, and more in none."""
+    commands = ["read 0 (" + "$(a)? " * OPTIONS + ") => {b}"]
+    for count in (OPTIONS, OPTIONS - 1, OPTIONS + 1):
+        commands += ["read 1 " + "a " * count, "arms 0 1 2"]
+    wants("answers", answers_of(program, commands), ["ok", "ok", "ok", "ok", "ambiguous", "ok", "no match"])
 
 
 def all_slots(program):
@@ -359,7 +368,7 @@ def brackets_of_a_text(program):
 
 
 RUNS = (
-    long_list, deep_nest, deepest_nest, debug_of_a_nest, replaced_leaves, long_line, all_slots, counts_of_many, many_names,
+    long_list, deep_nest, deepest_nest, debug_of_a_nest, replaced_leaves, long_line, many_options, all_slots, counts_of_many, many_names,
     large_tree, deep_rule, many_points, brackets_of_a_text,
 )
 

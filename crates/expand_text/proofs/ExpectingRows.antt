@@ -11,7 +11,7 @@ use Rattle.tt_base.specs.Token.{delimiter}
 use Rattle.mbe_pattern.specs.declared.pattern.Fragment.TheVariants as fragment
 use Rattle.mbe_pattern.specs.declared.pattern.Variable.{Variable}
 use Rattle.mbe_pattern.specs.Patterns as pattern
-use Rattle.mbe_matcher.specs.Labels.{take, same, enter, leave}
+use Rattle.mbe_matcher.specs.Labels.{take, enter, leave}
 use Rattle.mbe_rules.specs.declared.macro_rules.ArmPart.{ArmPart}
 use Rattle.mbe_rules.specs.Arms.{Arm}
 use Rattle.mbe_rules.specs.Templates.{nothing}

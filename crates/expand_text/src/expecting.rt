@@ -2,15 +2,15 @@
 ghost use Rattle.std.specs.Prelude.{◌≡◌, ◌++◌, [], List, IfOk, OnOk, codes, map, string_bytes};
 ghost use Rattle.std.specs.List.{list_any};
 ghost use Rattle.tt.specs.Iters.{rest_of};
-ghost use Rattle.mbe_matcher.specs.Labels.{label_of};
+ghost use Rattle.mbe_program.specs.Labelling.{label_of};
 ghost use Rattle.mbe_rules.specs.Arms.{Arm};
 ghost use Rattle.mbe_rules.specs.Expansions.{AreMade};
 ghost use Rattle.mbe_rules.specs.Waiting.{part_in};
 ghost use Rattle.expand_text.specs.Expecting.{IsExpected, added, is_control, label_text, name_text, opening, part_added, parts_named, quoted, rule_text, token_text, variable_text};
 
 use crate::memory::OutOfMemory;
-use mbe_matcher::Atom;
 use mbe_pattern::Variable;
+use mbe_program::Part;
 use mbe_rules::{ArmPart, MacroRules};
 use std::alloc::{AllocError, Global};
 use tt::{DelimiterKind, Leaf, Symbol, TtIter};
@@ -96,20 +96,20 @@ fn quoted(alloc: Global, text: &str, other: &str) -> Result<String, AllocError>
 }
 
 // Returns how a message names what a part of a pattern requires.
-fn label_text(alloc: Global, atom: &Atom) -> Result<String, AllocError>
-    ensures { IfOk result (λ text. string_bytes text ≡ label_text (label_of atom.now)) }
+fn label_text(alloc: Global, part: Part<'_>) -> Result<String, AllocError>
+    ensures { IfOk result (λ text. string_bytes text ≡ label_text (label_of part.entry)) }
 {
-    match atom {
-        Atom::Take(variable) => {
+    match part {
+        Part::Take(variable) => {
             let text = variable_text(alloc, variable)?;
             quoted(alloc, text.as_str(), "a variable")
         }
-        Atom::Same(leaves) => {
+        Part::Same(leaves) => {
             let text = token_text(alloc, leaves)?;
             quoted(alloc, text.as_str(), "a token")
         }
-        Atom::Enter(kind) => quoted(alloc, opening(*kind), ""),
-        Atom::Leave => "the end".to_string(alloc),
+        Part::Enter(kind) => quoted(alloc, opening(kind), ""),
+        Part::Leave => "the end".to_string(alloc),
     }
 }
 
@@ -148,10 +148,10 @@ fn add_part(
     if texts.len() > MOST_NAMED {
         return Ok(());
     }
-    let Some(atom) = rules.part(*part) else {
+    let Some(required) = rules.part(*part) else {
         return Ok(());
     };
-    let mut text = label_text(alloc, atom)?;
+    let mut text = label_text(alloc, required)?;
     let rule = rule_text(alloc, part.arm)?;
     text.push_str(rule.as_str())?;
     add(alloc, texts, text)

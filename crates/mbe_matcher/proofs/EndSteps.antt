@@ -2,7 +2,7 @@
 use Rattle.std.proofs.Common.{◌≡◌, ◌+◌, ◌<◌, ◌≤◌, ◌∙◌, ℕ, suc, Bool, true, false, List, [], ◌∷◌, ◌++◌, drop, length, get_or, map, refl, ap, ap₂, sym, arith, cond, append_assoc}
 use Rattle.std.proofs.lemmas.List.{at_drop_more}
 use Rattle.std.specs.Prelude.{nat_eq}
-use Rattle.mbe_matcher.specs.declared.walking.Mark.{Mark}
+use Rattle.mbe_matcher.specs.declared.mark.Mark.{Mark}
 use Rattle.mbe_matcher.specs.Ends.{sums, counted_on, ends_with}
 use Rattle.mbe_matcher.specs.Grouping.{counts_by}
 use Rattle.mbe_matcher.specs.Marks.{Note, note_of, taken, begun, ended}

@@ -1,20 +1,7 @@
--- What holds if there is a value, and what follows from it; and which of two numbers is less.
-use Rattle.std.proofs.Common.{◌<◌, ◌≤◌, ℕ, inl, inr}
-use Rattle.std.proofs.lemmas.Bool.Decides.{leb_tells}
-use Rattle.std.specs.Prelude.{◌⊎◌, Result, Ok, Err, OnOk, IfOk}
+-- What follows from what holds if there is a value.
+use Rattle.std.specs.Prelude.{Result, Ok, Err, IfOk}
 
 -- From a property of the value to one that follows from it.
-pub on_ok : {T E A B : Type 0} (result : Result T E) → (A → B) → OnOk result A → OnOk result B
-on_ok (Ok it) f h = f h
-on_ok (Err fault) f h = h
-
 pub if_ok : {T E : Type 0} {P Q : T → Type 0} (result : Result T E) → ((it : T) → P it → Q it) → IfOk result P → IfOk result Q
 if_ok (Ok it) f h = f it h
 if_ok (Err fault) f h = h
-
--- One number is less than another, or not.
-pub less_or_not : (n m : ℕ) → (n < m) ⊎ (m ≤ n)
-less_or_not n m = elim (leb_tells m n) [
-  | inl (is, le) ↦ inr le
-  | inr (is, less) ↦ inl less
-]

@@ -3,18 +3,13 @@ use Rattle.std.proofs.Common.{◌≡◌, inl, inr, ◌≤◌, ℕ, true, false, 
 use Rattle.tt.specs.Forest.{Forest, end, leaf, join}
 use Rattle.tt.specs.Types.DelimiterKind.TheVariants.{Parenthesis, Brace, InvisibleOpaque}
 use Rattle.tt.specs.Types.LitKind.TheVariants.{Integer}
-use Rattle.tt.specs.Types.Spacing.TheVariants.{Alone, Joint}
-use Rattle.tt_base.proofs.Samples.{punct, literal, subtree}
+use Rattle.tt_base.proofs.Samples.{literal, subtree}
 use Rattle.mbe_pattern.specs.declared.pattern.Fragment.{Fragment}
 use Rattle.mbe_pattern.specs.declared.pattern.Fragment.TheVariants as fragment
 use Rattle.mbe_pattern.specs.declared.pattern.Variable.{Variable}
-use Rattle.mbe_matcher.specs.declared.steps.Step.TheVariants as step
-use Rattle.mbe_matcher.specs.Labels as label
 use Rattle.mbe_matcher.specs.Bindings.{one, none, first, binding_of, bound_to}
 use Rattle.mbe_matcher.specs.Grouping.{variables_of, binding_by}
 use Rattle.mbe_matcher.specs.Marks.{taken as took_by, begun, ended, notes_of}
-use Rattle.mbe_matcher.specs.Steps.{steps_of}
-use Rattle.mbe_matcher.specs.Compiled.{starts_of, all_stops}
 use Rattle.mbe_matcher.specs.GrammarReach.{is_block}
 use Rattle.mbe_matcher.specs.Fragments.{takes, taken, reach}
 use Rattle.mbe_matcher.specs.Fronts.{ComesTo, HasLeft, StopsAt, Waits}
@@ -157,13 +152,6 @@ listed_notes = refl
 listed_variables : variables_of (pattern_of listed) 1 ≡ record { variable = x_of fragment.Ident; number = 5; nest = 4 ∷ [] } ∷ []
 listed_variables = refl
 
--- Its steps: the first repetition with its separator, its variable and its end, the other repetition, and the final end.
-listed_steps : steps_of (pattern_of listed)
-    ≡ step.Begin 1 1 3 ∷ step.Pass 1 ∷ step.Take fragment.Ident ∷ step.Close 1
-    ∷ step.Begin 1 0 2 ∷ step.Pass 1 ∷ step.Close 0
-    ∷ step.Leave ∷ []
-listed_steps = refl
-
 -- With no round, an empty list is bound.
 listed_none : binding_of (pattern_of listed) (over (over done)) ≡ record { variable = x_of fragment.Ident; bound = none } ∷ []
 listed_none = refl
@@ -201,18 +189,6 @@ twice_bound = refl
 
 none_bound : bound_to (codes "y") (record { variable = x_of fragment.Tt; bound = one end } ∷ []) ≡ None
 none_bound = refl
-
--- Its places: the variable, its comma, the other comma, the end. It begins with a name, with the other comma, or ends at once.
-listed_starts : starts_of (pattern_of listed) ≡ 0 ∷ 2 ∷ 3 ∷ []
-listed_starts = refl
-
-listed_stops : all_stops (pattern_of listed)
-    ≡ record { label = label.take (x_of fragment.Ident); edges = 1 ∷ 2 ∷ 3 ∷ [] }
-    ∷ record { label = label.same (punct 44 Joint ∷ []); edges = 0 ∷ [] }
-    ∷ record { label = label.same (punct 44 Alone ∷ []); edges = 3 ∷ [] }
-    ∷ record { label = label.leave; edges = [] }
-    ∷ []
-listed_stops = refl
 
 -- `+` requires a round.
 abbrev plus : Pattern

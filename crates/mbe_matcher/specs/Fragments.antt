@@ -115,16 +115,6 @@ takes fragment.Vis trees = true
 takes fragment.Tt trees = not (is_end trees)
 takes (fragment.Grammar which) trees = is_some (grammar_reach which trees)
 
--- the fragment takes none of the trees
-abbrev pub takes_nothing : Fragment → Forest → Bool
-takes_nothing fragment.Ident trees = false
-takes_nothing fragment.Literal trees = false
-takes_nothing fragment.Lifetime trees = false
-takes_nothing fragment.Block trees = false
-takes_nothing fragment.Vis trees = not (is_at_word (codes "pub") trees)
-takes_nothing fragment.Tt trees = false
-takes_nothing (fragment.Grammar which) trees = false
-
 -- that number, or one
 abbrev pub or_one : Option ℕ → ℕ
 or_one None = 1

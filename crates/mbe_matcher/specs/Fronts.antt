@@ -5,7 +5,7 @@ use Rattle.tt.specs.Gluing.{after_trees}
 use Rattle.tt.specs.Moves.{after_tree}
 use Rattle.tt.specs.Siblings.{children_of}
 use Rattle.tt.specs.Types.Leaf.{Leaf}
-use Rattle.mbe_matcher.specs.Compiled.{place_count, separator_count}
+use Rattle.mbe_matcher.specs.Parts.{place_count, separator_count}
 use Rattle.mbe_matcher.specs.Fragments.{takes, left_by}
 use Rattle.mbe_matcher.specs.Labels.{Label}
 use Rattle.mbe_matcher.specs.Labels as label

@@ -1,9 +1,6 @@
--- When trees are an instance of a pattern, and how its places read them.
-pub mod Aheads
+-- When trees are an instance of a pattern, what they bind, and what fragments take.
+pub mod Binders
 pub mod Bindings
-pub mod Closures
-pub mod Compiled
-pub mod Compiling
 pub mod Ends
 pub mod Finding
 pub mod Fragments
@@ -11,17 +8,8 @@ pub mod Fronts
 pub mod GrammarReach
 pub mod Grouping
 pub mod Labels
-pub mod Levels
 pub mod Marks
-pub mod Matchers
-pub mod Parsing
 pub mod Parts
-pub mod Paths
-pub mod Pieces
 pub mod Places
 pub mod Readings
-pub mod Stepping
-pub mod Steps
-pub mod Threads
 pub mod Waiting
-pub mod Walking

@@ -2,8 +2,8 @@
 use Rattle.std.specs.Prelude.{ℕ, zero, suc, ◌+◌, List, [], ◌∷◌, length}
 use Rattle.tt.specs.Forest.{Forest}
 use Rattle.tt.specs.Views.{trees_of}
-use Rattle.mbe_matcher.specs.declared.walking.Mark.{Mark}
-use Rattle.mbe_matcher.specs.declared.walking.Mark.TheVariants as mark
+use Rattle.mbe_matcher.specs.declared.mark.Mark.{Mark}
+use Rattle.mbe_matcher.specs.declared.mark.Mark.TheVariants as mark
 use Rattle.mbe_pattern.specs.Patterns.{Pattern, nothing, variable, token, subtree, repetition}
 use Rattle.mbe_matcher.specs.Readings.{Reading, done, took, held, round, over, trees_taken, inside_of, more_of}
 

@@ -1,21 +1,13 @@
 //! What an input binds if it is an instance of a pattern in one way.
-ghost use Rattle.std.specs.Prelude.{◌≡◌, ◌<◌, ◌++◌, ◌∷◌, [], map, IfOk, OnOk, reverse};
-ghost use Rattle.tt.specs.Iters.{rest_of};
+ghost use Rattle.std.specs.Prelude.{◌≡◌, ◌<◌, ◌++◌, ◌∷◌, [], map, IfOk, OnOk};
 ghost use Rattle.tt.specs.Views.{trees_of};
 ghost use Rattle.mbe_matcher.specs.Ends.{counted_on, ends_with, sums};
 ghost use Rattle.mbe_matcher.specs.Grouping.{taken_by, counts_by};
 ghost use Rattle.mbe_matcher.specs.Marks.{note_of};
-ghost use Rattle.mbe_pattern.specs.Patterns.{Pattern, IsFull};
-ghost use Rattle.mbe_matcher.specs.Steps.{steps_of};
-ghost use Rattle.mbe_matcher.specs.Threads.{path_to, earlier};
-ghost use Rattle.mbe_matcher.specs.Finding.{IsFound, ArePaths};
 
-use crate::reading::Paths;
-use crate::steps::Step;
-use crate::threads::Turn;
-use crate::walking::{Mark, marks_along};
+use crate::mark::Mark;
 use std::alloc::{AllocError, Global};
-use tt::{TokenTreesView, TtIter};
+use tt::TokenTreesView;
 
 /// What the one reading of an input binds.
 #[derive(Drop)]
@@ -35,6 +27,13 @@ pub enum Found<'i> {
 }
 
 impl<'i> Binding<'i> {
+    /// Returns the binding of these marks.
+    pub fn new(marks: Vec<Mark<'i>>) -> Binding<'i>
+        ensures { result.marks ≡ marks.entry }
+    {
+        Binding { marks }
+    }
+
     /// Returns what is bound, one mark after the other, in the order of the input.
     pub fn marks(&self) -> &[Mark<'i>]
         ensures { result.now ≡ self.now.marks.items }
@@ -103,49 +102,5 @@ fn count_on(
             Ok(so_far)
         }
         Mark::Took(..) | Mark::Round(_) | Mark::Over(_) => Ok(so_far),
-    }
-}
-
-// Returns the number of the turn before the turn of that number, or 0 if the log is not in order.
-fn earlier(turn: Turn, number: usize) -> usize
-    ensures { result ≡ earlier turn number }
-{
-    if turn.before < number { turn.before } else { 0 }
-}
-
-// Returns the path up to a turn, the last turn first.
-fn path_back(alloc: Global, log: &[Turn], last: Turn) -> Result<Vec<usize>, AllocError>
-    ensures { IfOk result (λ path. reverse path.items ≡ path_to log.now last) }
-{
-    let mut path = Vec::new(alloc);
-    path.push(last.edge)?;
-    let mut number = last.before;
-    while number > 0 {
-        let Some(turn) = log.get(number - 1) else {
-            return Ok(path);
-        };
-        path.push(turn.edge)?;
-        number = earlier(*turn, number);
-    }
-    Ok(path)
-}
-
-/// Returns what is found in an input, from the paths that lead through it and the steps of the pattern.
-pub(crate) fn found_by<'i>(
-    alloc: Global,
-    steps: &[Step],
-    paths: Paths,
-    input: TtIter<'i>,
-) -> Result<Found<'i>, AllocError>
-    ensures { IfOk result (λ found. (pattern : Pattern) → IsFull pattern → steps.now ≡ steps_of pattern → ArePaths pattern (rest_of input.entry) paths → IsFound pattern (rest_of input.entry) found) }
-{
-    match paths {
-        Paths::Nothing(at) => Ok(Found::Nothing(at)),
-        Paths::One(log, last) => {
-            let path = path_back(alloc, &log, last)?;
-            let marks = marks_along(alloc, steps, path, input)?;
-            Ok(Found::One(Binding { marks }))
-        }
-        Paths::Many => Ok(Found::Many),
     }
 }

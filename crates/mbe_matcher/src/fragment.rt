@@ -4,7 +4,7 @@ ghost use Rattle.tt.specs.Iters.{rest_of};
 ghost use Rattle.tt.specs.Moves.{after_tree};
 ghost use Rattle.tt.specs.Views.{trees_of};
 ghost use Rattle.mbe_grammar.specs.Fragments.{ReachesDeep};
-ghost use Rattle.mbe_matcher.specs.Fragments.{is_at_number, is_at_negative, begins_literal, literal_size, is_literal, is_at_held_literal, is_at_lifetime, is_at_block, is_scope, is_at_scope, visibility_size, takes, takes_nothing, reach};
+ghost use Rattle.mbe_matcher.specs.Fragments.{is_at_number, is_at_negative, begins_literal, literal_size, is_literal, is_at_held_literal, is_at_lifetime, is_at_block, is_scope, is_at_scope, visibility_size, takes, reach};
 ghost use Rattle.mbe_pattern.specs.Units.{is_at_word, unit_size, AreLeavesLike};
 ghost use Rattle.mbe_matcher.specs.GrammarReach.{grammar_reach, is_block};
 
@@ -174,21 +174,6 @@ pub fn takes(alloc: Global, fragment: Fragment, mut trees: TtIter<'_>) -> Result
         Fragment::Vis => Ok(true),
         Fragment::Tt => Ok(!trees.is_empty()),
         Fragment::Grammar(which) => Ok(grammar_reach(alloc, which, trees)?.is_some()),
-    }
-}
-
-/// Returns whether the fragment takes none of the trees.
-pub(crate) fn takes_nothing(fragment: Fragment, trees: TtIter<'_>) -> bool
-    ensures { result ≡ takes_nothing fragment (rest_of trees.entry) }
-{
-    match fragment {
-        Fragment::Vis => !is_at_word(trees, "pub"),
-        Fragment::Ident
-        | Fragment::Literal
-        | Fragment::Lifetime
-        | Fragment::Block
-        | Fragment::Tt
-        | Fragment::Grammar(_) => false,
     }
 }
 

@@ -1,39 +1,27 @@
-//! Patterns of macros with repetitions, and whether an input is an instance of one.
+//! When an input is an instance of a pattern with repetitions, what it binds, and which trees a fragment takes.
 //!
-//! `Matcher::new` has `validate` of `mbe_pattern` check the pattern, and compiles it in two walks. `parse` writes its parts
-//! as pieces. `compile` goes through the pieces from the last and makes places: what each requires of the input, and the
-//! numbers of the places that may follow.
+//! A reading says how a pattern takes trees, part by part: the trees of a variable, the inside of a subtree, the rounds of a repetition. An
+//! input is an instance of a pattern if a reading takes all of it. If none does, the pattern still takes trees up to some place, where it
+//! stops: there some of its parts come next, and the trees are not what they require.
 //!
-//! `Matcher::read` goes once through the input with a list of the open subtrees. Before each tree it keeps threads. A thread is a place,
-//! how many trees to pass before it continues there, and whether several paths lead to it. `closure` moves threads on from places that
-//! require nothing. A log of the turns makes it possible to walk back the one path that is left at the end.
+//! A reading binds to each variable its trees, or in a repetition a list of what each round binds. A `Binding` has this as marks, in the order
+//! of the input: the trees that a variable takes, the beginning of a round, the end of a repetition. `trees` and `ends` read them. A `Found` is
+//! the answer about an input: in how many ways it is an instance, and what one of them binds or where the pattern stops. A `Binder` is a
+//! variable of a pattern, with the numbers that its marks have.
 //!
-//! `walking` then goes along that path through the pattern's steps and the input, and notes marks: the trees that a variable takes, the
-//! beginning of a round, the end of a repetition. A `Binding` is these marks; `trees` and `ends` read them.
+//! `fragment` says which trees a variable takes. `takes` answers whether it takes any trees at the front, `reach` how many. For the fragments
+//! of Rust's grammar `grammar_reach` asks `mbe_grammar`.
 //!
-//! If the input is no instance, `Matcher::waiting` reads it again, and `waiting` sets a flag for each place that has a thread where the
-//! pattern stops and does not go on. The numbers of the flags are those of the parts that are expected there.
+//! `mbe_program` reads inputs, and answers by these definitions.
 #![tactic(auto)]
 
-mod ahead;
+mod binder;
 mod binding;
-mod closure;
-mod compile;
 mod fragment;
-mod matcher;
-mod parse;
-mod pieces;
-mod places;
-mod reading;
-mod steps;
-mod threads;
-mod waiting;
-mod walking;
+mod mark;
 
+pub use binder::Binder;
 pub use binding::{Binding, Found};
 pub use fragment::{are_leaves_like, grammar_reach, reach, takes};
-pub use matcher::Matcher;
+pub use mark::Mark;
 pub use mbe_pattern::{Fragment, GrammarFragment, PatternError, RepeatKind, Variable};
-pub use places::Atom;
-pub use steps::Binder;
-pub use walking::Mark;

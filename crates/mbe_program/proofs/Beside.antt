@@ -1,9 +1,9 @@
--- The numbers of parts stand beside the instructions of a program.
+-- The numbers of parts beside the instructions of a program.
 use Rattle.std.proofs.Common.{◌≡◌, ◌+◌, ℕ, suc, List, [], ◌∷◌, ◌++◌, length, ap, ap₂, sym, ◌∙◌, arith, append_assoc}
 use Rattle.std.proofs.Math.Seq.{get_or-append_seam}
 use Rattle.std.proofs.lemmas.List.{length-append}
 use Rattle.std.specs.Prelude.{◌-◌, slice_index_or}
-use Rattle.mbe_matcher.specs.Compiled.{place_count, separator_count}
+use Rattle.mbe_matcher.specs.Parts.{place_count, separator_count}
 use Rattle.mbe_matcher.specs.Marks.{step_count}
 use Rattle.mbe_pattern.specs.Patterns.{Pattern, nothing, variable, token, subtree, repetition}
 use Rattle.tt.specs.Types.Leaf.{Leaf}
@@ -12,7 +12,7 @@ use Rattle.mbe_program.specs.Program.{Instruction, take, pass, enter, leave, beg
 use Rattle.mbe_program.proofs.Rounds.{close_place, round_place}
 
 module _ (parts : List ℕ) where
-  -- these numbers, the last ones, stand beside a place
+  -- these are the last numbers, those beside a place
   abbrev pub IsBeside : (numbers : List ℕ) → (place : List Instruction) → Type 0
   IsBeside numbers place = (before : List ℕ) × (parts ≡ before ++ numbers) × (length numbers ≡ length place)
 
@@ -23,7 +23,7 @@ module _ (parts : List ℕ) where
       let skipped : length parts - suc (length rest) ≡ length before = omega (arith, all, count) in
       ap₂ (λ its n. slice_index_or its n 0) are skipped ∙ get_or-append_seam before number others 0
 
-  -- The others stand beside the rest,
+  -- The others are those beside the rest,
   pub beside_first : (number : ℕ) (others : List ℕ) (it : Instruction) (rest : List Instruction) → IsBeside (number ∷ others) (it ∷ rest) → IsBeside others rest
   beside_first number others it rest (before, are, count) =
       (before ++ number ∷ [], are ∙ sym (append_assoc before (number ∷ []) others), omega (arith, count))

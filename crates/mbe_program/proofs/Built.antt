@@ -7,7 +7,7 @@ use Rattle.mbe_pattern.specs.Patterns.{Pattern, nothing, variable, token, subtre
 use Rattle.mbe_program.specs.Assembling.{Made, made_with, made_by, nothing_made}
 use Rattle.mbe_program.specs.Moving.{instruction_of, instructions_of}
 use Rattle.mbe_program.specs.Pieces.{Bit, plain, begin, close, bits_of, all_bits, separator_bits}
-use Rattle.mbe_program.specs.Program.{Instruction, take, pass, enter, leave, again_at, instructions_before, program_of, separator_before}
+use Rattle.mbe_program.specs.Program.{take, pass, enter, leave, instructions_before, program_of, separator_before}
 use Rattle.mbe_program.specs.Program as to
 use Rattle.mbe_program.specs.declared.instruction.Instruction.{Instruction as Own}
 use Rattle.mbe_program.proofs.Placed.{length_is}

@@ -6,12 +6,12 @@ use Rattle.mbe_program.specs.Moving.{instruction_of, instructions_of}
 use Rattle.mbe_program.specs.Program.{Instruction, take, pass, enter, leave, begin, close, place_at}
 use Rattle.mbe_program.specs.declared.instruction.Instruction.{Instruction as Own}
 
-dropped : (program : List Own) (k : ℕ) (it : Own) → k < length program → it ≡ get_or program k it → drop k (instructions_of program) ≡ instruction_of it ∷ drop (suc k) (instructions_of program)
+pub dropped : (program : List Own) (k : ℕ) (it : Own) → k < length program → it ≡ get_or program k it → drop k (instructions_of program) ≡ instruction_of it ∷ drop (suc k) (instructions_of program)
 dropped [] k it less is = absurd (omega (arith, less))
 dropped (own ∷ program) zero it less is = ap (λ (first : Own). instruction_of first ∷ instructions_of program) (sym is)
 dropped (own ∷ program) (suc k) it less is = dropped program k it (omega (arith, less)) is
 
--- What is at the place before another one tells whether a separator is there.
+-- The instruction before a place shows whether a separator is there.
 pub separated_at : (program : List Own) (again k : ℕ) (it : Own) → k ≡ length program - suc again → k < length program → it ≡ get_or program k it
     → is_separated (place_at (instructions_of program) (suc again)) again ≡ starts_later (instruction_of it) again
 separated_at program again k it same less is =

@@ -4,7 +4,7 @@ use Rattle.std.proofs.Math.Seq.{set-append_seam}
 use Rattle.std.proofs.lemmas.Bool.{le-ltb, lt-ltb}
 use Rattle.std.proofs.lemmas.List.{length-append}
 use Rattle.std.specs.Prelude.{◌-◌}
-use Rattle.mbe_matcher.specs.Compiled.{place_count}
+use Rattle.mbe_matcher.specs.Parts.{place_count}
 use Rattle.mbe_matcher.specs.Marks.{step_count}
 use Rattle.mbe_pattern.specs.Patterns.{Pattern, nothing, variable, token, subtree, repetition}
 use Rattle.mbe_pattern.specs.declared.pattern.RepeatKind.{RepeatKind}

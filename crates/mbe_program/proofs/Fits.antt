@@ -1,6 +1,6 @@
 -- When the places where a run may stop are the parts that are wanted of a pattern.
 use Rattle.std.specs.Prelude.{◌↔◌, ◌+◌, ℕ, suc, List, [], ◌∷◌}
-use Rattle.mbe_matcher.specs.Compiled.{place_count, separator_count}
+use Rattle.mbe_matcher.specs.Parts.{place_count, separator_count}
 use Rattle.mbe_matcher.specs.Labels.{Label}
 use Rattle.mbe_matcher.specs.Labels as label
 use Rattle.mbe_matcher.specs.Places.{left_in}

@@ -1,7 +1,7 @@
 -- A pattern comes as far as its program leads.
 use Rattle.std.proofs.Common.{◌≡◌, inl, inr, ◌+◌, ◌≤◌, ℕ, zero, suc, List, [], ◌∷◌, length, refl, sym, subst, arith}
 use Rattle.std.specs.Prelude.{◌⊎◌}
-use Rattle.mbe_matcher.specs.Compiled.{place_count, separator_count}
+use Rattle.mbe_matcher.specs.Parts.{place_count, separator_count}
 use Rattle.mbe_matcher.specs.Fragments.{taken, left_by}
 use Rattle.mbe_matcher.specs.Fronts.{ComesTo, OtherRoundsUpTo, RoundsUpTo, SeparatesUpTo, TakesUpTo}
 use Rattle.mbe_matcher.specs.Labels.{Label}

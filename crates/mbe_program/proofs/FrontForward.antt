@@ -1,6 +1,6 @@
 -- A program leads as far as its pattern comes.
 use Rattle.std.proofs.Common.{◌≡◌, inl, inr, ◌+◌, ℕ, zero, suc, true, List, [], ◌∷◌, length, refl, sym, subst}
-use Rattle.mbe_matcher.specs.Compiled.{place_count, separator_count}
+use Rattle.mbe_matcher.specs.Parts.{place_count, separator_count}
 use Rattle.mbe_matcher.specs.Fragments.{takes, taken, left_by}
 use Rattle.mbe_matcher.specs.Fronts.{ComesTo, OtherRoundsUpTo, RoundsUpTo, SeparatesUpTo, TakesUpTo}
 use Rattle.mbe_matcher.specs.Labels.{Label}

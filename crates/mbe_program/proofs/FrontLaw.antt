@@ -1,6 +1,6 @@
 -- A pattern stops where its program stops.
 use Rattle.std.proofs.Common.{◌+◌, ℕ, suc, List, [], ◌∷◌}
-use Rattle.mbe_matcher.specs.Compiled.{place_count, separator_count}
+use Rattle.mbe_matcher.specs.Parts.{place_count, separator_count}
 use Rattle.mbe_matcher.specs.Fronts.{HasLeft, StopsAt}
 use Rattle.mbe_pattern.specs.Patterns.{Pattern, nothing, variable, token, subtree, repetition}
 use Rattle.tt.specs.Forest.{Forest}

@@ -23,6 +23,7 @@ pub mod FrontForward
 pub mod FrontLaw
 pub mod GoingOn
 pub mod Hops
+pub mod Labelled
 pub mod Laid
 pub mod LaidTable
 pub mod Landing

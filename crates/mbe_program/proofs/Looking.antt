@@ -114,7 +114,7 @@ module _ (old new : Positions) (number next : ℕ) (within : number < length old
         ap (table_of old).left next_is ∙ ap (λ (it : Spot). it.left) (own_spot old (suc number) found.0 found.1) in
         omega (arith, own_left, own_size, next_left, next_size, outer_left, at_next)
 
-    -- What is left behind it is told by the tokens at it and inside.
+    -- The tokens at it and inside it show what is left behind it.
     pub look_behind : (delimiter : Delimiter) (children rest : Forest) → (table_of old).trees number ≡ node delimiter children rest → (left count : ℕ) → left ≡ (table_of old).left number
         → count ≡ size children → (suc count ≤ left) × (left - count - 1 ≡ (table_of old).left next)
     look_behind delimiter children rest trees left count left_is count_is =

@@ -8,7 +8,7 @@ use Rattle.tt.specs.Types.TokenTreesView.{TokenTreesView}
 use Rattle.tt.specs.Views.{trees_of}
 use Rattle.mbe_matcher.specs.Fragments.{takes, reach, taken}
 use Rattle.mbe_matcher.specs.Marks.{Note, taken as took_by, begun, ended}
-use Rattle.mbe_matcher.specs.declared.walking.Mark.TheVariants as mark
+use Rattle.mbe_matcher.specs.declared.mark.Mark.TheVariants as mark
 use Rattle.mbe_pattern.specs.Units.{IsUnitLike, IsNodeOf}
 use Rattle.mbe_pattern.specs.declared.pattern.Variable.{Variable}
 use Rattle.mbe_pattern.specs.declared.pattern.RepeatKind.{RepeatKind}

@@ -1,7 +1,7 @@
 -- A part of a pattern waits where runs of the pattern's program are stuck at it.
 use Rattle.std.proofs.Common.{◌+◌, ℕ, suc, List, [], ◌∷◌, length, refl, sym, ◌∙◌}
 use Rattle.std.specs.Prelude.{◌↔◌}
-use Rattle.mbe_matcher.specs.Compiled.{place_count, separator_count}
+use Rattle.mbe_matcher.specs.Parts.{place_count, separator_count}
 use Rattle.mbe_matcher.specs.Fronts.{HasMissed, Waits}
 use Rattle.mbe_matcher.specs.Labels.{Label}
 use Rattle.mbe_matcher.specs.Labels as label
@@ -36,7 +36,7 @@ module _ (parts : List ℕ) (left number : ℕ) where
   stuck_nowhere it rest other never [] last = absurd last
   stuck_nowhere it rest other never (trees ∷ outer) last = absurd (never trees last.2)
 
-  -- so at each part of a pattern beside whose instructions their numbers stand.
+  -- so at each part of a pattern whose numbers are beside its instructions.
   pattern_fits : (at : ℕ) (pattern : Pattern) (numbers : List ℕ) (behind : List Instruction) → IsBeside parts (parts_before at pattern numbers) (instructions_before pattern behind)
       → Fits (RunHasMissed parts left number) (HasMissed left number) at pattern behind
   pattern_fits at nothing numbers behind is = tt

@@ -1,12 +1,16 @@
--- Worked numbers of parts, and a part at which a run is stuck.
-use Rattle.std.proofs.Common.{◌≡◌, inl, inr, [], ◌∷◌, Some, codes, refl}
+-- Worked numbers of parts, what parts require, and a part at which a run is stuck.
+use Rattle.std.proofs.Common.{◌≡◌, inl, inr, [], ◌∷◌, None, Some, codes, refl}
 use Rattle.tt.specs.Forest.{end}
 use Rattle.tt.specs.Types.DelimiterKind.TheVariants.{Parenthesis}
+use Rattle.tt.specs.Types.Spacing.TheVariants.{Alone, Joint}
+use Rattle.mbe_matcher.specs.Labels as label
+use Rattle.tt_base.proofs.Samples.{punct}
 use Rattle.mbe_pattern.proofs.Rows.{word, listed}
 use Rattle.mbe_pattern.specs.Patterns.{nothing, variable, subtree}
 use Rattle.mbe_pattern.specs.Placed.{pattern_of}
 use Rattle.mbe_pattern.specs.declared.pattern.Fragment.TheVariants as fragment
 use Rattle.mbe_pattern.specs.declared.pattern.Variable.{Variable}
+use Rattle.mbe_program.specs.Labelling.{labelled}
 use Rattle.mbe_program.specs.Numbering.{IsStuckRun, part_at, parts_of}
 use Rattle.mbe_program.specs.Program.{program_of}
 
@@ -28,6 +32,22 @@ variable_row = refl
 
 separator_row : part_at (parts_of (pattern_of listed)) 7 ≡ 1
 separator_row = refl
+
+-- So the variable, the separator after it, the other comma and the end of the input are found by their numbers, and no fifth part is.
+first_row : labelled (program_of (pattern_of listed)) (parts_of (pattern_of listed)) 0 ≡ Some (label.take x)
+first_row = refl
+
+second_row : labelled (program_of (pattern_of listed)) (parts_of (pattern_of listed)) 1 ≡ Some (label.same (punct 44 Joint ∷ []))
+second_row = refl
+
+third_row : labelled (program_of (pattern_of listed)) (parts_of (pattern_of listed)) 2 ≡ Some (label.same (punct 44 Alone ∷ []))
+third_row = refl
+
+last_row : labelled (program_of (pattern_of listed)) (parts_of (pattern_of listed)) 3 ≡ Some label.leave
+last_row = refl
+
+none_row : labelled (program_of (pattern_of listed)) (parts_of (pattern_of listed)) 4 ≡ None
+none_row = refl
 
 -- At `b` in `a b` a run that has taken `a` is stuck at the separator, and another one at the end of the input.
 stuck_row : IsStuckRun (program_of (pattern_of listed)) (parts_of (pattern_of listed)) (word (codes "a") (word (codes "b") end)) 1 1

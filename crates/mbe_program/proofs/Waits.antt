@@ -2,7 +2,7 @@
 use Rattle.std.proofs.Common.{◌≡◌, ◌+◌, ◌<◌, ◌≤◌, ℕ, zero, suc, Bool, List, [], ◌∷◌, length, sym, subst, arith}
 use Rattle.std.specs.Prelude.{slice_index_or, ◌-◌}
 use Rattle.mbe_matcher.proofs.Marking.{listed_set, set_increasing, set_listed}
-use Rattle.mbe_matcher.specs.Compiled.{place_count, separator_count}
+use Rattle.mbe_matcher.specs.Parts.{place_count, separator_count}
 use Rattle.mbe_matcher.specs.Fronts.{Waits}
 use Rattle.mbe_matcher.specs.Waiting.{AreWaiting, set_from}
 use Rattle.mbe_pattern.specs.Patterns.{Pattern, nothing, variable, token, subtree, repetition}

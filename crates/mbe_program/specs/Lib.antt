@@ -4,8 +4,9 @@ pub mod Assembling
 pub mod Cells
 pub mod Counting
 pub mod Cutting
-pub mod Finding
+pub mod Labelling
 pub mod Laying
+pub mod Matchers
 pub mod Moving
 pub mod Numbering
 pub mod Pieces

@@ -10,7 +10,7 @@ use Rattle.mbe_program.specs.declared.instruction.Instruction.TheVariants as own
 use Rattle.mbe_program.specs.declared.moves.Move.{Move}
 use Rattle.mbe_program.specs.declared.moves.Moves.{Moves}
 use Rattle.mbe_program.specs.declared.moves.Moves.TheVariants as moves
-use Rattle.mbe_matcher.specs.declared.walking.Mark.{Mark}
+use Rattle.mbe_matcher.specs.declared.mark.Mark.{Mark}
 
 -- an instruction of the code
 abbrev pub instruction_of : Own → Instruction

@@ -1,6 +1,6 @@
 -- Which part of a pattern an instruction of its program is, and which parts wait where runs are stuck.
 use Rattle.std.specs.Prelude.{◌≡◌, ◌+◌, ◌-◌, ℕ, suc, List, [], ◌∷◌, length, slice_index_or}
-use Rattle.mbe_matcher.specs.Compiled.{place_count, separator_count}
+use Rattle.mbe_matcher.specs.Parts.{place_count, separator_count}
 use Rattle.mbe_matcher.specs.Labels as label
 use Rattle.mbe_matcher.specs.Marks.{Note}
 use Rattle.mbe_matcher.specs.Places.{IsStuck, left_in}
@@ -16,7 +16,7 @@ separator_part [] number round = round
 separator_part (it ∷ others) number round = number ∷ round
 
 -- the numbers of the parts that a pattern's instructions are, before others; its first part has that number. Where a repetition begins or a
--- round closes is no part, and 0 stands there
+-- round closes is no part, and the number is 0
 abbrev pub parts_before : (at : ℕ) → Pattern → (behind : List ℕ) → List ℕ
 parts_before at nothing behind = behind
 parts_before at (variable it others) behind = at ∷ parts_before (suc at) others behind

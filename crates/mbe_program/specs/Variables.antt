@@ -1,7 +1,7 @@
 -- The variables of instructions.
 use Rattle.std.specs.Prelude.{ℕ, List, [], ◌∷◌, ◌++◌, length, reverse, drop, map}
 use Rattle.mbe_matcher.specs.Grouping.{Where}
-use Rattle.mbe_matcher.specs.Stepping.{where_of}
+use Rattle.mbe_matcher.specs.Binders.{where_of}
 use Rattle.mbe_pattern.specs.declared.pattern.Variable.{Variable}
 use Rattle.mbe_program.specs.Program.{Instruction, take, pass, enter, leave, begin, close}
 use Rattle.mbe_program.specs.declared.variables.Variables.{Variables}

@@ -5,9 +5,10 @@
 //! jumps. A run goes through the program and an input, and notes the trees that a variable takes, that a round begins, and that a repetition
 //! has no further round.
 //!
-//! `Program::new` has `validate` of `mbe_pattern` check the trees of a pattern, and makes their program: `parse` cuts the pattern into pieces,
+//! `Matcher::new` has `validate` of `mbe_pattern` check the trees of a pattern, and makes their program: `parse` cuts the pattern into pieces,
 //! one for each instruction, and `assemble` goes through them from the last, so that it knows where each jump leads. `variables` finds the
-//! variables in the instructions.
+//! variables in the instructions. `Matcher::read` runs the program through an input, and answers how the pattern reads it.
+//! `part` finds the parts of the pattern among the instructions, and `waiting` those at which a search is stuck.
 //!
 //! `laws` state that the runs of a pattern's program are the readings of the pattern, one by one, that the pattern stops where the program's
 //! steps do, and that a part of it waits where they are stuck.
@@ -22,11 +23,12 @@ mod cell;
 mod counting;
 mod instruction;
 pub mod laws;
+mod matcher;
 mod moves;
 mod outcome;
 mod parse;
+mod part;
 mod positions;
-mod program;
 mod search;
 mod stuck;
 #[cfg(test)]
@@ -35,7 +37,8 @@ mod variables;
 
 pub use assemble::program_of;
 pub use instruction::Instruction;
-pub use mbe_matcher::{Binder, Mark};
+pub use matcher::Matcher;
+pub use mbe_matcher::{Binder, Binding, Found, Mark};
 pub use outcome::{Answer, run};
-pub use program::Program;
+pub use part::Part;
 pub use stuck::waiting;

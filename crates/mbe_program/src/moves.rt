@@ -16,7 +16,7 @@ use crate::positions::Positions;
 use mbe_matcher::{Mark, are_leaves_like, grammar_reach, reach, takes};
 use mbe_pattern::{Fragment, RepeatKind, Variable, take, unit_size};
 use std::alloc::{AllocError, Global};
-use tt::{DelimiterKind, Leaf, TokenTreesView, TtElement};
+use tt::{DelimiterKind, Leaf, TokenKind, TokenTreesView};
 
 /// A step from a cell to another, and what it marks.
 #[derive(Clone, Copy)]
@@ -65,9 +65,9 @@ fn is_unit_like(leaves: &[Leaf], trees: TokenTreesView<'_>) -> bool
 fn kind_of(trees: TokenTreesView<'_>) -> Option<DelimiterKind>
     ensures { MatchOption result ((kind : Kind) → IsNodeOf kind (trees_of trees.entry) → ⊥) (λ kind. IsNodeOf kind (trees_of trees.entry)) }
 {
-    match trees.iter().next() {
-        Some(TtElement::Subtree(header, _)) => Some(header.delimiter.kind),
-        Some(TtElement::Leaf(_)) | None => None,
+    match trees.iter().next_kind() {
+        Some(TokenKind::Subtree(kind, _)) => Some(kind),
+        _ => None,
     }
 }
 

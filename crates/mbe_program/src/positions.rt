@@ -14,7 +14,6 @@ ghost use Rattle.mbe_program.specs.Program.{enter};
 ghost use Rattle.mbe_program.specs.Tables.{IsTableOf, passed_to};
 
 use crate::instruction::Instruction;
-use mbe_pattern::pass;
 use std::alloc::{AllocError, Global};
 use tt::{DelimiterKind, TokenTreesView, TtIter};
 
@@ -135,7 +134,7 @@ impl<'i> Positions<'i> {
         let mut rest = trees;
         self.add(rest.remaining(), outside, behind)?;
         while !rest.is_empty() {
-            pass(&mut rest, 1);
+            rest.next_kind();
             self.add(rest.remaining(), outside, behind)?;
         }
         Ok(())

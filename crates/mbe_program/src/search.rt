@@ -54,7 +54,10 @@ fn way_of(is_many: bool) -> Way
 fn fill(row: &mut Vec<Way>, width: usize) -> Result<(), AllocError>
     ensures { OnOk result (row.new.items ≡ filled width row.old.items) }
 {
-    row.reserve(width.saturating_sub(row.len()))?;
+    if row.is_empty() {
+        *row = vec![in *row.allocator(); Way::Unseen; width]?;
+        return Ok(());
+    }
     for _ in row.len()..width {
         row.push(Way::Unseen)?;
     }

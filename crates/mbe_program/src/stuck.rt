@@ -4,7 +4,7 @@ ghost use Rattle.tt.specs.Iters.{rest_of};
 ghost use Rattle.mbe_matcher.specs.Waiting.{AreWaiting, set_from};
 ghost use Rattle.mbe_pattern.specs.Patterns.{Pattern};
 ghost use Rattle.mbe_program.specs.Moving.{instructions_of};
-ghost use Rattle.mbe_program.specs.Numbering.{part_at};
+ghost use Rattle.mbe_program.specs.Numbering.{part_at, parts_of};
 ghost use Rattle.mbe_program.specs.Positions.{table_of};
 ghost use Rattle.mbe_program.specs.Program.{program_of};
 ghost use Rattle.mbe_program.specs.Searching.{coming_of};
@@ -92,6 +92,26 @@ fn set_numbers(alloc: Global, flags: &[bool]) -> Result<Vec<usize>, AllocError>
     Ok(numbers)
 }
 
+/// Returns what `waiting` does, from the numbers of the pattern's parts beside the program. Fails only if memory runs out.
+pub(crate) fn waiting_in(
+    alloc: Global,
+    program: &[Instruction],
+    numbers: &[usize],
+    input: TtIter<'_>,
+    at: usize,
+) -> Result<Vec<usize>, AllocError>
+    ensures { IfOk result (λ found. (pattern : Pattern) → instructions_of program.now ≡ program_of pattern → numbers.now ≡ parts_of pattern → AreWaiting pattern (rest_of input.entry) at found.items) }
+{
+    let count = input.remaining().len();
+    if at > count {
+        return Ok(Vec::new(alloc));
+    }
+    let positions = lay_out(alloc, program, input)?;
+    let search = search_all(alloc, program, &positions)?;
+    let flags = stuck_parts(alloc, program, numbers, &positions, &search.log, count - at)?;
+    set_numbers(alloc, &flags)
+}
+
 /// Returns the numbers of the parts that wait at that flat place of the input, in order, if the program is that of a pattern: some reading of
 /// the trees before the place leaves the part as the next one, and the trees there are not what the part requires. Where the pattern stops,
 /// these parts are what is expected.
@@ -108,13 +128,6 @@ pub fn waiting(
 ) -> Result<Vec<usize>, AllocError>
     ensures { IfOk result (λ numbers. (pattern : Pattern) → instructions_of program.now ≡ program_of pattern → AreWaiting pattern (rest_of input.entry) at numbers.items) }
 {
-    let count = input.remaining().len();
-    if at > count {
-        return Ok(Vec::new(alloc));
-    }
-    let parts = part_numbers(alloc, program)?;
-    let positions = lay_out(alloc, program, input)?;
-    let search = search_all(alloc, program, &positions)?;
-    let flags = stuck_parts(alloc, program, &parts, &positions, &search.log, count - at)?;
-    set_numbers(alloc, &flags)
+    let numbers = part_numbers(alloc, program)?;
+    waiting_in(alloc, program, &numbers, input, at)
 }

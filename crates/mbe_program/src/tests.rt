@@ -1,5 +1,7 @@
 //! Runs of small programs, and programs of small patterns.
-use crate::{Answer, Instruction, Program, program_of, run, waiting};
+use crate::counting::part_numbers;
+use crate::part::part_in;
+use crate::{Answer, Found, Instruction, Matcher, Part, program_of, run, waiting};
 use mbe_pattern::{Fragment, RepeatKind, Variable};
 use std::alloc::{AllocError, Global};
 use std::test::Fail;
@@ -216,18 +218,26 @@ fn write_leaves(text: &mut String, leaves: &[Leaf]) -> Result<(), AllocError> {
     Ok(())
 }
 
+// Writes behind a text that a variable takes trees.
+fn write_take(text: &mut String, variable: &Variable) -> Result<(), AllocError> {
+    match &variable.name {
+        Some(name) => write!(text, "take {name}; "),
+        None => write!(text, "take _; "),
+    }
+}
+
+// Writes behind a text that a token of these leaves is passed.
+fn write_pass(text: &mut String, leaves: &[Leaf]) -> Result<(), AllocError> {
+    write!(text, "pass ")?;
+    write_leaves(text, leaves)?;
+    write!(text, "; ")
+}
+
 // Writes an instruction behind a text.
 fn write_instruction(text: &mut String, instruction: &Instruction) -> Result<(), AllocError> {
     match instruction {
-        Instruction::Take(variable) => match &variable.name {
-            Some(name) => write!(text, "take {name}; "),
-            None => write!(text, "take _; "),
-        },
-        Instruction::Pass(leaves) => {
-            write!(text, "pass ")?;
-            write_leaves(text, leaves)?;
-            write!(text, "; ")
-        }
+        Instruction::Take(variable) => write_take(text, variable),
+        Instruction::Pass(leaves) => write_pass(text, leaves),
         Instruction::Enter(kind) => write!(text, "enter {}; ", bracket(*kind)),
         Instruction::Leave => write!(text, "leave; "),
         Instruction::Begin(kind, first, behind) => {
@@ -277,15 +287,53 @@ fn patterns_have_programs(rt: HostRuntime) -> Result<(), Fail> {
     Ok(())
 }
 
-// What the program of a pattern answers to an input; none if the pattern has a fault.
+// The text of the parts of a pattern, by their numbers.
+fn parts_text(alloc: Global, pattern: &str) -> Result<String, TtFault> {
+    let tree = tree_of(alloc, pattern)?;
+    let mut text = String::new(alloc);
+    let program = program_of(alloc, tree.token_trees().iter())?;
+    let numbers = part_numbers(alloc, &program)?;
+    for number in 0..=program.len() {
+        match part_in(&program, &numbers, number) {
+            Some(Part::Take(variable)) => write_take(&mut text, variable)?,
+            Some(Part::Same(leaves)) => write_pass(&mut text, leaves)?,
+            Some(Part::Enter(kind)) => write!(text, "enter {}; ", bracket(kind))?,
+            Some(Part::Leave) => write!(text, "leave; ")?,
+            None => {}
+        }
+    }
+    Ok(text)
+}
+
+// A separator comes after its round, and the end of the input is the last part.
+#[test]
+fn parts_have_numbers(rt: HostRuntime) -> Result<(), Fail> {
+    let alloc = rt.alloc();
+    assert_eq!(rt; parts_text(alloc, "")?.as_str(), "leave; ");
+    assert_eq!(rt;
+        parts_text(alloc, "$ ( $ x : tt ) , * ;")?.as_str(),
+        "take x; pass ,; pass ;; leave; "
+    );
+    assert_eq!(rt;
+        parts_text(alloc, "{ $ ( a ) * b } c")?.as_str(),
+        "enter {; pass a; pass b; leave; pass c; leave; "
+    );
+    Ok(())
+}
+
+// What the matcher of a pattern answers to an input; none if the pattern has a fault.
 fn said_by(alloc: Global, pattern: &str, input: &str) -> Result<Option<Said>, TtFault> {
     let pattern = tree_of(alloc, pattern)?;
-    let Ok(program) = Program::new(alloc, pattern.token_trees().iter()) else {
+    let Ok(matcher) = Matcher::new(alloc, pattern.token_trees().iter()) else {
         return Ok(None);
     };
     let input = tree_of(alloc, input)?;
-    let answer = program.run(alloc, input.token_trees().iter())?;
-    Ok(Some(said_of(&answer)))
+    let found = matcher.read(alloc, input.token_trees().iter())?;
+    Ok(Some(match found {
+        Found::Nothing(at) => Said::None(at),
+        Found::One(binding) => Said::One(binding.marks().len()),
+        Found::Many => Said::Two,
+    }))
 }
 
 // `$($x:tt),*` reads trees with commas between them: it notes each tree, each round, and that there is no further one.

@@ -1,6 +1,6 @@
 //! The variables of a program.
 ghost use Rattle.std.specs.Prelude.{◌≡◌, [], map, IfOk, OnOk};
-ghost use Rattle.mbe_matcher.specs.Stepping.{where_of};
+ghost use Rattle.mbe_matcher.specs.Binders.{where_of};
 ghost use Rattle.mbe_program.specs.Moving.{instruction_of, instructions_of};
 ghost use Rattle.mbe_program.specs.Variables.{variables_in, with_variable, known_of, known_with};
 

@@ -4,7 +4,7 @@ use Rattle.tt.specs.Forest.{Forest, size}
 use Rattle.tt.specs.Types.TtFault.TheVariants.{Memory}
 use Rattle.mbe_matcher.specs.Bindings.{binding_of}
 use Rattle.mbe_matcher.specs.Fronts.{StopsAt}
-use Rattle.mbe_matcher.specs.Matchers.{IsMatcherOf}
+use Rattle.mbe_program.specs.Matchers.{IsMatcherOf}
 use Rattle.mbe_matcher.specs.Readings.{Reading, IsNoInstance, IsReadBy, IsAmbiguous}
 use Rattle.mbe_rules.specs.declared.transcribe_error.TranscribeError.{TranscribeError}
 use Rattle.mbe_rules.specs.declared.transcribe_error.TranscribeError.TheVariants.{Tree}

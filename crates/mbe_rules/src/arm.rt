@@ -2,9 +2,9 @@
 ghost use Rattle.std.specs.Prelude.{◌≡◌, None, Some, IfOk, IfErr, MatchOption};
 ghost use Rattle.tt.specs.Forest.{Forest};
 ghost use Rattle.tt.specs.Iters.{rest_of};
-ghost use Rattle.mbe_matcher.specs.Labels.{label_of};
 ghost use Rattle.mbe_matcher.specs.Parts.{part_of};
 ghost use Rattle.mbe_matcher.specs.Waiting.{AreWaiting};
+ghost use Rattle.mbe_program.specs.Labelling.{label_of};
 ghost use Rattle.mbe_rules.specs.Arms.{Arm as ArmOf, IsArm, IsBehind};
 ghost use Rattle.mbe_rules.specs.Expansions.{IsMade, IsAnswer, IsAnswerWithin, IsRefusalWithin};
 ghost use Rattle.mbe_rules.specs.ArmFaults.{place, body_fault, arm_fault, IsArmFault};
@@ -13,8 +13,9 @@ use crate::arrow::{ARROW_LEN, is_arrow_in, is_punct_in};
 use crate::rules_error::ArmFault;
 use crate::template::Template;
 use crate::transcribe_error::TranscribeError;
-use mbe_matcher::{Atom, Found, Matcher};
+use mbe_matcher::Found;
 use mbe_pattern::pass;
+use mbe_program::{Matcher, Part};
 use std::alloc::{AllocError, Global};
 use tt::{Delimiter, TopSubtree, TtIter};
 
@@ -129,8 +130,8 @@ impl Arm {
     }
 
     /// Returns what the part of that number of its pattern requires.
-    pub(crate) fn part(&self, number: usize) -> Option<&Atom>
-        ensures { (arm : ArmOf) → IsMade arm self.now → MatchOption result (part_of arm.pattern number ≡ None) (λ atom. part_of arm.pattern number ≡ Some (label_of atom.now)) }
+    pub(crate) fn part(&self, number: usize) -> Option<Part<'_>>
+        ensures { (arm : ArmOf) → IsMade arm self.now → MatchOption result (part_of arm.pattern number ≡ None) (λ part. part_of arm.pattern number ≡ Some (label_of part)) }
     {
         self.matcher.part(number)
     }

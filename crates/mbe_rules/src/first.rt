@@ -4,7 +4,7 @@ ghost use Rattle.std.specs.List.{position};
 ghost use Rattle.tt.specs.Forest.{leaf, size};
 ghost use Rattle.tt.specs.Iters.{rest_of};
 ghost use Rattle.mbe_pattern.specs.Spelling.{is_dollar};
-ghost use Rattle.mbe_matcher.specs.Stepping.{where_of};
+ghost use Rattle.mbe_matcher.specs.Binders.{where_of};
 ghost use Rattle.mbe_rules.specs.Spelling.{template_until, has_name, variable_in, mark_in};
 ghost use Rattle.mbe_rules.specs.Stepping.{IsFirst};
 ghost use Rattle.mbe_rules.specs.Marks.{mark_of};

@@ -5,7 +5,7 @@
 //! parts and writes with a `TopSubtreeBuilder`. It keeps an index, the rounds under way and the close spans of the open subtrees. An
 //! expression, type, pattern or literal of several tokens goes into an opaque subtree (`enclose`).
 //!
-//! A `MacroRules` is a list of arms, each a `Matcher`, a `Template` and a delimiter. `expand` returns what the first arm
+//! A `MacroRules` is a list of arms, each a `Matcher` of `mbe_program`, a `Template` and a delimiter. `expand` returns what the first arm
 //! that matches the input makes of it. `expand_within` does so with at most so many tokens: before each write, it takes them from those that
 //! may still be written (`limit`).
 //!
@@ -32,7 +32,6 @@ mod validate;
 
 pub use error::TemplateError;
 pub use macro_rules::{ArmPart, Expansion, MacroRules};
-pub use mbe_matcher::Atom;
 pub use parts::Part;
 pub use rules_error::{ArmFault, ExpandError, RulesError};
 pub use template::Template;

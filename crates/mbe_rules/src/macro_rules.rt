@@ -2,13 +2,13 @@
 ghost use Rattle.std.specs.Prelude.{◌≡◌, ◌++◌, List, None, Some, IfOk, IfErr, OnOk, MatchOption, map};
 ghost use Rattle.tt.specs.Forest.{size};
 ghost use Rattle.tt.specs.Iters.{rest_of};
-ghost use Rattle.mbe_matcher.specs.Labels.{label_of};
+ghost use Rattle.mbe_program.specs.Labelling.{label_of};
 ghost use Rattle.mbe_rules.specs.Arms.{Arm as ArmOf, Spell};
 ghost use Rattle.mbe_rules.specs.Waiting.{in_arm, part_in, AreWaitingIn};
 
 use crate::arm::{Answer, Arm};
 use crate::rules_error::{ArmFault, ExpandError, RulesError};
-use mbe_matcher::Atom;
+use mbe_program::Part;
 use std::alloc::{AllocError, Global};
 use tt::{TopSubtree, TtIter};
 
@@ -85,9 +85,8 @@ impl MacroRules {
 
     /// Returns what the macro makes of an input. The first arm that matches the input answers.
     ///
-    /// Time is linear in the input times the edges of the patterns that are tried, and in what is written. Memory is linear in
-    /// the input and in what is written. Returns the first fault of filling that arm's template, or the limit that the tree
-    /// exceeds; fails also if memory runs out.
+    /// Time and memory are those of `Matcher::read` for each pattern that is tried, and linear in what is written. Returns the first fault of
+    /// filling that arm's template, or the limit that the tree exceeds; fails also if memory runs out.
     pub fn expand(&self, alloc: Global, input: TtIter<'_>) -> Result<Expansion, ExpandError>
         ensures ok { IfOk result (λ expansion. (arms : List ArmOf) → AreMade arms self.now.arms.items → IsExpansion arms 0 0 (rest_of input.entry) expansion) }
         ensures err { IfErr result (λ error. (arms : List ArmOf) → AreMade arms self.now.arms.items → IsExpandError arms 0 (rest_of input.entry) error) }
@@ -96,7 +95,7 @@ impl MacroRules {
     }
 
     /// Does the same with at most `most` tokens below the template's delimiter. If what is filled up to the first fault has more, returns
-    /// `TranscribeError::OverLimit`, and stops before it would write more: so memory is also at most linear in the input and in `most`.
+    /// `TranscribeError::OverLimit`, and stops before it would write more: so memory for the tree is at most linear in `most`.
     ///
     /// A tree has at most 4,294,967,295 tokens (`TtFault::TooManyTokens`); only a lower `most` limits them further.
     pub fn expand_within(
@@ -162,8 +161,8 @@ impl MacroRules {
     }
 
     /// Returns what a part requires; none if there is no such part.
-    pub fn part(&self, it: ArmPart) -> Option<&Atom>
-        ensures { (arms : List ArmOf) → AreMade arms self.now.arms.items → MatchOption result (part_in arms it.arm it.part ≡ None) (λ atom. part_in arms it.arm it.part ≡ Some (label_of atom.now)) }
+    pub fn part(&self, it: ArmPart) -> Option<Part<'_>>
+        ensures { (arms : List ArmOf) → AreMade arms self.now.arms.items → MatchOption result (part_in arms it.arm it.part ≡ None) (λ part. part_in arms it.arm it.part ≡ Some (label_of part)) }
     {
         let arm = self.arms.get(it.arm)?;
         arm.part(it.part)

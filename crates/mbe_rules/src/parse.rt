@@ -2,7 +2,7 @@
 ghost use Rattle.std.specs.Prelude.{◌≡◌, ◌++◌, ◌∷◌, [], List, map, IfOk, OnOk};
 ghost use Rattle.tt.specs.Iters.{rest_of};
 ghost use Rattle.mbe_matcher.specs.Grouping.{Where};
-ghost use Rattle.mbe_matcher.specs.Stepping.{where_of};
+ghost use Rattle.mbe_matcher.specs.Binders.{where_of};
 ghost use Rattle.mbe_rules.specs.Parts.{bit_of, all_bits};
 ghost use Rattle.mbe_rules.specs.Spelling.{template_of};
 ghost use Rattle.mbe_rules.specs.Stepping.{end_bit, level_left, levels_left, stepped, IsStepped};

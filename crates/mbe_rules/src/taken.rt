@@ -4,7 +4,7 @@ ghost use Rattle.tt.specs.Views.{trees_of};
 ghost use Rattle.mbe_matcher.specs.Bindings.{Bound, Binding as Bindings};
 ghost use Rattle.mbe_matcher.specs.Grouping.{binding_by, named_by};
 ghost use Rattle.mbe_matcher.specs.Marks.{note_of};
-ghost use Rattle.mbe_matcher.specs.Stepping.{where_of};
+ghost use Rattle.mbe_matcher.specs.Binders.{where_of};
 ghost use Rattle.mbe_rules.specs.Transcribing.{fragment_of};
 ghost use Rattle.mbe_rules.specs.Rounds.{IsTaken, IsTakenBy, AreTaken, seen_as, seen_of, seen_at, time_seen, bound_in, dones, binding_in, times_at, lesser, first_at, count_at};
 

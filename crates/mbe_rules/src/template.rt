@@ -5,7 +5,7 @@ ghost use Rattle.tt.specs.Iters.{rest_of};
 ghost use Rattle.tt.specs.Stored.{IsWithinLimits};
 ghost use Rattle.mbe_matcher.specs.Grouping.{binding_by};
 ghost use Rattle.mbe_matcher.specs.Marks.{note_of};
-ghost use Rattle.mbe_matcher.specs.Stepping.{where_of};
+ghost use Rattle.mbe_matcher.specs.Binders.{where_of};
 ghost use Rattle.mbe_rules.specs.Limits.{IsWithin};
 ghost use Rattle.mbe_rules.specs.Transcribing.{transcribed};
 ghost use Rattle.mbe_rules.specs.Spelling.{template_of};

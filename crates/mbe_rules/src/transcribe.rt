@@ -9,7 +9,7 @@ ghost use Rattle.tt.specs.Views.{trees_of};
 ghost use Rattle.mbe_matcher.specs.Bindings.{Binding as Bindings};
 ghost use Rattle.mbe_matcher.specs.Grouping.{binding_by};
 ghost use Rattle.mbe_matcher.specs.Marks.{note_of};
-ghost use Rattle.mbe_matcher.specs.Stepping.{where_of};
+ghost use Rattle.mbe_matcher.specs.Binders.{where_of};
 ghost use Rattle.mbe_rules.specs.declared.taken.Taken.{Taken};
 ghost use Rattle.mbe_rules.specs.declared.transcribe_error.TranscribeError.TheVariants.{Tree};
 ghost use Rattle.mbe_rules.specs.Limits.{IsWithin};

@@ -1,6 +1,6 @@
 //! Finds what is wrong with a template, by its parts from the last to the first.
 ghost use Rattle.std.specs.Prelude.{◌≡◌, map, reverse, IfOk, OnOk};
-ghost use Rattle.mbe_matcher.specs.Stepping.{where_of};
+ghost use Rattle.mbe_matcher.specs.Binders.{where_of};
 ghost use Rattle.mbe_rules.specs.Validating.{raised, used_with, begun, validated_with, validated_by, validated_of};
 ghost use Rattle.mbe_rules.specs.Parts.{bit_of};
 ghost use Rattle.mbe_rules.specs.Templates.{depth_of, greater};

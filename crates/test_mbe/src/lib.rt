@@ -1,4 +1,4 @@
-//! Examples of macros, by the calls of `mbe_grammar`, `mbe_matcher` and `mbe_rules`.
+//! Examples of macros, by the calls of `mbe_grammar`, `mbe_matcher`, `mbe_program` and `mbe_rules`.
 #![tactic(auto)]
 
 #[cfg(test)]

@@ -1,6 +1,7 @@
 //! Faulty patterns, next to sound ones that differ only a little.
 use crate::texts::{holds, tree_of};
-use mbe_matcher::{Matcher, PatternError};
+use mbe_matcher::PatternError;
+use mbe_program::Matcher;
 use std::alloc::Global;
 use std::test::Fail;
 

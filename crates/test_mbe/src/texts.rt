@@ -1,5 +1,5 @@
 //! The trees and matchers of texts, for the examples.
-use mbe_matcher::Matcher;
+use mbe_program::Matcher;
 use std::alloc::Global;
 use std::test::Fail;
 use syntax_parse::parse_to_token_tree;

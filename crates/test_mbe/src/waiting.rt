@@ -1,19 +1,20 @@
 //! What macros expect at the place where no arm takes more of an input.
 use crate::texts::{holds, tree_of};
-use mbe_rules::{Atom, Expansion, MacroRules};
+use mbe_program::Part;
+use mbe_rules::{Expansion, MacroRules};
 use std::alloc::Global;
 use std::test::Fail;
 use tt::{DelimiterKind, Leaf};
 
 // Writes what a part requires: `$` and the name of a variable, the leaves of a token, a bracket, or that an end is required.
-fn push_part(text: &mut String, atom: &Atom) -> Option<()> {
-    match atom {
-        Atom::Take(variable) => {
+fn push_part(text: &mut String, part: Part<'_>) -> Option<()> {
+    match part {
+        Part::Take(variable) => {
             text.push('$').ok()?;
             let name = variable.name.as_ref()?;
             text.push_str(name.as_str()).ok()
         }
-        Atom::Same(leaves) => {
+        Part::Same(leaves) => {
             for leaf in leaves {
                 match leaf {
                     Leaf::Ident(ident) => text.push_str(ident.sym.as_str()).ok()?,
@@ -23,7 +24,7 @@ fn push_part(text: &mut String, atom: &Atom) -> Option<()> {
             }
             Some(())
         }
-        Atom::Enter(kind) => {
+        Part::Enter(kind) => {
             let bracket = match kind {
                 DelimiterKind::Parenthesis => '(',
                 DelimiterKind::Brace => '{',
@@ -32,7 +33,7 @@ fn push_part(text: &mut String, atom: &Atom) -> Option<()> {
             };
             text.push(bracket).ok()
         }
-        Atom::Leave => text.push_str("end").ok(),
+        Part::Leave => text.push_str("end").ok(),
     }
 }
 

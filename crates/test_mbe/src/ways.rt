@@ -1,6 +1,7 @@
 //! Patterns, each with an input and in how many ways it is an instance of the pattern: none, one, or two and more.
 use crate::texts::{holds, tree_of};
-use mbe_matcher::{Binder, Binding, Found, Matcher};
+use mbe_matcher::{Binder, Binding, Found};
+use mbe_program::Matcher;
 use std::alloc::Global;
 use std::test::Fail;
 use tt::TopSubtree;

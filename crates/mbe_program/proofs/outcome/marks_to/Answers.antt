@@ -1,6 +1,6 @@
 use Rattle.std.proofs.Common.{rules, ◌≡◌, ◌+◌, ◌-◌, ◌<◌, ◌++◌, [], List, suc, map, reverse, ap, subst, sym, arith}
 use Rattle.mbe_matcher.specs.Marks.{Note, note_of}
-use Rattle.mbe_matcher.specs.declared.walking.Mark.{Mark}
+use Rattle.mbe_matcher.specs.declared.mark.Mark.{Mark}
 use Rattle.mbe_program.specs.Moving.{notes_of_mark}
 use Rattle.mbe_program.specs.Searching.{coming_of}
 use Rattle.mbe_program.specs.Ways.{Traces}

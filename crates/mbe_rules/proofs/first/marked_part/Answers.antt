@@ -3,7 +3,7 @@ use Rattle.tt.specs.Forest.{leaf, node, size}
 use Rattle.tt.specs.Gluing.{after_trees}
 use Rattle.tt.specs.Iters.{rest_of, IsFirstSubtree}
 use Rattle.tt.specs.Moves.{after_tree}
-use Rattle.mbe_matcher.specs.Stepping.{where_of}
+use Rattle.mbe_matcher.specs.Binders.{where_of}
 use Rattle.mbe_pattern.proofs.FirstTrees.{node_before}
 use Rattle.mbe_rules.specs.Spelling.{last_alone, mark_in, template_until}
 use Rattle.mbe_rules.specs.Spelling as spelling

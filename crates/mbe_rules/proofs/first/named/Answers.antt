@@ -2,7 +2,7 @@ use Rattle.std.proofs.Common.{rules, tests, ◌≡◌, sym, ◌∙◌}
 use Rattle.std.specs.List.{position}
 use Rattle.std.proofs.lemmas.Iterator.{YieldsList-from_slice}
 use Rattle.std.proofs.lemmas.Iterator.Search.{position_from_yields_List}
-use Rattle.mbe_matcher.specs.Stepping.{where_of}
+use Rattle.mbe_matcher.specs.Binders.{where_of}
 use Rattle.mbe_rules.specs.Spelling.{has_name}
 use Rattle.mbe_rules.proofs.Naming.{position_made}
 use Rattle.mbe_rules.proofs.first.named.Goals as goal

@@ -3,7 +3,7 @@ use Rattle.tt.specs.Forest.{leaf}
 use Rattle.tt.specs.Iters.{rest_of, IsFirstElement}
 use Rattle.tt.specs.Moves.{after_tree}
 use Rattle.tt.specs.Types.TtElement.TheVariants as element
-use Rattle.mbe_matcher.specs.Stepping.{where_of}
+use Rattle.mbe_matcher.specs.Binders.{where_of}
 use Rattle.mbe_pattern.proofs.FirstTrees.{leaf_before}
 use Rattle.mbe_pattern.specs.Spelling.{is_dollar}
 use Rattle.mbe_rules.specs.Spelling.{seamed, template_until}

@@ -1,7 +1,7 @@
 -- What was cut, and what is left, are the parts of the whole.
 use Rattle.std.proofs.Common.{◌≡◌, ◌++◌, map}
 use Rattle.tt.specs.Iters.{rest_of}
-use Rattle.mbe_matcher.specs.Stepping.{where_of}
+use Rattle.mbe_matcher.specs.Binders.{where_of}
 use Rattle.mbe_rules.specs.Parts.{bit_of, all_bits}
 use Rattle.mbe_rules.specs.Spelling.{template_of}
 use Rattle.mbe_rules.specs.Stepping.{bits_left, levels_left}

@@ -2,7 +2,7 @@ use Rattle.std.proofs.Common.{rules, ◌≡◌, ◌+◌, ◌<◌, ◌++◌, ◌�
 use Rattle.std.proofs.lemmas.List.{map-append, take_more}
 use Rattle.mbe_matcher.specs.Grouping.{named_by, binding_by}
 use Rattle.mbe_matcher.specs.Marks.{note_of}
-use Rattle.mbe_matcher.specs.Stepping.{where_of}
+use Rattle.mbe_matcher.specs.Binders.{where_of}
 use Rattle.mbe_rules.specs.Rounds.{IsTakenBy, AreTaken}
 use Rattle.mbe_rules.proofs.Seeing.{taken_more}
 use Rattle.mbe_rules.proofs.taken.taken_by.Goals as goal

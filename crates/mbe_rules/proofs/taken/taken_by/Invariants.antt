@@ -2,7 +2,7 @@
 use Rattle.std.proofs.Common.{map, take}
 use Rattle.mbe_matcher.specs.Grouping.{binding_by}
 use Rattle.mbe_matcher.specs.Marks.{note_of}
-use Rattle.mbe_matcher.specs.Stepping.{where_of}
+use Rattle.mbe_matcher.specs.Binders.{where_of}
 use Rattle.mbe_rules.specs.Rounds.{AreTaken}
 use Rattle.mbe_rules.proofs.taken.taken_by.Given as goal
 

@@ -6,7 +6,7 @@ use Rattle.tt.specs.Forest.{size}
 use Rattle.tt.specs.TreeFault.{IsTreeFault, under}
 use Rattle.mbe_matcher.specs.Grouping.{binding_by}
 use Rattle.mbe_matcher.specs.Marks.{note_of}
-use Rattle.mbe_matcher.specs.Stepping.{where_of}
+use Rattle.mbe_matcher.specs.Binders.{where_of}
 use Rattle.mbe_rules.specs.declared.transcribe_error.TranscribeError.TheVariants.{Tree}
 use Rattle.mbe_rules.specs.Limits.{IsWithin}
 use Rattle.mbe_rules.specs.Transcribing.{transcribed}

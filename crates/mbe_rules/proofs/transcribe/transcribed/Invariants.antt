@@ -3,7 +3,7 @@ use Rattle.std.proofs.Common.{◌≡◌, List, drop, map, reverse}
 use Rattle.tt.specs.Building.{lowest}
 use Rattle.mbe_matcher.specs.Grouping.{binding_by}
 use Rattle.mbe_matcher.specs.Marks.{note_of}
-use Rattle.mbe_matcher.specs.Stepping.{where_of}
+use Rattle.mbe_matcher.specs.Binders.{where_of}
 use Rattle.mbe_rules.specs.Transcribing.{transcribed}
 use Rattle.mbe_rules.specs.Parts.{bit_of}
 use Rattle.mbe_rules.specs.Filling.{most_of, IsAt}

@@ -1,6 +1,6 @@
 -- The parts that are passed, from the last, are judged.
 use Rattle.std.proofs.Common.{◌≡◌, ◌≤◌, drop, length, map}
-use Rattle.mbe_matcher.specs.Stepping.{where_of}
+use Rattle.mbe_matcher.specs.Binders.{where_of}
 use Rattle.mbe_rules.specs.Validating.{validated_by, validated_of}
 use Rattle.mbe_rules.specs.Parts.{bit_of}
 use Rattle.mbe_rules.proofs.validate.fault_of.Given as goal

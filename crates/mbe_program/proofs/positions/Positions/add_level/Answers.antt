@@ -24,11 +24,11 @@ loop-rest-init c =
 pub loop-rest-preserved : goal.loop-rest-preserved
 loop-rest-preserved c =
     let old = rest_of c.loop-rest.rest in
-    let trees = rest_of c.pass.new.trees in
+    let trees = rest_of c.next_kind.new.self in
     let outside = c.args.outside in
     let behind = c.args.behind in
     let goes : is_end old ≡ false = search rules in
-    let next : trees ≡ after_tree old = c.pass.ensures.rest in
+    let next : trees ≡ after_tree old = c.next_kind.ensures.rest in
     let less = next_less old goes in
     let sizes : size trees ≡ size (after_tree old) = ap size next in
     let bound = c.loop-rest.invariant.2 in
@@ -46,14 +46,17 @@ pub loop-rest-smaller : goal.loop-rest-smaller
 loop-rest-smaller c =
     let old = rest_of c.loop-rest.rest in
     let goes : is_end old ≡ false = search rules in
-    subst (λ trees. size trees < size old) (sym c.pass.ensures.rest) (next_less old goes)
+    subst (λ trees. size trees < size old) (sym c.next_kind.ensures.rest) (next_less old goes)
 
 pub add-requires-in-loop-rest : goal.add-requires-in-loop-rest
 add-requires-in-loop-rest c =
     let sizes = ap size c.remaining-in-loop-rest.ensures in
-    let less = c.pass.ensures.less in
+    let old = rest_of c.loop-rest.rest in
+    let goes : is_end old ≡ false = search rules in
+    let less = next_less old goes in
+    let next = ap size c.next_kind.ensures.rest in
     let bound = c.loop-rest.invariant.2 in
-    omega (arith, sizes, less, bound)
+    omega (arith, sizes, next, less, bound)
 
 pub returns-clause-spots : goal.returns-clause-spots
 returns-clause-spots c =

@@ -4,8 +4,8 @@ use Rattle.tt.specs.Forest.{node}
 use Rattle.tt.specs.Gluing.{after_trees}
 use Rattle.tt.specs.Iters.{rest_of, IsFirstSubtree}
 use Rattle.tt.specs.Moves.{after_tree}
-use Rattle.mbe_matcher.specs.Matchers.{IsMatcherOf}
-use Rattle.mbe_matcher.specs.Stepping.{where_of}
+use Rattle.mbe_program.specs.Matchers.{IsMatcherOf}
+use Rattle.mbe_matcher.specs.Binders.{where_of}
 use Rattle.mbe_pattern.specs.Placed.{pattern_of}
 use Rattle.mbe_rules.specs.Results.{IsTemplate, IsTemplateError}
 use Rattle.mbe_rules.specs.Spelling.{template_of}

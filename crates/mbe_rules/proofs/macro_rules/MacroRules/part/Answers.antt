@@ -1,7 +1,7 @@
 use Rattle.std.proofs.Common.{rules, ◌≡◌, ◌<◌, ◌≤◌, ◌∙◌, None, Some, MatchOption, length, get_or, ap, sym, subst}
 use Rattle.std.proofs.lemmas.Option.{slice_get-get_or, slice_get_past}
 use Rattle.std.specs.Prelude.{slice_get}
-use Rattle.mbe_matcher.specs.Labels.{label_of}
+use Rattle.mbe_program.specs.Labelling.{label_of}
 use Rattle.mbe_rules.proofs.Waiting.{part_at, part_none}
 use Rattle.mbe_rules.proofs.macro_rules.MacroRules.part.Goals as goal
 
@@ -24,4 +24,4 @@ returns c arms are =
     let there : it ≡ get_or c.deref.result.now number it = search rules in
     let found = part_at arms its number c.args.it.part it are
     (subst (λ l. slice_get l number ≡ Some it) same (slice_get-get_or c.deref.result.now number it lt ∙ ap Some (sym there))) in
-    subst (λ p. MatchOption c.part.result (p ≡ None) (λ atom. p ≡ Some (label_of atom.now))) (sym found.2) (c.part.ensures found.0 found.1)
+    subst (λ p. MatchOption c.part.result (p ≡ None) (λ part. p ≡ Some (label_of part))) (sym found.2) (c.part.ensures found.0 found.1)

@@ -1,6 +1,6 @@
 use Rattle.std.proofs.Common.{rules, ◌≡◌, map, Some, None, ap, sym, ◌∙◌}
 use Rattle.tt.specs.Iters.{rest_of}
-use Rattle.mbe_matcher.specs.Stepping.{where_of}
+use Rattle.mbe_matcher.specs.Binders.{where_of}
 use Rattle.mbe_rules.specs.Validating.{validated_of}
 use Rattle.mbe_rules.specs.Parts.{bit_of}
 use Rattle.mbe_rules.specs.Spelling.{template_of}

@@ -2,7 +2,7 @@ use Rattle.std.specs.Prelude.{IfOk, IfErr}
 use Rattle.std.proofs.Common.{map, subst}
 use Rattle.mbe_matcher.specs.Grouping.{binding_by}
 use Rattle.mbe_matcher.specs.Marks.{note_of}
-use Rattle.mbe_matcher.specs.Stepping.{where_of}
+use Rattle.mbe_matcher.specs.Binders.{where_of}
 use Rattle.mbe_rules.specs.Transcribing.{transcribed}
 use Rattle.mbe_rules.specs.Results.{IsTranscribed, IsTranscribeError}
 use Rattle.mbe_rules.specs.Wholes.{whole_of}
