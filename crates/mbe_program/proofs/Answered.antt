@@ -6,7 +6,7 @@ use Rattle.tt.specs.Forest.{Forest, size}
 use Rattle.mbe_program.specs.Answers.{HasNoRun, HasOneRun, HasTwoRuns, Reaches, Reach}
 use Rattle.mbe_program.specs.Cells.{IsCell, Hop, start, finish}
 use Rattle.mbe_program.specs.Program.{Instruction}
-use Rattle.mbe_program.specs.Searching.{rows_of, log_of, way_in, EndsAt, HaveAllGoneOn, IsFewest}
+use Rattle.mbe_program.specs.Searching.{log_of, ways_of, EndsAt, HaveAllGoneOn, IsFewest}
 use Rattle.mbe_program.specs.Tables.{Table, IsTableOf}
 use Rattle.mbe_program.specs.Ways.{Coming, IsAt, Traces, Tried}
 use Rattle.mbe_program.specs.declared.cell.Cell.{Cell}
@@ -32,7 +32,7 @@ module _ (program : List Instruction) (input : Forest) (table : Table) (is : IsT
   goes j from to its there hop = (at_within Cell Note (log_of search) j from there, (from, there, hop))
 
   abbrev ways : Cell → Way
-  ways = way_in (rows_of search)
+  ways = ways_of search
 
   at_finish : (it : Cell) → it ≡ finish program table → IsCell it 0 0
   at_finish it same = (ap (λ (it : Cell). it.position) same, ap (λ (it : Cell). it.left) same)

@@ -11,7 +11,7 @@ use Rattle.mbe_program.specs.Cells.{IsCell, HopsFrom, Hop, start}
 use Rattle.mbe_program.specs.Tables.{Table, IsTableOf, passed_to}
 use Rattle.mbe_program.specs.Moving.{notes_of_mark, IsMove}
 use Rattle.mbe_program.specs.Program.{Instruction, take, pass, enter, leave, begin, close, place_at}
-use Rattle.mbe_program.specs.Searching.{rows_of, log_of, way_in, IsRoomy, HaveGoneOn, coming_by}
+use Rattle.mbe_program.specs.Searching.{log_of, ways_of, AreAlike, HasRows, IsRoomy, HaveGoneOn, coming_by}
 use Rattle.mbe_program.specs.Ways.{Coming, IsAt, IsKept, IsAdded, IsSource, Tried}
 use Rattle.mbe_program.specs.declared.cell.Cell.{Cell}
 use Rattle.mbe_program.specs.declared.moves.Move.{Move}
@@ -110,10 +110,10 @@ module _ (program : List Instruction) (table : Table) (input : Forest) (is : IsT
     pub went_nowhere : ((to : Cell) → (its : List Note) → Hop program table from.cell to its → ⊥) → suc i ≤ length (log_of old) → HaveGoneOn program table (suc i) old
     went_nowhere none upto =
         record {
-          kept = subst (λ log. IsKept Cell Note (start program table) (Hop program table) (way_in (rows_of old)) log (Now log (suc i))) (append-nil (log_of old))
-              (gone_on Cell Note (start program table) (Hop program table) (tells program table) decide (way_in (rows_of old)) (log_of old) [] (Now (log_of old) i) i from there
+          kept = subst (λ log. IsKept Cell Note (start program table) (Hop program table) (ways_of old) log (Now log (suc i))) (append-nil (log_of old))
+              (gone_on Cell Note (start program table) (Hop program table) (tells program table) decide (ways_of old) (log_of old) [] (Now (log_of old) i) i from there
               (λ before to notes tried. tried) (λ to notes hop. absurd (none to notes hop)) (λ before to notes tried. inl tried)
-              (subst (λ log. IsKept Cell Note (start program table) (Hop program table) (way_in (rows_of old)) log (Now (log_of old) i)) (sym (append-nil (log_of old))) gone.kept));
+              (subst (λ log. IsKept Cell Note (start program table) (Hop program table) (ways_of old) log (Now (log_of old) i)) (sym (append-nil (log_of old))) gone.kept));
           upto = upto;
           sized = gone.sized;
           roomy = gone.roomy;
@@ -124,45 +124,45 @@ module _ (program : List Instruction) (table : Table) (input : Forest) (is : IsT
     record HasAdded (search : Search) (Done : ℕ → Cell → List Note → Type 0) : Type 1 where
       more : Log
       grown : log_of search ≡ log_of old ++ more
-      kept : IsKept Cell Note (start program table) (Hop program table) (way_in (rows_of search)) (log_of search) Done
-      sized : length search.rows.items ≡ table.count
-      roomy : IsRoomy (suc (length program)) search
+      kept : IsKept Cell Note (start program table) (Hop program table) (ways_of search) (log_of search) Done
+      sized : HasRows table.count (suc (length program)) search
+      roomy : IsRoomy search
       inside : (k : ℕ) (it : Coming Cell Note) → IsAt Cell Note (log_of search) k it → IsInside program table it.cell
 
     add_first : (new : Search) (step : Move) → Hop program table from.cell step.to (notes_of_mark step.mark)
-        → IsAdded Cell Note (coming_by from i step) (way_in (rows_of old)) (log_of old) (way_in (rows_of new)) (log_of new) → IsRoomy (suc (length program)) new
-        → length new.rows.items ≡ length old.rows.items → HasAdded new (Plus (Now (log_of old) i) (coming_by from i step))
-    add_first new step hop added roomy rows =
+        → IsAdded Cell Note (coming_by from i step) (ways_of old) (log_of old) (ways_of new) (log_of new) → IsRoomy new
+        → AreAlike new old → HasAdded new (Plus (Now (log_of old) i) (coming_by from i step))
+    add_first new step hop added roomy alike =
         let it = coming_by from i step in
-        let grown = added_grown Cell Note (start program table) (Hop program table) (tells program table) decide (way_in (rows_of old)) (way_in (rows_of new)) (log_of old) (log_of new) it added in
+        let grown = added_grown Cell Note (start program table) (Hop program table) (tells program table) decide (ways_of old) (ways_of new) (log_of old) (log_of new) it added in
         record {
           more = grown.0;
           grown = grown.1;
-          kept = added_kept Cell Note (start program table) (Hop program table) (tells program table) decide (way_in (rows_of old)) (way_in (rows_of new)) (log_of old) (log_of new) (Now (log_of old) i) it gone.kept
+          kept = added_kept Cell Note (start program table) (Hop program table) (tells program table) decide (ways_of old) (ways_of new) (log_of old) (log_of new) (Now (log_of old) i) it gone.kept
               (source step hop) (not_tried step.to (notes_of_mark step.mark)) added;
-          sized = rows ∙ gone.sized;
+          sized = (alike.0 ∙ gone.sized.0, alike.1 ∙ gone.sized.1);
           roomy = roomy;
-          inside = added_inside it (way_in (rows_of old)) (way_in (rows_of new)) (log_of old) (log_of new) (hop_inside from.cell step.to (notes_of_mark step.mark) (gone.inside i from there).0 hop) gone.inside added;
+          inside = added_inside it (ways_of old) (ways_of new) (log_of old) (log_of new) (hop_inside from.cell step.to (notes_of_mark step.mark) (gone.inside i from there).0 hop) gone.inside added;
         }
 
     add_second : (middle new : Search) (one step : Move) → HasAdded middle (Plus (Now (log_of old) i) (coming_by from i one)) → Hop program table from.cell step.to (notes_of_mark step.mark)
         → (notes_of_mark one.mark ≡ notes_of_mark step.mark → ⊥)
-        → IsAdded Cell Note (coming_by from i step) (way_in (rows_of middle)) (log_of middle) (way_in (rows_of new)) (log_of new) → IsRoomy (suc (length program)) new
-        → length new.rows.items ≡ length middle.rows.items → HasAdded new (Plus (Plus (Now (log_of old) i) (coming_by from i one)) (coming_by from i step))
-    add_second middle new one step has hop differ added roomy rows =
+        → IsAdded Cell Note (coming_by from i step) (ways_of middle) (log_of middle) (ways_of new) (log_of new) → IsRoomy new
+        → AreAlike new middle → HasAdded new (Plus (Plus (Now (log_of old) i) (coming_by from i one)) (coming_by from i step))
+    add_second middle new one step has hop differ added roomy alike =
         let it = coming_by from i step in
-        let grown = added_grown Cell Note (start program table) (Hop program table) (tells program table) decide (way_in (rows_of middle)) (way_in (rows_of new)) (log_of middle) (log_of new) it added in
+        let grown = added_grown Cell Note (start program table) (Hop program table) (tells program table) decide (ways_of middle) (ways_of new) (log_of middle) (log_of new) it added in
         record {
           more = has.more ++ grown.0;
           grown = grown.1 ∙ ap (λ l. l ++ grown.0) has.grown ∙ append_assoc (log_of old) has.more grown.0;
-          kept = added_kept Cell Note (start program table) (Hop program table) (tells program table) decide (way_in (rows_of middle)) (way_in (rows_of new)) (log_of middle) (log_of new)
+          kept = added_kept Cell Note (start program table) (Hop program table) (tells program table) decide (ways_of middle) (ways_of new) (log_of middle) (log_of new)
               (Plus (Now (log_of old) i) (coming_by from i one)) it has.kept
               (subst (λ log. IsSource Cell Note (start program table) (Hop program table) log (suc i) step.to (notes_of_mark step.mark) from.is_many) (sym has.grown)
               (from, at_grown Cell Note (log_of old) has.more i from there, hop, refl))
               not_yet added;
-          sized = rows ∙ has.sized;
+          sized = (alike.0 ∙ has.sized.0, alike.1 ∙ has.sized.1);
           roomy = roomy;
-          inside = added_inside it (way_in (rows_of middle)) (way_in (rows_of new)) (log_of middle) (log_of new) (hop_inside from.cell step.to (notes_of_mark step.mark) (gone.inside i from there).0 hop) has.inside added;
+          inside = added_inside it (ways_of middle) (ways_of new) (log_of middle) (log_of new) (hop_inside from.cell step.to (notes_of_mark step.mark) (gone.inside i from there).0 hop) has.inside added;
         }
       where
         not_yet : Plus (Now (log_of old) i) (coming_by from i one) (suc i) step.to (notes_of_mark step.mark) → ⊥
@@ -178,9 +178,9 @@ module _ (program : List Instruction) (table : Table) (input : Forest) (is : IsT
         let longer = length_grown (log_of old) has.more in
         let count = ap length has.grown in
         record {
-          kept = subst (λ log. IsKept Cell Note (start program table) (Hop program table) (way_in (rows_of new)) log (Now log (suc i))) (sym has.grown)
-              (gone_on Cell Note (start program table) (Hop program table) (tells program table) decide (way_in (rows_of new)) (log_of old) has.more Done i from there olds news only
-              (subst (λ log. IsKept Cell Note (start program table) (Hop program table) (way_in (rows_of new)) log Done) has.grown has.kept));
+          kept = subst (λ log. IsKept Cell Note (start program table) (Hop program table) (ways_of new) log (Now log (suc i))) (sym has.grown)
+              (gone_on Cell Note (start program table) (Hop program table) (tells program table) decide (ways_of new) (log_of old) has.more Done i from there olds news only
+              (subst (λ log. IsKept Cell Note (start program table) (Hop program table) (ways_of new) log Done) has.grown has.kept));
           upto = omega (arith, upto, longer, count);
           sized = has.sized;
           roomy = has.roomy;
@@ -194,10 +194,10 @@ module _ (program : List Instruction) (table : Table) (input : Forest) (is : IsT
     -- One hop leads on.
     pub went_one : (new : Search) (step : Move) → suc i ≤ length (log_of old) → Hop program table from.cell step.to (notes_of_mark step.mark)
         → ((to : Cell) → (its : List Note) → Hop program table from.cell to its → IsMove step to its)
-        → IsAdded Cell Note (coming_by from i step) (way_in (rows_of old)) (log_of old) (way_in (rows_of new)) (log_of new) → IsRoomy (suc (length program)) new
-        → length new.rows.items ≡ length old.rows.items → HaveGoneOn program table (suc i) new
-    went_one new step upto hop all added roomy rows =
-        finished new (Plus (Now (log_of old) i) (coming_by from i step)) (add_first new step hop added roomy rows) upto
+        → IsAdded Cell Note (coming_by from i step) (ways_of old) (log_of old) (ways_of new) (log_of new) → IsRoomy new
+        → AreAlike new old → HaveGoneOn program table (suc i) new
+    went_one new step upto hop all added roomy alike =
+        finished new (Plus (Now (log_of old) i) (coming_by from i step)) (add_first new step hop added roomy alike) upto
         (λ before to notes tried. inl tried) (λ to notes hopped. let moved = all to notes hopped in inr (refl, moved.0, moved.1)) only
       where
         only : (before : ℕ) (to : Cell) (notes : List Note) → Plus (Now (log_of old) i) (coming_by from i step) before to notes
@@ -209,13 +209,13 @@ module _ (program : List Instruction) (table : Table) (input : Forest) (is : IsT
     pub went_two : (middle new : Search) (one step : Move) → suc i ≤ length (log_of old) → Hop program table from.cell one.to (notes_of_mark one.mark) → Hop program table from.cell step.to (notes_of_mark step.mark)
         → (notes_of_mark one.mark ≡ notes_of_mark step.mark → ⊥)
         → ((to : Cell) → (its : List Note) → Hop program table from.cell to its → IsMove one to its ⊎ IsMove step to its)
-        → IsAdded Cell Note (coming_by from i one) (way_in (rows_of old)) (log_of old) (way_in (rows_of middle)) (log_of middle) → IsRoomy (suc (length program)) middle
-        → length middle.rows.items ≡ length old.rows.items
-        → IsAdded Cell Note (coming_by from i step) (way_in (rows_of middle)) (log_of middle) (way_in (rows_of new)) (log_of new) → IsRoomy (suc (length program)) new
-        → length new.rows.items ≡ length middle.rows.items → HaveGoneOn program table (suc i) new
-    went_two middle new one step upto hop hopped differ all added roomy rows added_too roomy_too rows_too =
+        → IsAdded Cell Note (coming_by from i one) (ways_of old) (log_of old) (ways_of middle) (log_of middle) → IsRoomy middle
+        → AreAlike middle old
+        → IsAdded Cell Note (coming_by from i step) (ways_of middle) (log_of middle) (ways_of new) (log_of new) → IsRoomy new
+        → AreAlike new middle → HaveGoneOn program table (suc i) new
+    went_two middle new one step upto hop hopped differ all added roomy alike added_too roomy_too alike_too =
         finished new (Plus (Plus (Now (log_of old) i) (coming_by from i one)) (coming_by from i step))
-        (add_second middle new one step (add_first middle one hop added roomy rows) hopped differ added_too roomy_too rows_too) upto
+        (add_second middle new one step (add_first middle one hop added roomy alike) hopped differ added_too roomy_too alike_too) upto
         (λ before to notes tried. inl (inl tried)) (λ to notes moved. either to notes (all to notes moved)) only
       where
         either : (to : Cell) (notes : List Note) → IsMove one to notes ⊎ IsMove step to notes → Plus (Plus (Now (log_of old) i) (coming_by from i one)) (coming_by from i step) (suc i) to notes

@@ -10,11 +10,9 @@ pub mod Built
 pub mod CountSteps
 pub mod Counted
 pub mod CutWhole
-pub mod Empty
 pub mod Entering
 pub mod Expanding
 pub mod Fewest
-pub mod Filling
 pub mod Finding
 pub mod Fits
 pub mod Forward
@@ -23,6 +21,7 @@ pub mod FrontForward
 pub mod FrontLaw
 pub mod GoingOn
 pub mod Hops
+pub mod Indices
 pub mod Labelled
 pub mod Laid
 pub mod LaidTable

@@ -10,7 +10,7 @@ use Rattle.mbe_program.specs.Moving.{AreMovesAt}
 use Rattle.mbe_program.specs.Numbering.{HasMissed, IsStuckAt, part_at}
 use Rattle.mbe_program.specs.Program.{Instruction, take, pass, enter, leave, begin, close}
 use Rattle.mbe_program.specs.Runs.{Goes}
-use Rattle.mbe_program.specs.Searching.{HaveAllGoneOn, log_of, rows_of, way_in}
+use Rattle.mbe_program.specs.Searching.{HaveAllGoneOn, log_of, ways_of}
 use Rattle.mbe_program.specs.Stuck.{HasStuck, IsStuckCell}
 use Rattle.mbe_program.specs.Tables.{IsTableOf, Table, passed_to}
 use Rattle.mbe_program.specs.Ways.{Coming, IsAt, Tried}
@@ -101,14 +101,14 @@ module _ (program : List Instruction) (input : Forest) (table : Table) (is : IsT
     -- So some arrival is stuck exactly if some run is.
     pub stuck_run : HasStuck program table left parts log number → (steps : ℕ) × (notes : List Note) × Goes program (HasMissed parts left number) steps program (input ∷ []) notes
     stuck_run (k, it, there, stuck, at) =
-        let own = comes Cell Note (start program table) (Hop program table) (tells program table) decide (way_in (rows_of search)) log Done gone.kept k it there in
+        let own = comes Cell Note (start program table) (Hop program table) (tells program table) decide (ways_of search) log Done gone.kept k it there in
         let come = has_come program input table is (HasMissed parts left number) own.0 it.cell own.1 own.2 in
         (own.0 + 0, own.1 ++ [], come.onward 0 [] (cell_missed it.cell come.place come.levels come.fits stuck at, refl))
 
     pub run_stuck : (steps : ℕ) (notes : List Note) → Goes program (HasMissed parts left number) steps program (input ∷ []) notes → HasStuck program table left parts log number
     run_stuck steps notes run =
         let last = arrives program input table is (HasMissed parts left number) steps notes run in
-        let found = reached Cell Note (start program table) (Hop program table) (tells program table) decide (way_in (rows_of search)) log Done gone.kept (refl, refl) goes steps last.to notes last.ways in
+        let found = reached Cell Note (start program table) (Hop program table) (tells program table) decide (ways_of search) log Done gone.kept (refl, refl) goes steps last.to notes last.ways in
         let stuck = missed_cell last.to last.place last.levels last.fits last.is_last in (
           found.0,
           found.1,

@@ -1,5 +1,5 @@
--- A search as rows of ways and a log of arrivals.
-use Rattle.std.specs.Prelude.{◌≡◌, ◌⊎◌, ◌+◌, ◌-◌, ◌<◌, ◌≤◌, ℕ, suc, List, [], ◌∷◌, ◌++◌, map, length, replicate, slice_index_or}
+-- A search as ways, in a row for each position, and a log of arrivals.
+use Rattle.std.specs.Prelude.{◌≡◌, ◌⊎◌, ◌+◌, ◌*◌, ◌<◌, ◌≤◌, ℕ, suc, List, [], ◌∷◌, map, length, nat_lt, slice_index_or, if◌then◌else◌}
 use Rattle.mbe_matcher.specs.Marks.{Note}
 use Rattle.tt.specs.Forest.{Forest}
 use Rattle.mbe_program.specs.Cells.{IsCell, Hop, start}
@@ -21,21 +21,28 @@ coming_of it = record { cell = it.cell; before = it.before; notes = notes_of_mar
 abbrev pub log_of : Search → List (Coming Cell Note)
 log_of search = map coming_of search.log.items
 
-abbrev pub rows_of : Search → List (List Way)
-rows_of search = map (λ row. row.items) search.rows.items
+-- the number of a cell, in rows of that width, one for each position
+abbrev pub index_in : (width : ℕ) → Cell → ℕ
+index_in width it = it.position * width + it.left
 
 -- how many ways to a cell are known
-abbrev pub way_in : (rows : List (List Way)) → Cell → Way
-way_in rows it = slice_index_or (slice_index_or rows it.position []) it.left way.Unseen
+abbrev pub way_in : (width : ℕ) → (cells : List Way) → Cell → Way
+way_in width cells it = if nat_lt it.left width then slice_index_or cells (index_in width it) way.Unseen else way.Unseen
 
--- a row that is made that long, if it is shorter
-abbrev pub filled : (width : ℕ) → List Way → List Way
-filled width row = row ++ replicate (width - length row) way.Unseen
+abbrev pub ways_of : Search → Cell → Way
+ways_of search = way_in search.width search.cells.items
 
--- no row is longer than that
-abbrev pub AreNarrow : (width : ℕ) → List (List Way) → Type 0
-AreNarrow width [] = Unit {0}
-AreNarrow width (row ∷ rows) = (length row ≤ width) × AreNarrow width rows
+-- the search has a way for that cell
+abbrev pub HasCell : Search → Cell → Type 0
+HasCell search it = (it.left < search.width) × (index_in search.width it < length search.cells.items)
+
+-- the search has rows of that width, so many
+abbrev pub HasRows : (count width : ℕ) → Search → Type 0
+HasRows count width search = (search.width ≡ width) × (length search.cells.items ≡ count * width)
+
+-- the rows of two searches are alike
+abbrev pub AreAlike : (one other : Search) → Type 0
+AreAlike one other = (one.width ≡ other.width) × (length one.cells.items ≡ length other.cells.items)
 
 -- how many arrivals there are at most
 abbrev pub way_weight : Way → ℕ
@@ -43,18 +50,13 @@ way_weight way.Unseen = 0
 way_weight way.Once = 1
 way_weight way.Often = 2
 
-abbrev pub row_weight : List Way → ℕ
-row_weight [] = 0
-row_weight (it ∷ others) = way_weight it + row_weight others
+abbrev pub ways_weight : List Way → ℕ
+ways_weight [] = 0
+ways_weight (it ∷ others) = way_weight it + ways_weight others
 
-abbrev pub rows_weight : List (List Way) → ℕ
-rows_weight [] = 0
-rows_weight (row ∷ rows) = row_weight row + rows_weight rows
-
--- no row is longer than that, and the log has no more arrivals than the known ways allow
-pub record IsRoomy (width : ℕ) (search : Search) : Type 0 where
-  pub narrow : AreNarrow width (rows_of search)
-  pub least : length (log_of search) ≤ rows_weight (rows_of search)
+-- the log has no more arrivals than the known ways allow
+abbrev pub IsRoomy : Search → Type 0
+IsRoomy search = length (log_of search) ≤ ways_weight search.cells.items
 
 -- the table is of some input, for the program
 abbrev pub IsTable : (program : List Instruction) → Table → Type 0
@@ -62,10 +64,10 @@ IsTable program table = (input : Forest) × IsTableOf program input table
 
 -- the first arrivals of the log, so many, have gone on
 pub record HaveGoneOn (program : List Instruction) (table : Table) (i : ℕ) (search : Search) : Type 0 where
-  pub kept : IsKept Cell Note (start program table) (Hop program table) (way_in (rows_of search)) (log_of search) (Tried Cell Note (start program table) (Hop program table) (log_of search) i)
+  pub kept : IsKept Cell Note (start program table) (Hop program table) (ways_of search) (log_of search) (Tried Cell Note (start program table) (Hop program table) (log_of search) i)
   pub upto : i ≤ length (log_of search)
-  pub sized : length search.rows.items ≡ table.count
-  pub roomy : IsRoomy (suc (length program)) search
+  pub sized : HasRows table.count (suc (length program)) search
+  pub roomy : IsRoomy search
   pub inside : (k : ℕ) (it : Coming Cell Note) → IsAt Cell Note (log_of search) k it → (it.cell.position < table.count) × (it.cell.left ≤ length program)
 
 -- all arrivals have gone on

@@ -1,22 +1,26 @@
 //! The steps from a cell of a search.
 ghost use Rattle.std.specs.Prelude.{◌≡◌, ◌≤◌, ◌↔◌, ◌∷◌, true, false, List, length, IfOk, IsTrue, MatchOption};
 ghost use Rattle.mbe_matcher.specs.Fragments.{takes, reach};
-ghost use Rattle.mbe_pattern.specs.Units.{IsNodeOf, IsUnitLike};
+ghost use Rattle.mbe_pattern.specs.declared.pattern.Fragment.TheVariants as fragment;
+ghost use Rattle.mbe_pattern.specs.Units.{front_trees, unit_size, AreLeavesLike, IsLeafLike, IsNodeOf, IsUnitLike};
 ghost use Rattle.mbe_program.specs.Moving.{AreMoves, AreMovesAt, AreMovesOf, instructions_of, instruction_of};
 ghost use Rattle.mbe_program.specs.Positions.{table_of};
 ghost use Rattle.mbe_program.specs.Program.{Instruction as Step, take as take_step, pass as pass_step, enter as enter_step, leave as leave_step, begin as begin_step, close as close_step};
 ghost use Rattle.mbe_program.specs.Tables.{Table};
 ghost use Rattle.mbe_program.specs.declared.moves.Moves.TheVariants as only;
+ghost use Rattle.tt.specs.Iters.{rest_of};
+ghost use Rattle.tt.specs.Moves.{after_tree};
 ghost use Rattle.tt.specs.Types.DelimiterKind.{DelimiterKind as Kind};
 ghost use Rattle.tt.specs.Views.{trees_of};
 
 use crate::cell::Cell;
 use crate::instruction::Instruction;
 use crate::positions::Positions;
-use mbe_matcher::{Mark, are_leaves_like, grammar_reach, reach, takes};
-use mbe_pattern::{Fragment, RepeatKind, Variable, take, unit_size};
+use mbe_grammar::Unit;
+use mbe_matcher::{Mark, grammar_reach, reach, takes};
+use mbe_pattern::{Fragment, RepeatKind, Variable, passes_leaf};
 use std::alloc::{AllocError, Global};
-use tt::{DelimiterKind, Leaf, TokenKind, TokenTreesView};
+use tt::{DelimiterKind, Leaf, TokenKind, TokenTreesView, TtIter};
 
 /// A step from a cell to another, and what it marks.
 #[derive(Clone, Copy)]
@@ -36,6 +40,34 @@ pub(crate) enum Moves<'i> {
     Two(Move<'i>, Move<'i>),
 }
 
+// Returns how many trees the first unit has: those of a token, or one subtree. Reads them without their leaves.
+fn size_of_first(trees: TokenTreesView<'_>) -> usize
+    ensures { result ≡ unit_size (trees_of trees.entry) }
+{
+    Unit::take(&mut trees.iter()).size()
+}
+
+// Returns 1 if an ident other than `_` comes first.
+fn ident_taken(trees: TokenTreesView<'_>) -> Option<usize>
+    ensures { MatchOption result (takes fragment.Ident (trees_of trees.entry) ≡ false) (λ count. (takes fragment.Ident (trees_of trees.entry) ≡ true) × (count ≡ reach fragment.Ident (trees_of trees.entry))) }
+{
+    match trees.iter().next_kind() {
+        Some(TokenKind::Ident(text, _)) if text != "_" => Some(1),
+        _ => None,
+    }
+}
+
+// Returns how many trees the first token or subtree has, if one comes first.
+fn tree_taken(trees: TokenTreesView<'_>) -> Option<usize>
+    ensures { MatchOption result (takes fragment.Tt (trees_of trees.entry) ≡ false) (λ count. (takes fragment.Tt (trees_of trees.entry) ≡ true) × (count ≡ reach fragment.Tt (trees_of trees.entry))) }
+{
+    match trees.iter().next_kind() {
+        None => None,
+        Some(TokenKind::Punct(_, _)) => Some(size_of_first(trees)),
+        Some(_) => Some(1),
+    }
+}
+
 // Returns how many trees the fragment takes, if it takes the trees at the front.
 fn taken_by(
     alloc: Global,
@@ -44,21 +76,58 @@ fn taken_by(
 ) -> Result<Option<usize>, AllocError>
     ensures { IfOk result (λ found. MatchOption found (takes fragment (trees_of trees.entry) ≡ false) (λ count. (takes fragment (trees_of trees.entry) ≡ true) × (count ≡ reach fragment (trees_of trees.entry)))) }
 {
-    if let Fragment::Grammar(which) = fragment {
-        return grammar_reach(alloc, which, trees.iter());
+    match fragment {
+        Fragment::Grammar(which) => grammar_reach(alloc, which, trees.iter()),
+        Fragment::Ident => Ok(ident_taken(trees)),
+        Fragment::Tt => Ok(tree_taken(trees)),
+        Fragment::Literal | Fragment::Lifetime | Fragment::Block | Fragment::Vis => {
+            if !takes(alloc, fragment, trees.iter())? {
+                return Ok(None);
+            }
+            let count = reach(alloc, fragment, trees.iter())?;
+            Ok(Some(count))
+        }
     }
-    if !takes(alloc, fragment, trees.iter())? {
-        return Ok(None);
-    }
-    let count = reach(alloc, fragment, trees.iter())?;
-    Ok(Some(count))
 }
 
-// Returns whether the first token has these leaves.
+// Passes the next tree and returns whether it is such a leaf. Only of a literal before a literal does it read the leaf.
+fn passes_like(leaf: &Leaf, trees: &mut TtIter<'_>) -> bool
+    ensures answer { IsTrue result ↔ IsLeafLike leaf.now (rest_of trees.old) }
+    ensures rest { rest_of trees.new ≡ after_tree (rest_of trees.old) }
+{
+    let mut before = trees.remaining().iter();
+    match (leaf, trees.next_kind()) {
+        (Leaf::Punct(punct), Some(TokenKind::Punct(char, _))) => punct.char == char,
+        (Leaf::Ident(ident), Some(TokenKind::Ident(text, is_raw))) => {
+            ident.sym.as_str() == text && ident.is_raw == is_raw
+        }
+        (Leaf::Literal(_), Some(TokenKind::Literal(_))) => passes_leaf(leaf, &mut before),
+        _ => false,
+    }
+}
+
+// Returns whether the first trees are such leaves, one by one.
+fn are_like(leaves: &[Leaf], trees: TokenTreesView<'_>) -> bool
+    ensures { IsTrue result ↔ AreLeavesLike leaves.now (trees_of trees.entry) }
+{
+    let mut rest = trees.iter();
+    for leaf in leaves {
+        if !passes_like(leaf, &mut rest) {
+            return false;
+        }
+    }
+    true
+}
+
+// Returns whether the first token has these leaves. Most trees differ in the first leaf, so it compares the leaves before it counts those of
+// the token. A token that begins with an ident or a literal has one leaf.
 fn is_unit_like(leaves: &[Leaf], trees: TokenTreesView<'_>) -> bool
     ensures { IsTrue result ↔ IsUnitLike leaves.now (trees_of trees.entry) }
 {
-    unit_size(trees.iter()) == leaves.len() && are_leaves_like(leaves, trees.iter())
+    match leaves.first() {
+        Some(Leaf::Ident(_) | Leaf::Literal(_)) => leaves.len() == 1 && are_like(leaves, trees),
+        _ => are_like(leaves, trees) && size_of_first(trees) == leaves.len(),
+    }
 }
 
 // Returns the kind of the first tree, if it is a subtree.
@@ -81,6 +150,18 @@ fn one<'i>(position: usize, left: usize, mark: Option<Mark<'i>>) -> Moves<'i>
     })
 }
 
+// Returns that many trees at the front, or all if there are fewer.
+fn front<'i>(trees: TokenTreesView<'i>, count: usize) -> TokenTreesView<'i>
+    ensures { trees_of result ≡ front_trees count (trees_of trees.entry) }
+{
+    let mut rest = trees.iter();
+    let start = rest.savepoint();
+    for _ in 0..count {
+        rest.next_kind();
+    }
+    rest.from_savepoint(start)
+}
+
 // Returns the step of a variable.
 fn take_from<'i>(
     alloc: Global,
@@ -98,7 +179,7 @@ fn take_from<'i>(
     let Some(count) = taken_by(alloc, variable.fragment, trees)? else {
         return Ok(Moves::Nowhere);
     };
-    let view = take(&mut trees.iter(), count);
+    let view = front(trees, count);
     let to = positions.passed_to(count, number);
     Ok(one(to, behind, Some(Mark::Took(behind, view))))
 }

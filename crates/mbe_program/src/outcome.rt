@@ -100,7 +100,8 @@ fn answer_of<'i>(
     positions: &Positions<'i>,
     count: usize,
 ) -> Result<Answer<'i>, AllocError>
-    requires { AreInOrder (log_of search.now) }
+    requires in_order { AreInOrder (log_of search.now) }
+    requires some { (0 < search.now.width) × (0 < length search.now.cells.items) }
     ensures { IfOk result (λ answer. (program : List Step) → (input : Forest) → IsTableOf program input (table_of positions.now) → HaveAllGoneOn program (table_of positions.now) search.now → size input ≡ count → IsAnswer program input answer) }
 {
     let Some(last) = last_arrival(&search.log) else {

@@ -1,8 +1,8 @@
 //! Searches all ways of a program through an input. Each cell goes on once, and once more if another way leads there too.
-ghost use Rattle.std.specs.Prelude.{◌≡◌, ◌<◌, ◌≤◌, ◌*◌, ℕ, suc, IfOk, OnOk, length, ◌++◌, ◌∷◌, set, slice_index_or, []};
+ghost use Rattle.std.specs.Prelude.{◌≡◌, ◌<◌, ◌≤◌, ◌*◌, suc, IfOk, OnOk, length, ◌++◌, ◌∷◌, set, []};
 ghost use Rattle.mbe_program.specs.Moving.{instructions_of};
 ghost use Rattle.mbe_program.specs.Positions.{table_of};
-ghost use Rattle.mbe_program.specs.Searching.{filled, way_in, rows_of, log_of, coming_of, coming_by, IsRoomy, IsTable, HaveGoneOn, HaveAllGoneOn};
+ghost use Rattle.mbe_program.specs.Searching.{index_in, ways_of, log_of, coming_of, coming_by, HasCell, HasRows, AreAlike, IsRoomy, IsTable, HaveGoneOn, HaveAllGoneOn};
 ghost use Rattle.mbe_matcher.specs.Marks.{Note};
 ghost use Rattle.mbe_program.specs.Ways.{IsAdded, way_of};
 ghost use Rattle.mbe_program.specs.declared.search.Way.TheVariants as way;
@@ -36,10 +36,11 @@ pub(crate) struct Arrival<'i> {
     pub(crate) is_many: bool,
 }
 
-/// How many ways to each cell are known, in a row for each position, and all arrivals.
+/// How many ways to each cell are known, in a row of that width for each position, and all arrivals.
 #[derive(Drop)]
 pub(crate) struct Search<'i> {
-    pub(crate) rows: Vec<Vec<Way>>,
+    pub(crate) width: usize,
+    pub(crate) cells: Vec<Way>,
     pub(crate) log: Vec<Arrival<'i>>,
 }
 
@@ -50,77 +51,50 @@ fn way_of(is_many: bool) -> Way
     if is_many { Way::Often } else { Way::Once }
 }
 
-// Makes a row that long, if it is shorter.
-fn fill(row: &mut Vec<Way>, width: usize) -> Result<(), AllocError>
-    ensures { OnOk result (row.new.items ≡ filled width row.old.items) }
-{
-    if row.is_empty() {
-        *row = vec![in *row.allocator(); Way::Unseen; width]?;
-        return Ok(());
-    }
-    for _ in row.len()..width {
-        row.push(Way::Unseen)?;
-    }
-    Ok(())
-}
-
 impl<'i> Search<'i> {
+    // Returns the number of the cell.
+    fn index(&self, cell: Cell) -> usize
+        requires { HasCell self.now cell }
+        ensures { result ≡ index_in self.now.width cell }
+    {
+        cell.position * self.width + cell.left
+    }
+
     /// Returns how many ways to the cell are known.
     pub(crate) fn way(&self, cell: Cell) -> Way
-        ensures { result ≡ way_in (rows_of self.now) cell }
+        requires { HasCell self.now cell }
+        ensures { result ≡ ways_of self.now cell }
     {
-        let Some(row) = self.rows.get(cell.position) else {
-            return Way::Unseen;
-        };
-        match row.get(cell.left) {
-            Some(way) => *way,
-            None => Way::Unseen,
-        }
-    }
-
-    // Sets how many ways to the cell are known, in a row of that length.
-    fn set(&mut self, cell: Cell, width: usize, way: Way) -> Result<(), AllocError>
-        requires position { cell.position < length self.old.rows.items }
-        requires left { cell.left < width }
-        ensures rows { OnOk result (rows_of self.new ≡ set (rows_of self.old) cell.position (set (filled width (slice_index_or (rows_of self.old) cell.position [])) cell.left way)) }
-        ensures log { self.new.log ≡ self.old.log }
-    {
-        let row = &mut self.rows[cell.position];
-        fill(row, width)?;
-        row[cell.left] = way;
-        Ok(())
+        self.cells[self.index(cell)]
     }
 
     // Sets the ways to the arrival's cell, and logs the arrival.
-    fn put(&mut self, width: usize, arrival: Arrival<'i>) -> Result<(), AllocError>
-        requires position { arrival.cell.position < length self.old.rows.items }
-        requires left { arrival.cell.left < width }
-        ensures rows { OnOk result (rows_of self.new ≡ set (rows_of self.old) arrival.entry.cell.position (set (filled width (slice_index_or (rows_of self.old) arrival.entry.cell.position [])) arrival.entry.cell.left (way_of arrival.entry.is_many))) }
+    fn put(&mut self, arrival: Arrival<'i>) -> Result<(), AllocError>
+        requires { HasCell self.old arrival.cell }
+        ensures width { self.new.width ≡ self.old.width }
+        ensures cells { OnOk result (self.new.cells.items ≡ set self.old.cells.items (index_in self.old.width arrival.entry.cell) (way_of arrival.entry.is_many)) }
         ensures log { OnOk result (log_of self.new ≡ log_of self.old ++ coming_of arrival.entry ∷ []) }
     {
-        self.set(arrival.cell, width, way_of(arrival.is_many))?;
+        let index = self.index(arrival.cell);
+        self.cells[index] = way_of(arrival.is_many);
         self.log.push(arrival)?;
         Ok(())
     }
 
     // Adds an arrival, unless two ways to its cell are known already.
-    fn add(&mut self, width: usize, arrival: Arrival<'i>) -> Result<(), AllocError>
-        requires position { arrival.cell.position < length self.old.rows.items }
-        requires left { arrival.cell.left < width }
-        requires roomy { IsRoomy width self.old }
-        ensures added { OnOk result (IsAdded OneCell Note (coming_of arrival.entry) (way_in (rows_of self.old)) (log_of self.old) (way_in (rows_of self.new)) (log_of self.new)) }
-        ensures now_roomy { OnOk result (IsRoomy width self.new) }
-        ensures rows { OnOk result (length self.new.rows.items ≡ length self.old.rows.items) }
+    fn add(&mut self, arrival: Arrival<'i>) -> Result<(), AllocError>
+        requires cell { HasCell self.old arrival.cell }
+        requires roomy { IsRoomy self.old }
+        ensures added { OnOk result (IsAdded OneCell Note (coming_of arrival.entry) (ways_of self.old) (log_of self.old) (ways_of self.new) (log_of self.new)) }
+        ensures now_roomy { OnOk result (IsRoomy self.new) }
+        ensures alike { OnOk result (AreAlike self.new self.old) }
     {
         match self.way(arrival.cell) {
-            Way::Unseen => self.put(width, arrival),
-            Way::Once => self.put(
-                width,
-                Arrival {
-                    is_many: true,
-                    ..arrival
-                },
-            ),
+            Way::Unseen => self.put(arrival),
+            Way::Once => self.put(Arrival {
+                is_many: true,
+                ..arrival
+            }),
             Way::Often => Ok(()),
         }
     }
@@ -139,13 +113,12 @@ impl<'i> Search<'i> {
         ensures { OnOk result (HaveGoneOn (instructions_of program.now) (table_of positions.now) (suc number) self.new) }
     {
         let from = self.log[number];
-        let width = program.len() + 1;
         match moves_from(alloc, program, positions, from.cell)? {
             Moves::Nowhere => Ok(()),
-            Moves::One(step) => self.add(width, arrival_by(step, from, number)),
+            Moves::One(step) => self.add(arrival_by(step, from, number)),
             Moves::Two(one, other) => {
-                self.add(width, arrival_by(one, from, number))?;
-                self.add(width, arrival_by(other, from, number))
+                self.add(arrival_by(one, from, number))?;
+                self.add(arrival_by(other, from, number))
             }
         }
     }
@@ -164,18 +137,19 @@ fn arrival_by<'i>(step: Move<'i>, from: Arrival<'i>, number: usize) -> Arrival<'
     }
 }
 
-// Returns a search in which no way is known, with that many rows.
-fn empty<'i>(alloc: Global, count: usize) -> Result<Search<'i>, AllocError>
-    ensures rows { IfOk result (λ search. (length search.rows.items ≡ count) × ((it : OneCell) → way_in (rows_of search) it ≡ way.Unseen)) }
-    ensures roomy { IfOk result (λ search. (width : ℕ) → IsRoomy width search) }
+// Returns a search in which no way is known, with so many rows of that width. Fails only if memory runs out, and so where there are more
+// cells than a `usize` counts.
+fn empty<'i>(alloc: Global, count: usize, width: usize) -> Result<Search<'i>, AllocError>
+    ensures rows { IfOk result (HasRows count width) }
+    ensures none { IfOk result (λ search. (it : OneCell) → ways_of search it ≡ way.Unseen) }
     ensures log { IfOk result (λ search. search.log.items ≡ []) }
 {
-    let mut rows = Vec::new(alloc);
-    for _ in 0..count {
-        rows.push(Vec::new(alloc))?;
-    }
+    let Some(size) = count.checked_mul(width) else {
+        return Err(AllocError);
+    };
     Ok(Search {
-        rows,
+        width,
+        cells: vec![in alloc; Way::Unseen; size]?,
         log: Vec::new(alloc),
     })
 }
@@ -189,18 +163,17 @@ fn begin<'i>(
     requires { IsTable (instructions_of program.now) (table_of positions.now) }
     ensures { IfOk result (HaveGoneOn (instructions_of program.now) (table_of positions.now) 0) }
 {
-    let mut search = empty(alloc, positions.all.len())?;
+    let mut search = empty(alloc, positions.all.len(), program.len() + 1)?;
     let cell = Cell {
         position: 1,
         left: program.len(),
     };
-    let first = Arrival {
+    search.add(Arrival {
         cell,
         before: 0,
         mark: None,
         is_many: false,
-    };
-    search.add(program.len() + 1, first)?;
+    })?;
     Ok(search)
 }
 

@@ -31,7 +31,7 @@ marks_to-requires c =
     let same : c.deref.result.now ≡ c.deref-in-Unseen.result.now = c.deref.ensures.value ∙ sym c.deref-in-Unseen.ensures.value in
     record {
       within = subst (λ log. c.in-Some.last < length log) same c.in-Some.ensures.0;
-      in_order = λ k it there. c.requires k it (subst (λ log. IsAt Cell Note (map coming_of log) k it) c.deref-in-Unseen.ensures.value there);
+      in_order = λ k it there. c.requires.in_order k it (subst (λ log. IsAt Cell Note (map coming_of log) k it) c.deref-in-Unseen.ensures.value there);
     }
 
 pub returns-in_err-marks_to-in-Unseen : goal.returns-in_err-marks_to-in-Unseen

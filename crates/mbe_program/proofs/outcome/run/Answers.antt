@@ -15,8 +15,8 @@ search_all-requires c = (rest_of c.args.input, c.in_ok-positions.ensures.table)
 pub returns-in_err-search : goal.returns-in_err-search
 returns-in_err-search c = let fault = err_from_is_err_and c.from_residual-in_err-search.result c.from_residual-in_err-search.ensures.1 in if_err _ c.from_residual-in_err-search.result fault.0 fault.1
 
-pub answer_of-requires : goal.answer_of-requires
-answer_of-requires c = λ k it there. (c.in_ok-search.ensures.all.kept.source k it there).3
+pub answer_of-requires-clause-in_order : goal.answer_of-requires-clause-in_order
+answer_of-requires-clause-in_order c = λ k it there. (c.in_ok-search.ensures.all.kept.source k it there).3
 
 pub returns : goal.returns
 returns c =

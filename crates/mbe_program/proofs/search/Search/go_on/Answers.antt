@@ -1,9 +1,10 @@
-use Rattle.std.proofs.Common.{◌<◌, sym, subst, arith}
+use Rattle.std.proofs.Common.{subst, arith}
 use Rattle.std.proofs.lemmas.Result.{err_from_is_err_and}
 use Rattle.mbe_program.specs.Moving.{AreMoves, instructions_of}
 use Rattle.mbe_program.specs.Positions.{table_of}
 use Rattle.mbe_program.specs.declared.moves.Moves.TheVariants as moves
-use Rattle.mbe_program.proofs.GoingOn.{from_within, old_roomy, next_within, on_nowhere, on_one, on_two}
+use Rattle.mbe_program.proofs.GoingOn.{from_within, next_within, on_nowhere, on_one, on_two}
+use Rattle.mbe_program.proofs.Indices.{has_cell_too}
 use Rattle.mbe_program.proofs.Results.{on_err, on_three}
 use Rattle.mbe_program.proofs.search.Search.go_on.Goals as goal
 
@@ -20,44 +21,28 @@ returns-in_err-moves_from c = let fault = err_from_is_err_and c.from_residual.re
 pub arrival_by-requires : goal.arrival_by-requires
 arrival_by-requires c = omega (arith, c.requires.number, c.args.self.now.log.ok.0, c.args.self.now.log.small)
 
-pub add-requires-clause-position : goal.add-requires-clause-position
-add-requires-clause-position c =
+pub add-requires-clause-cell : goal.add-requires-clause-cell
+add-requires-clause-cell c =
     let are : AreMoves (instructions_of c.args.program.now) (table_of c.args.positions.now) c.index-from.result.now.cell (moves.One c.in-One.step) =
     subst (AreMoves (instructions_of c.args.program.now) (table_of c.args.positions.now) c.index-from.result.now.cell) c.in-One.is c.in_ok-moves_from.ensures in
-    (next_within c.args.program.now (table_of c.args.positions.now) c.args.number c.args.self.now c.index-from.result.now c.requires.table c.requires.gone_on c.requires.number c.index-from.ensures
-    c.in-One.step c.arrival_by.result c.arrival_by.ensures are.0).0
-
-pub add-requires-clause-left : goal.add-requires-clause-left
-add-requires-clause-left c =
-    let are : AreMoves (instructions_of c.args.program.now) (table_of c.args.positions.now) c.index-from.result.now.cell (moves.One c.in-One.step) =
-    subst (AreMoves (instructions_of c.args.program.now) (table_of c.args.positions.now) c.index-from.result.now.cell) c.in-One.is c.in_ok-moves_from.ensures in
-    (next_within c.args.program.now (table_of c.args.positions.now) c.args.number c.args.self.now c.index-from.result.now c.requires.table c.requires.gone_on c.requires.number c.index-from.ensures
-    c.in-One.step c.arrival_by.result c.arrival_by.ensures are.0).1
+    next_within c.args.program.now (table_of c.args.positions.now) c.args.number c.args.self.now c.index-from.result.now c.requires.table c.requires.gone_on c.requires.number c.index-from.ensures
+    c.in-One.step c.arrival_by.result c.arrival_by.ensures are.0
 
 pub add-requires-clause-roomy : goal.add-requires-clause-roomy
-add-requires-clause-roomy c =
-    old_roomy c.args.program.now (table_of c.args.positions.now) c.args.number c.args.self.now c.index-from.result.now c.requires.table c.requires.gone_on c.requires.number c.index-from.ensures
+add-requires-clause-roomy c = c.requires.gone_on.roomy
 
 pub arrival_by-requires-in-Two : goal.arrival_by-requires-in-Two
 arrival_by-requires-in-Two c = omega (arith, c.requires.number, c.args.self.now.log.ok.0, c.args.self.now.log.small)
 
-pub add-requires-in-Two-clause-position : goal.add-requires-in-Two-clause-position
-add-requires-in-Two-clause-position c =
+pub add-requires-in-Two-clause-cell : goal.add-requires-in-Two-clause-cell
+add-requires-in-Two-clause-cell c =
     let are : AreMoves (instructions_of c.args.program.now) (table_of c.args.positions.now) c.index-from.result.now.cell (moves.Two c.in-Two.one c.in-Two.other) =
     subst (AreMoves (instructions_of c.args.program.now) (table_of c.args.positions.now) c.index-from.result.now.cell) c.in-Two.is c.in_ok-moves_from.ensures in
-    (next_within c.args.program.now (table_of c.args.positions.now) c.args.number c.args.self.now c.index-from.result.now c.requires.table c.requires.gone_on c.requires.number c.index-from.ensures
-    c.in-Two.one c.arrival_by-in-Two.result c.arrival_by-in-Two.ensures are.0).0
-
-pub add-requires-in-Two-clause-left : goal.add-requires-in-Two-clause-left
-add-requires-in-Two-clause-left c =
-    let are : AreMoves (instructions_of c.args.program.now) (table_of c.args.positions.now) c.index-from.result.now.cell (moves.Two c.in-Two.one c.in-Two.other) =
-    subst (AreMoves (instructions_of c.args.program.now) (table_of c.args.positions.now) c.index-from.result.now.cell) c.in-Two.is c.in_ok-moves_from.ensures in
-    (next_within c.args.program.now (table_of c.args.positions.now) c.args.number c.args.self.now c.index-from.result.now c.requires.table c.requires.gone_on c.requires.number c.index-from.ensures
-    c.in-Two.one c.arrival_by-in-Two.result c.arrival_by-in-Two.ensures are.0).1
+    next_within c.args.program.now (table_of c.args.positions.now) c.args.number c.args.self.now c.index-from.result.now c.requires.table c.requires.gone_on c.requires.number c.index-from.ensures
+    c.in-Two.one c.arrival_by-in-Two.result c.arrival_by-in-Two.ensures are.0
 
 pub add-requires-in-Two-clause-roomy : goal.add-requires-in-Two-clause-roomy
-add-requires-in-Two-clause-roomy c =
-    old_roomy c.args.program.now (table_of c.args.positions.now) c.args.number c.args.self.now c.index-from.result.now c.requires.table c.requires.gone_on c.requires.number c.index-from.ensures
+add-requires-in-Two-clause-roomy c = c.requires.gone_on.roomy
 
 pub returns-in_err-add-in-Two : goal.returns-in_err-add-in-Two
 returns-in_err-add-in-Two c =
@@ -66,22 +51,14 @@ returns-in_err-add-in-Two c =
 pub arrival_by-requires-in-Two-2 : goal.arrival_by-requires-in-Two-2
 arrival_by-requires-in-Two-2 c = omega (arith, c.requires.number, c.args.self.now.log.ok.0, c.args.self.now.log.small)
 
-pub add-requires-in-Two-2-clause-position : goal.add-requires-in-Two-2-clause-position
-add-requires-in-Two-2-clause-position c =
+pub add-requires-in-Two-2-clause-cell : goal.add-requires-in-Two-2-clause-cell
+add-requires-in-Two-2-clause-cell c =
     let are : AreMoves (instructions_of c.args.program.now) (table_of c.args.positions.now) c.index-from.result.now.cell (moves.Two c.in-Two.one c.in-Two.other) =
     subst (AreMoves (instructions_of c.args.program.now) (table_of c.args.positions.now) c.index-from.result.now.cell) c.in-Two.is c.in_ok-moves_from.ensures in
     let within =
-    (next_within c.args.program.now (table_of c.args.positions.now) c.args.number c.args.self.now c.index-from.result.now c.requires.table c.requires.gone_on c.requires.number c.index-from.ensures
-    c.in-Two.other c.arrival_by-in-Two-2.result c.arrival_by-in-Two-2.ensures are.1).0 in
-    let rows = c.in_ok-add-in-Two.ensures.rows in
-    subst (λ n. c.arrival_by-in-Two-2.result.cell.position < n) (sym rows) within
-
-pub add-requires-in-Two-2-clause-left : goal.add-requires-in-Two-2-clause-left
-add-requires-in-Two-2-clause-left c =
-    let are : AreMoves (instructions_of c.args.program.now) (table_of c.args.positions.now) c.index-from.result.now.cell (moves.Two c.in-Two.one c.in-Two.other) =
-    subst (AreMoves (instructions_of c.args.program.now) (table_of c.args.positions.now) c.index-from.result.now.cell) c.in-Two.is c.in_ok-moves_from.ensures in
-    (next_within c.args.program.now (table_of c.args.positions.now) c.args.number c.args.self.now c.index-from.result.now c.requires.table c.requires.gone_on c.requires.number c.index-from.ensures
-    c.in-Two.other c.arrival_by-in-Two-2.result c.arrival_by-in-Two-2.ensures are.1).1
+    next_within c.args.program.now (table_of c.args.positions.now) c.args.number c.args.self.now c.index-from.result.now c.requires.table c.requires.gone_on c.requires.number c.index-from.ensures
+    c.in-Two.other c.arrival_by-in-Two-2.result c.arrival_by-in-Two-2.ensures are.1 in
+    has_cell_too c.add-in-Two.new.self c.args.self.now c.arrival_by-in-Two-2.result.cell c.in_ok-add-in-Two.ensures.alike within
 
 pub add-requires-in-Two-2-clause-roomy : goal.add-requires-in-Two-2-clause-roomy
 add-requires-in-Two-2-clause-roomy c = c.in_ok-add-in-Two.ensures.now_roomy
@@ -97,10 +74,10 @@ returns-in-One c =
     let are : AreMoves (instructions_of c.args.program.now) (table_of c.args.positions.now) c.index-from.result.now.cell (moves.One c.in-One.step) =
     subst (AreMoves (instructions_of c.args.program.now) (table_of c.args.positions.now) c.index-from.result.now.cell) c.in-One.is c.in_ok-moves_from.ensures in
     on_three c.add.result
-    (λ added roomy rows.
+    (λ added roomy alike.
     on_one c.args.program.now (table_of c.args.positions.now) c.args.number c.args.self.now c.index-from.result.now c.requires.table c.requires.gone_on c.requires.number c.index-from.ensures
-    c.add.new.self c.in-One.step c.arrival_by.result are c.arrival_by.ensures (added, roomy, rows))
-    c.add.ensures.added c.add.ensures.now_roomy c.add.ensures.rows
+    c.add.new.self c.in-One.step c.arrival_by.result are c.arrival_by.ensures (added, roomy, alike))
+    c.add.ensures.added c.add.ensures.now_roomy c.add.ensures.alike
 
 pub returns-in_ok-add-in-Two : goal.returns-in_ok-add-in-Two
 returns-in_ok-add-in-Two c =
@@ -108,8 +85,8 @@ returns-in_ok-add-in-Two c =
     subst (AreMoves (instructions_of c.args.program.now) (table_of c.args.positions.now) c.index-from.result.now.cell) c.in-Two.is c.in_ok-moves_from.ensures in
     let first = c.in_ok-add-in-Two.ensures in
     on_three c.add-in-Two-2.result
-    (λ added roomy rows.
+    (λ added roomy alike.
     on_two c.args.program.now (table_of c.args.positions.now) c.args.number c.args.self.now c.index-from.result.now c.requires.table c.requires.gone_on c.requires.number c.index-from.ensures
     c.add-in-Two.new.self c.add-in-Two-2.new.self c.in-Two.one c.in-Two.other c.arrival_by-in-Two.result c.arrival_by-in-Two-2.result are c.arrival_by-in-Two.ensures c.arrival_by-in-Two-2.ensures
-    (first.added, first.now_roomy, first.rows) (added, roomy, rows))
-    c.add-in-Two-2.ensures.added c.add-in-Two-2.ensures.now_roomy c.add-in-Two-2.ensures.rows
+    (first.added, first.now_roomy, first.alike) (added, roomy, alike))
+    c.add-in-Two-2.ensures.added c.add-in-Two-2.ensures.now_roomy c.add-in-Two-2.ensures.alike
