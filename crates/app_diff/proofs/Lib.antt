@@ -1,0 +1,2 @@
+-- Proofs about texts that differ.
+mod Kept

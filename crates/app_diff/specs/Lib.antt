@@ -1,0 +1,2 @@
+-- How two texts differ.
+pub mod Hunks
