@@ -8,11 +8,11 @@ file beside the example, or follows from how the text was made. It prints a line
 import pathlib
 import re
 import resource
-import signal
 import subprocess
 import sys
 import tempfile
 
+import changed_files
 import macro_files
 from program_files import SECONDS, Files, Wrong, wants
 
@@ -156,62 +156,6 @@ def try_bad_pieces(files):
             raise Wrong(f"the diagnostic of a piece that was cut is: {told[:200]}")
 
 
-# ---- files that are written
-
-def new_files(files):
-    """The names of new files that a run left behind."""
-    return [path.name for path in files.room.iterdir() if ".new" in path.name]
-
-
-def try_limited(files):
-    """A file that may have only ten bytes cannot be written whole: it stays as it was."""
-    def limits():
-        signal.signal(signal.SIGXFSZ, signal.SIG_IGN)
-        resource.setrlimit(resource.RLIMIT_FSIZE, (10, 10))
-    out = files.made("kept", b"kept")
-    done = subprocess.run([files.program, "pack", "-", "-o", out], input=b"fn main() {}", capture_output=True,
-                          timeout=SECONDS, check=False, preexec_fn=limits)
-    told = f"error: couldn't write {out}: File too large (os error 27)\n".encode()
-    wants("the run", (done.returncode, done.stdout, done.stderr), (1, b"", told))
-    wants("the file", pathlib.Path(out).read_bytes(), b"kept")
-    wants("what is beside it", new_files(files), [])
-
-
-def try_own_input(files):
-    """The program does not write over its own input, whatever path leads there."""
-    name = files.made("own.rs", b"fn main() {}")
-    link = files.room / "own_link"
-    link.symlink_to(name)
-    for out in (name, str(files.room / "." / "own.rs"), str(link)):
-        files.tells(f"error: {out}: this is the input, so it is not written\n", "pack", name, "-o", out)
-    wants("the file", pathlib.Path(name).read_bytes(), b"fn main() {}")
-
-
-def try_replaced(files):
-    """A link stays; its target is replaced and keeps its permissions. A file of an earlier run stays too."""
-    piece = files.room / "piece"
-    files.gives(b"", "pack", "-", "-o", str(piece), given=b"fn main() {}")
-    target = pathlib.Path(files.made("target", b"old"))
-    target.chmod(0o640)
-    link = files.room / "target_link"
-    link.symlink_to(target)
-    earlier = pathlib.Path(files.made("target.new0", b"earlier"))
-    files.gives(b"", "pack", "-", "-o", str(link), given=b"fn main() {}")
-    wants("the link", link.is_symlink(), True)
-    wants("the target", target.read_bytes(), piece.read_bytes())
-    wants("its permissions", target.stat().st_mode & 0o777, 0o640)
-    wants("the earlier file", earlier.read_bytes(), b"earlier")
-    earlier.unlink()
-    wants("what is beside it", new_files(files), [])
-
-
-def try_device(files):
-    """The program writes to a pipe as it is."""
-    piece = files.room / "piece"
-    files.gives(b"", "pack", "-", "-o", str(piece), given=b"fn main() {}")
-    files.gives(piece.read_bytes(), "pack", "-", "-o", "/dev/stdout", given=b"fn main() {}")
-
-
 # ---- arguments and pipes
 
 def try_help(files):
@@ -239,7 +183,7 @@ def try_mistakes(files):
     files.mistake("frobnicate")
     files.mistake("tokens", "--no-such")
     files.mistake("tree", "a", "b")
-    files.mistake("expand", "a", "b")
+    files.mistake("expand", "--write", "--diff", "a")
     files.mistake("check")
     files.mistake("check", "--one-line", "a")
     files.mistake("pack", "-")
@@ -353,9 +297,9 @@ def tried(files):
     """Each thing that is tried, by its name."""
     yield from tried_examples(files)
     yield from macro_files.tried(files, EXAMPLES)
+    yield from changed_files.tried(files, EXAMPLES)
     for try_one in (
-        try_missing, try_folder, try_unreadable, try_empty, try_no_utf8, try_mark, try_faults, try_bad_pieces, try_limited,
-        try_own_input, try_replaced, try_device, try_help, try_version, try_mistakes, try_closed_pipe, try_deep, try_deep_tree,
+        try_missing, try_folder, try_unreadable, try_empty, try_no_utf8, try_mark, try_faults, try_bad_pieces, try_help, try_version, try_mistakes, try_closed_pipe, try_deep, try_deep_tree,
         try_doublings, try_product, try_long,
     ):
         yield try_one.__name__.removeprefix("try_").replace("_", " "), lambda try_one=try_one: try_one(files)

@@ -28,6 +28,10 @@ const DROP_RULES: &str = "drop-rules";
 
 const DROP_EXPORTED: &str = "drop-exported";
 
+const DIFF: &str = "diff";
+
+const WRITE: &str = "write";
+
 const SYNTAX: &str = "syntax";
 
 /// The largest limit that the options allow for nested expansions.
@@ -138,8 +142,19 @@ fn expand<'a>(alloc: Global) -> Result<Command<'a>, AllocError> {
         .long(ONE_LINE)
         .action(ArgAction::SetTrue)
         .help("Writes what a call becomes on one line, with a space between all tokens");
+    let diff = Arg::new(alloc, DIFF)
+        .long(DIFF)
+        .action(ArgAction::SetTrue)
+        .help("Writes how the files would change, as diff -u does");
+    let write = Arg::new(alloc, WRITE)
+        .long(WRITE)
+        .action(ArgAction::SetTrue)
+        .conflicts_with(DIFF)?
+        .help("Writes the files anew, all of them or none");
     let about = "Writes the text in which calls of its own macros are expanded";
-    expands(alloc, "expand", about, file(alloc))?
+    expands(alloc, "expand", about, files(alloc).required(false))?
+        .arg(diff)?
+        .arg(write)?
         .arg(one_line)?
         .arg(drops)?
         .arg(drops_exported)
@@ -234,6 +249,16 @@ pub fn drops_of(matches: &ArgMatches<'_>) -> Drops {
     } else {
         Drops::Unexported
     }
+}
+
+/// Returns whether the files are not written, but how they would change.
+pub fn is_diff(matches: &ArgMatches<'_>) -> bool {
+    matches.get_flag(DIFF)
+}
+
+/// Returns whether the files are written anew.
+pub fn is_write(matches: &ArgMatches<'_>) -> bool {
+    matches.get_flag(WRITE)
 }
 
 /// Returns whether the derivation is written.

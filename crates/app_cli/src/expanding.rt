@@ -18,15 +18,19 @@ use tt::TokenTreesView;
 
 const BYTE_ORDER_MARK: &str = "\u{feff}";
 
-// The expansion of a text, and its number of errors and warnings.
+/// The expansion of an input, and its number of errors and warnings.
 #[derive(Drop)]
-struct Outcome {
+pub struct Outcome {
+    /// The bytes of the input.
+    pub source: Vec<u8>,
+    // the expanded text, unless there is an error
     output: Option<String>,
     // whether the text begins with a byte order mark
     has_mark: bool,
     // the first line, which the output has as spaces, if it names a program
     shebang: String,
-    counts: Counts,
+    /// The number of errors and warnings.
+    pub counts: Counts,
 }
 
 // Returns the failure of a text of that name that cannot be expanded.
@@ -127,22 +131,32 @@ fn expanded(
         Counts::NONE
     };
     let _ = eprint!(rt; "{diagnostics}");
+    let has_mark = text.len() < bytes.len();
+    let shebang = String::from_str(rt.alloc(), shebang_of(text))?;
     Ok(Outcome {
+        source: bytes,
         output,
-        has_mark: text.len() < bytes.len(),
-        shebang: String::from_str(rt.alloc(), shebang_of(text))?,
+        has_mark,
+        shebang,
         counts: refused.plus(counts),
     })
 }
 
-// The same. An input that cannot be read or has no tree counts as one error.
-fn outcome_of(rt: &HostRuntime, input: Input<'_>, options: Options<'_>, checks: bool) -> Outcome {
+/// Reports the findings in the text of an input, after what the compiler refuses if `checks`, and returns its expansion. An input that cannot
+/// be read or has no tree counts as one error.
+pub fn outcome_of(
+    rt: &HostRuntime,
+    input: Input<'_>,
+    options: Options<'_>,
+    checks: bool,
+) -> Outcome {
     match expanded(rt, input, options, checks) {
         Ok(outcome) => outcome,
         Err(failure) => {
             failure.report_on(rt, input.name());
             let _ = eprintln!(rt; "");
             Outcome {
+                source: Vec::new(rt.alloc()),
                 output: None,
                 has_mark: false,
                 shebang: String::new(rt.alloc()),
@@ -152,24 +166,24 @@ fn outcome_of(rt: &HostRuntime, input: Input<'_>, options: Options<'_>, checks: 
     }
 }
 
-// Reports the number of errors and warnings.
-fn write_summary(rt: &HostRuntime, counts: Counts) -> Result<(), Failure> {
+/// Reports the number of errors and warnings.
+pub fn write_summary(rt: &HostRuntime, counts: Counts) -> Result<(), Failure> {
     let text = summary(rt.alloc(), style_of(rt), counts)?;
     let _ = eprint!(rt; "{text}");
     Ok(())
 }
 
 // Writes a text, behind a byte order mark if the source had one, with the first line of the source in place of as many bytes.
-fn write(rt: &HostRuntime, has_mark: bool, shebang: &str, text: &str) -> io::Result<()> {
+fn write<W: Write>(out: &mut W, has_mark: bool, shebang: &str, text: &str) -> io::Result<()> {
     if has_mark {
-        rt.stdout().write_all(BYTE_ORDER_MARK.as_bytes())?;
+        out.write_all(BYTE_ORDER_MARK.as_bytes())?;
     }
-    rt.stdout().write_all(shebang.as_bytes())?;
+    out.write_all(shebang.as_bytes())?;
     let rest = match text.split_at_checked(shebang.len()) {
         Some((_, rest)) => rest,
         None => text,
     };
-    rt.stdout().write_all(rest.as_bytes())
+    out.write_all(rest.as_bytes())
 }
 
 // Reports on standard error that the expanded text of that name defines no macro `only`, or has calls of it left.
@@ -187,6 +201,37 @@ fn note_mentions(rt: &HostRuntime, name: &str, text: &str, only: &str, everywher
     }
 }
 
+/// Writes the expanded text of an input of that name, without the definitions that are to be dropped, and reports which calls of the only macro
+/// it has left. Writes nothing if the text has an error.
+pub fn write_output<W: Write>(
+    rt: &HostRuntime,
+    out: &mut W,
+    name: &str,
+    outcome: Outcome,
+    options: Options<'_>,
+    drops: Drops,
+) -> Result<(), Failure> {
+    let Some(text) = outcome.output else {
+        return Ok(());
+    };
+    let only = options.only;
+    if let Some(only) = only {
+        note_mentions(rt, name, text.as_str(), only, options.everywhere);
+    }
+    let text = match drops {
+        Drops::Nothing => text,
+        Drops::Unexported => without_definitions(rt, name, text.as_str(), only, false)?,
+        Drops::Unneeded => without_definitions(rt, name, text.as_str(), only, true)?,
+    };
+    write(
+        out,
+        outcome.has_mark,
+        outcome.shebang.as_str(),
+        text.as_str(),
+    )?;
+    Ok(())
+}
+
 /// Writes the text of an input in which calls are expanded, without the definitions that are to be dropped. If the text has an error, it
 /// writes nothing.
 pub fn expand(
@@ -195,27 +240,10 @@ pub fn expand(
     options: Options<'_>,
     drops: Drops,
 ) -> Result<ExitCode, Failure> {
-    let name = input.name();
-    let only = options.only;
-    let everywhere = options.everywhere;
-    let Outcome {
-        output,
-        has_mark,
-        shebang,
-        counts,
-    } = outcome_of(rt, input, options, false);
+    let outcome = outcome_of(rt, input, options, false);
+    let counts = outcome.counts;
     write_summary(rt, counts)?;
-    if let Some(text) = output {
-        if let Some(only) = only {
-            note_mentions(rt, name, text.as_str(), only, everywhere);
-        }
-        let text = match drops {
-            Drops::Nothing => text,
-            Drops::Unexported => without_definitions(rt, name, text.as_str(), only, false)?,
-            Drops::Unneeded => without_definitions(rt, name, text.as_str(), only, true)?,
-        };
-        write(rt, has_mark, shebang.as_str(), text.as_str())?;
-    }
+    write_output(rt, &mut rt.stdout(), input.name(), outcome, options, drops)?;
     Ok(counts.status())
 }
 

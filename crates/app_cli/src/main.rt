@@ -1,9 +1,10 @@
 //! The program `cuvolemin`, for people who write Rust: it expands the macros of a text, reports its errors, writes its tokens,
-//! its tree or its derivation, and writes a tree as one piece of bytes.
+//! its tree or its derivation, writes files anew, and writes a tree as one piece of bytes.
 #![tactic(auto)]
 
 mod arguments;
 mod cfg_options;
+mod changing;
 mod counts;
 mod diagnostics;
 mod dropping;

@@ -1,6 +1,9 @@
 //! The commands of the program.
-use crate::arguments::{drops_of, file_of, files_of, out_of, parse, shows_syntax};
+use crate::arguments::{
+    drops_of, file_of, files_of, is_diff, is_write, out_of, parse, shows_syntax,
+};
 use crate::cfg_options::cfg_options_of;
+use crate::changing::{write_diffs, write_files};
 use crate::expanding::{check, expand};
 use crate::options::Options;
 use crate::packing::{pack, unpack};
@@ -35,11 +38,7 @@ fn run_command(rt: &HostRuntime, matches: &ArgMatches<'_>) -> Result<ExitCode, F
         return Ok(ExitCode::SUCCESS);
     };
     match name {
-        "expand" => {
-            let input = Input::new(file_of(given));
-            let cfg = cfg_options_of(rt, given)?;
-            expand(rt, input, Options::of(rt, given, &cfg)?, drops_of(given))
-        }
+        "expand" => expand_files(rt, given),
         "check" => match files_of(given) {
             Some(names) => {
                 let cfg = cfg_options_of(rt, given)?;
@@ -53,6 +52,24 @@ fn run_command(rt: &HostRuntime, matches: &ArgMatches<'_>) -> Result<ExitCode, F
             run_on_file(rt, name, given)?;
             Ok(ExitCode::SUCCESS)
         }
+    }
+}
+
+// Expands the macros of files, or of standard input if there are none.
+fn expand_files(rt: &HostRuntime, given: &ArgMatches<'_>) -> Result<ExitCode, Failure> {
+    let names = files_of(given).unwrap_or(&["-"]);
+    let cfg = cfg_options_of(rt, given)?;
+    let options = Options::of(rt, given, &cfg)?;
+    let drops = drops_of(given);
+    if is_write(given) {
+        return write_files(rt, names, options, drops);
+    }
+    if is_diff(given) {
+        return write_diffs(rt, names, options, drops);
+    }
+    match names {
+        [name] => expand(rt, Input::new(Some(name)), options, drops),
+        _ => Err(Failure::usage(rt, "several files want --write or --diff")),
     }
 }
 

@@ -1,2 +1,3 @@
 -- Proofs about texts that differ.
 mod Kept
+mod Rows

@@ -1,7 +1,7 @@
 //! What the program `cuvolemin` does with files besides expanding: it reads them, writes their tokens, their tree or their derivation as
 //! lines, and reports their errors of syntax.
 //!
-//! A `Failure` is why a command ends. `Input` is the file that a command reads, or standard input; `write_whole` replaces a file as a whole.
+//! A `Failure` is why a command ends. `Input` is the file that a command reads, or standard input; `write_whole` replaces a file as a whole, `Staged` several.
 //! `tree_of` reads a text into its tree. `write_tokens`, `write_tree` and `write_syntax` write lines; `syntax_failure` and `grammar_failure`
 //! word errors. `recursion_limit_of`, `shebang_of` and `Mentions` say what else is in a text that is expanded.
 #![tactic(auto)]
@@ -34,4 +34,4 @@ pub use syntax_error::{error_text_at, syntax_failure};
 pub use syntax_lines::write_syntax;
 pub use token_lines::write_tokens;
 pub use tree_lines::{tree_of, write_tree};
-pub use whole_file::{is_same_file, write_whole};
+pub use whole_file::{Staged, is_same_file, write_whole};

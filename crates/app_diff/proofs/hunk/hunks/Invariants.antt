@@ -1,4 +1,4 @@
-use Rattle.std.proofs.Common.{◌≡◌, ◌≤◌, ◌+◌, ◌-◌, ◌++◌, List, length, map, drop}
+use Rattle.std.proofs.Common.{◌≤◌, ◌+◌, ◌-◌, ◌++◌, List, length, map, drop}
 use Rattle.app_diff.specs.Hunks.{AreHunks, start}
 use Rattle.app_diff.specs.declared.hunk.Hunk.{Hunk}
 use Rattle.app_diff.proofs.hunk.hunks.Given as goal

@@ -1,4 +1,4 @@
-use Rattle.std.proofs.Common.{◌≡◌, ◌+◌, ◌<◌, [], length, arith, sym, ◌∙◌}
+use Rattle.std.proofs.Common.{[], arith, sym, ◌∙◌}
 use Rattle.app_diff.proofs.Kept.{same_more}
 use Rattle.app_diff.proofs.hunk.same_len.Goals as goal
 
