@@ -22,7 +22,6 @@ BATCH = 400
 # What rustc says if the program says that.
 SAME = [("no match", ["no rules expected", "unexpected end"]), ("lengths", ["repeats"]), ("no round", ["must repeat at least once"])]
 AMBIGUITY = "rustc: local ambiguity, where the program goes on"
-MINUS = "rustc: `-` and a literal that is no number"
 LESS_FAR = "rustc: an arm that comes less far, where another takes a subtree by `tt`"
 NO_LITERAL = "rustc: an error of its own at a `-` without a literal"
 
@@ -97,20 +96,13 @@ def answers(rustc, room, made):
     sys.exit("rustc finds something wrong each time")
 
 
-# Whether an arm may take `-` and a literal that is no number as one, as rustc does.
-def is_minus(arms, given):
-    return "literal" in arms and re.search(r'- (true|")', given) is not None
-
-
 # How the two compare.
-def kind(arms, given, wanted, got):
+def kind(arms, wanted, got):
     if got[0] == "tree":
         printed = re.sub(r"[\s)\]}]", "", got[1])
         words = [word for word in wanted.split(" ") if not re.fullmatch(r"<\d+", word)]
         shown = "".join(word[0] if re.fullmatch(r"[(\[{]\d+", word) else word for word in words)
-        if printed == shown:
-            return "agree: tree"
-        return MINUS if is_minus(arms, given) else "DIFFERS"
+        return "agree: tree" if printed == shown else "DIFFERS"
     why = got[1]
     if "ambiguity" in why:
         return "agree: ambiguous" if wanted.startswith("ambiguous") else AMBIGUITY
@@ -120,10 +112,8 @@ def kind(arms, given, wanted, got):
         if wanted.startswith(begins) and any(word in why for word in words):
             if begins != "no match" or wanted == f"no match {got[2]}":
                 return "agree: " + begins
-            if is_minus(arms, given):
-                return MINUS
             return LESS_FAR if ":tt" in arms and int(wanted.split(" ")[2]) > got[2] else f"DIFFERS: no match {got[2]}"
-    return MINUS if is_minus(arms, given) else "rustc: " + why
+    return "rustc: " + why
 
 
 def main():
@@ -146,9 +136,9 @@ def main():
         with tempfile.TemporaryDirectory() as room:
             said = answers(asked.rustc, Path(room), made)
         for seed, (arms, given, wanted) in made.items():
-            how = kind(arms, given, wanted, said[seed])
+            how = kind(arms, wanted, said[seed])
             counts[how] += 1
-            if not how.startswith("agree") and how not in (AMBIGUITY, MINUS, NO_LITERAL, LESS_FAR):
+            if not how.startswith("agree") and how not in (AMBIGUITY, NO_LITERAL, LESS_FAR):
                 print(f"{seed}: {how}: {arms!r} on {given!r}: {wanted!r}, rustc {said[seed][1]!r}")
     for how, count in sorted(counts.items()):
         print(f"{count} {how}")

@@ -18,6 +18,16 @@ WORDS = (
 # Macros and inputs in which one thing matters that seldom comes by chance.
 MACROS = (
     ("($_:tt $_:tt) => {$_}", "a b"),
+    ("($_:tt $x:tt) => {$_ $x}", "a b"),
+    ("($(a)$*) => {$(b)*}", "a $ a"),
+    ("($($x:tt)$+) => {[$($x)$*]}", "a $ b"),
+    ("(a $) => {b $}", "a $"),
+    ("([$] $x:tt) => {$x}", "[$] a"),
+    ("($$) => {}", "$"),
+    ("($x:literal) => {$x}; ($x:tt) => {b}", "r#true"),
+    ("($x:literal) => {$x}", "- false"),
+    ("($v:vis) => {a}; ($($x:tt)*) => {b}", ""),
+    ("([$v:vis] a) => {a}; ($($x:tt)*) => {b}", "[] a"),
     ("($(a)*=*) => {b}", "a *= a"),
     ("($crate:tt) => {$crate}", "$crate:tt"),
     ("($r#x:tt) => {$x $r#x}", "a"),

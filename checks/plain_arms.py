@@ -12,7 +12,6 @@ MOST_UNITS = 16
 BRACKETS = {"paren": "(", "brace": "{", "bracket": "[", "invisible": "invisible", "opaque": "opaque"}
 # Precedes the text of a raw ident; no text of a tree has it, since a line has none.
 RAW = "\n"
-NUMBERS = ("int", "float")
 FRAGMENTS = ("ident", "literal", "lifetime", "block", "vis", "tt", *plain_grammar.FRAGMENTS)
 # What these took comes as one opaque subtree, if it is more than one token or subtree.
 GROUPED = ("expr", "expr_2021", "ty", "pat", "pat_param", "literal")
@@ -137,8 +136,7 @@ def unit_of(trees, held=None):
     if isinstance(first, Ident):
         return Unit(("ident", word(first)), trees)
     if isinstance(first, Literal):
-        sign = "0" if first.kind in NUMBERS else "x"
-        return Unit(("lit", f"{sign} {first.kind} {first.suffix_len} {first.text}"), trees)
+        return Unit(("lit", f"{first.kind} {first.suffix_len} {first.text}"), trees)
     if isinstance(trees[-1], Ident):
         return Unit(("life", word(trees[-1])), trees)
     return Unit(("op", "".join(punct.char for punct in trees)), trees)
@@ -168,7 +166,7 @@ def tail(trees):
     """The trees of the separator and the operator of a repetition, if they are first."""
     if is_operator(trees):
         return trees[:0], trees[0].char
-    if not trees or isinstance(trees[0], Subtree) or is_punct(trees, "$"):
+    if not trees or isinstance(trees[0], Subtree):
         return None
     count = unit_size(trees)
     return (trees[:count], trees[count].char) if is_operator(trees[count:]) else None
@@ -199,7 +197,7 @@ def pattern_part(trees):
     if found:
         held, separator, operator = found
         return ("rep", pattern_of(held), unit_of(separator) if separator else None, operator), 3 + len(separator)
-    if is_crate(behind):
+    if not behind or is_crate(behind):
         return ("unit", unit_of(trees[:1])), 1
     if not is_ident(behind) or not is_punct(behind[1:], ":") or not is_ident(behind[2:]):
         return ("wrong", BEGINS_NOTHING), 1
@@ -234,7 +232,7 @@ def pattern_fault(parts, names):
             fault = part[1]
         elif part[0] == "var":
             fault = NAME_TWICE if part[1] in names else None
-            names |= {part[1]} - {"_"}
+            names.add(part[1])
         elif part[0] == "sub":
             fault = pattern_fault(part[2], names)
         elif part[0] == "rep":
@@ -255,7 +253,7 @@ def nests_of(parts, depth=0):
     """In how many repetitions each variable is, by its name."""
     nests = {}
     for part in parts:
-        if part[0] == "var" and part[1] != "_":
+        if part[0] == "var":
             nests[part[1]] = depth
         elif part[0] == "sub":
             nests.update(nests_of(part[2], depth))

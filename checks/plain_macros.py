@@ -27,10 +27,10 @@ def behind(units, at):
 # the name of an ident, which marks a raw one.
 def taken(fragment, units, at):
     first = units[at] if at < len(units) else None
-    if fragment == "vis":
-        return visibility_end(first, units, at)
     if first is None:
         return None
+    if fragment == "vis":
+        return visibility_end(first, units, at)
     if fragment == "tt":
         return behind(units, at)
     if fragment == "ident":
@@ -74,15 +74,19 @@ def visibility_end(first, units, at):
 
 def literal_end(first, units, at):
     end = behind(units, at)
-    if first[0] == "lit" or first[0] == "ident" and first[1].strip() in ("true", "false"):
+    if is_literal(first):
         return end
-    number = units[end] if end < len(units) else None
-    if first == ("op", "-") and number is not None and number[0] == "lit" and number[1][0].isdigit():
+    if first == ("op", "-") and end < len(units) and is_literal(units[end]):
         return behind(units, end)
     return None
 
 
-# What a variable took: the units, or one in their place, as for a number after `-`.
+# Whether a unit is a literal or a truth value; a raw ident is none.
+def is_literal(unit):
+    return unit[0] == "lit" or unit in (("ident", "true"), ("ident", "false"))
+
+
+# What a variable took: the units, or one in their place, as for a literal after `-`.
 def bound_by(fragment, units, at, end):
     if not isinstance(units, list):
         return units.bound(fragment, at, end)

@@ -91,7 +91,8 @@ class Maker:
         if name == "ident":
             return [("ident", self.by.choice("aabb_"))]
         if name == "literal":
-            return self.by.choice([[("lit", "1")], [("op", "-"), ("lit", "1")], [("op", "-"), ("lit", '"s"')], [("ident", "true")]])
+            minus = self.by.choice([[], [("op", "-")]])
+            return [*minus, self.by.choice([("lit", "1"), ("lit", '"s"'), ("ident", "true")])]
         if name == "lifetime":
             return [("life", "x")]
         if name == "block":

@@ -1,5 +1,5 @@
 -- What a message says is expected, next to rows worked out by hand. Each holds by computation.
-use Rattle.std.proofs.Common.{◌≡◌, ◌++◌, List, [], ◌∷◌, Option, None, Some, codes, refl}
+use Rattle.std.proofs.Common.{◌≡◌, ◌++◌, List, [], ◌∷◌, codes, refl}
 use Rattle.std.specs.Fmt.{digits}
 use Rattle.std.specs.List.{join_by}
 use Rattle.std.specs.Prelude.{ℕ, replicate}
@@ -19,11 +19,11 @@ use Rattle.mbe_rules.specs.Waiting.{AreWaitingIn, in_arm}
 use Rattle.expand_text.specs.Expecting.{IsExpected, added, different, label_text, quoted, three_of}
 
 -- A variable is as in its pattern, a bracket as it opens.
-abbrev variable : Option (List ℕ) → Variable
+abbrev variable : List ℕ → Variable
 variable name = record { name = name; fragment = fragment.Tt }
 
-labels : (label_text (take (variable (Some (codes "x")))) ≡ codes "`$x:tt`")
-    × (label_text (take (variable None)) ≡ codes "`$_:tt`")
+labels : (label_text (take (variable (codes "x"))) ≡ codes "`$x:tt`")
+    × (label_text (take (variable (codes "_"))) ≡ codes "`$_:tt`")
     × (label_text (enter Brace) ≡ codes "`{`")
     × (label_text leave ≡ codes "the end")
 labels = (refl, refl, refl, refl)
@@ -79,7 +79,7 @@ arm_of its = record { pattern = its; delimiter = delimiter Brace (span 0 1) (spa
 
 abbrev arms : List Arm
 arms =
-    arm_of (pattern.variable (variable (Some (codes "x"))) (pattern.token (word (codes "in") ∷ []) (pattern.variable (variable (Some (replicate 40 97))) pattern.nothing)))
+    arm_of (pattern.variable (variable (codes "x")) (pattern.token (word (codes "in") ∷ []) (pattern.variable (variable (replicate 40 97)) pattern.nothing)))
     ∷ arm_of (pattern.token (word (codes "a") ∷ []) (pattern.token (word (codes "a") ∷ []) pattern.nothing)) ∷ []
 
 abbrev Says : (parts : List ArmPart) → (expected : List ℕ) → Type 0

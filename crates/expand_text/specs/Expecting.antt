@@ -26,13 +26,9 @@ opening delimited.Bracket = codes "["
 opening delimited.Invisible = []
 opening delimited.InvisibleOpaque = []
 
--- a variable as it is in its pattern; one without a name is `_`
-abbrev pub name_text : Option (List ℕ) → List ℕ
-name_text None = codes "_"
-name_text (Some name) = name
-
+-- a variable as it is in its pattern
 abbrev pub variable_text : Variable → List ℕ
-variable_text it = codes "$" ++ name_text it.name ++ codes ":" ++ fragment_name it.fragment
+variable_text it = codes "$" ++ it.name ++ codes ":" ++ fragment_name it.fragment
 
 -- the text of a token of these leaves
 abbrev pub token_text : List Leaf → List ℕ

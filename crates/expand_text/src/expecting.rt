@@ -6,7 +6,7 @@ ghost use Rattle.mbe_program.specs.Labelling.{label_of};
 ghost use Rattle.mbe_rules.specs.Arms.{Arm};
 ghost use Rattle.mbe_rules.specs.Expansions.{AreMade};
 ghost use Rattle.mbe_rules.specs.Waiting.{part_in};
-ghost use Rattle.expand_text.specs.Expecting.{IsExpected, added, is_control, label_text, name_text, opening, part_added, parts_named, quoted, rule_text, token_text, variable_text};
+ghost use Rattle.expand_text.specs.Expecting.{IsExpected, added, is_control, label_text, opening, part_added, parts_named, quoted, rule_text, token_text, variable_text};
 
 use crate::memory::OutOfMemory;
 use mbe_pattern::Variable;
@@ -33,22 +33,12 @@ fn opening(kind: DelimiterKind) -> &'static str
     }
 }
 
-// Returns the name of a variable; one without a name is `_`.
-fn name_text(variable: &Variable) -> &str
-    ensures { result.now ≡ name_text variable.now.name }
-{
-    match &variable.name {
-        Some(name) => name.as_str(),
-        None => "_",
-    }
-}
-
 // Returns a variable as it is in its pattern.
 fn variable_text(alloc: Global, variable: &Variable) -> Result<String, AllocError>
     ensures { IfOk result (λ text. string_bytes text ≡ variable_text variable.now) }
 {
     let mut text = "$".to_string(alloc)?;
-    text.push_str(name_text(variable))?;
+    text.push_str(variable.name.as_str())?;
     text.push_str(":")?;
     text.push_str(variable.fragment.name())?;
     Ok(text)

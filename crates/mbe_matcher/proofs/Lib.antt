@@ -1,6 +1,7 @@
 pub mod BindRounds
 pub mod Binds
 pub mod EndSteps
+mod FragmentRows
 pub mod GrammarTaken
 pub mod GroupSteps
 pub mod LeafSteps

@@ -1,134 +1,26 @@
 -- Worked patterns with repetitions, and inputs: each holds by computation.
-use Rattle.std.proofs.Common.{◌≡◌, inl, inr, ◌≤◌, ℕ, true, false, [], ◌∷◌, None, Some, codes, refl, sym, ◌∙◌, arith, lit<, lit≤, not-le_of_lt}
-use Rattle.tt.specs.Forest.{Forest, end, leaf, join}
-use Rattle.tt.specs.Types.DelimiterKind.TheVariants.{Parenthesis, Brace, InvisibleOpaque}
-use Rattle.tt.specs.Types.LitKind.TheVariants.{Integer}
-use Rattle.tt_base.proofs.Samples.{literal, subtree}
+use Rattle.std.proofs.Common.{◌≡◌, inl, inr, ◌≤◌, ℕ, [], ◌∷◌, None, Some, codes, refl, sym, ◌∙◌, arith}
+use Rattle.tt.specs.Forest.{Forest, end, join}
+use Rattle.tt.specs.Types.DelimiterKind.TheVariants.{Parenthesis, Brace}
+use Rattle.tt_base.proofs.Samples.{subtree}
 use Rattle.mbe_pattern.specs.declared.pattern.Fragment.{Fragment}
 use Rattle.mbe_pattern.specs.declared.pattern.Fragment.TheVariants as fragment
 use Rattle.mbe_pattern.specs.declared.pattern.Variable.{Variable}
 use Rattle.mbe_matcher.specs.Bindings.{one, none, first, binding_of, bound_to}
 use Rattle.mbe_matcher.specs.Grouping.{variables_of, binding_by}
 use Rattle.mbe_matcher.specs.Marks.{taken as took_by, begun, ended, notes_of}
-use Rattle.mbe_matcher.specs.GrammarReach.{is_block}
-use Rattle.mbe_matcher.specs.Fragments.{takes, taken, reach}
 use Rattle.mbe_matcher.specs.Fronts.{ComesTo, HasLeft, StopsAt, Waits}
 use Rattle.mbe_pattern.specs.Patterns.{Pattern}
 use Rattle.mbe_matcher.specs.Readings.{Reading, done, took, held, round, over, IsInstance, IsNoInstance, IsReadBy, IsAmbiguous}
 use Rattle.mbe_pattern.specs.Placed.{pattern_of}
-use Rattle.mbe_pattern.proofs.Rows.{word, raw_word, alone, joint, arrow, life, comma, var, rounds, listed}
-
--- An ident takes an ident, raw or not, except `_`, and no lifetime.
-ident_takes : takes fragment.Ident (word (codes "a") end) ≡ true
-ident_takes = refl
-
-raw_taken : takes fragment.Ident (raw_word (codes "a") end) ≡ true
-raw_taken = refl
-
-underscore_left : takes fragment.Ident (word (codes "_") end) ≡ false
-underscore_left = refl
-
-lifetime_no_ident : takes fragment.Ident (life end) ≡ false
-lifetime_no_ident = refl
-
--- A literal takes a truth value, and a number after `-`, which are two trees.
-truth_taken : takes fragment.Literal (word (codes "true") end) ≡ true
-truth_taken = refl
-
-minus_left : takes fragment.Literal (alone 45 (word (codes "a") end)) ≡ false
-minus_left = refl
-
--- `3` and `-3` before others
-abbrev pub three : Forest → Forest
-three rest = leaf (literal (codes "3") Integer (lit≤ tt) (lit≤ tt, λ h. absurd (not-le_of_lt (lit< tt) h))) rest
-
-abbrev pub minus_three : Forest → Forest
-minus_three rest = alone 45 (three rest)
-
-negative_takes : takes fragment.Literal (minus_three (comma end)) ≡ true
-negative_takes = refl
-
-negative_taken : taken fragment.Literal (minus_three (comma end)) ≡ minus_three end
-negative_taken = refl
-
--- It also takes an opaque subtree that holds such a literal and nothing else, as one tree.
-abbrev in_opaque : Forest → Forest
-in_opaque inside = subtree InvisibleOpaque inside
-
-held_takes : takes fragment.Literal (in_opaque (minus_three end)) ≡ true
-held_takes = refl
-
-held_taken : taken fragment.Literal (join (in_opaque (minus_three end)) (comma end)) ≡ in_opaque (minus_three end)
-held_taken = refl
-
-three_held : takes fragment.Literal (in_opaque (three end)) ≡ true
-three_held = refl
-
-more_left : takes fragment.Literal (in_opaque (minus_three (comma end))) ≡ false
-more_left = refl
-
-name_left : takes fragment.Literal (in_opaque (alone 45 (word (codes "a") end))) ≡ false
-name_left = refl
-
-nothing_held_left : takes fragment.Literal (in_opaque end) ≡ false
-nothing_held_left = refl
-
-twice_held_left : takes fragment.Literal (in_opaque (in_opaque (three end))) ≡ false
-twice_held_left = refl
-
-brackets_left : takes fragment.Literal (subtree Parenthesis (minus_three end)) ≡ false
-brackets_left = refl
-
-module _ (rest : Forest) where
-  -- A lifetime is a `'` and an ident.
-  lifetime_takes : takes fragment.Lifetime (life rest) ≡ true
-  lifetime_takes = refl
-
-  lifetime_taken : taken fragment.Lifetime (life rest) ≡ life end
-  lifetime_taken = refl
-
-quote_left : takes fragment.Lifetime (joint 39 (comma end)) ≡ false
-quote_left = refl
-
--- A block is a subtree in braces with the contents of a block.
-block_takes : takes fragment.Block (subtree Brace end) ≡ is_block end
-block_takes = refl
-
-parentheses_left : takes fragment.Block (subtree Parenthesis end) ≡ false
-parentheses_left = refl
-
--- A visibility is `pub`, with or without a following `(crate)` or `(in ..)`, or nothing; `r#pub` is none, and `(a)` is not part of one.
-visible : reach fragment.Vis (word (codes "pub") (comma end)) ≡ 1
-visible = refl
-
-visible_in_crate : reach fragment.Vis (word (codes "pub") (join (subtree Parenthesis (word (codes "crate") end)) end)) ≡ 2
-visible_in_crate = refl
-
-visible_in_path : reach fragment.Vis (word (codes "pub") (join (subtree Parenthesis (word (codes "in") (word (codes "a") end))) end)) ≡ 2
-visible_in_path = refl
-
-visible_before : reach fragment.Vis (word (codes "pub") (join (subtree Parenthesis (word (codes "a") end)) end)) ≡ 1
-visible_before = refl
-
-not_visible : reach fragment.Vis (raw_word (codes "pub") end) ≡ 0
-not_visible = refl
-
--- `tt` takes a token or a subtree; it takes nothing if there is nothing.
-arrow_taken : taken fragment.Tt (arrow (comma end)) ≡ arrow end
-arrow_taken = refl
-
-life_taken : taken fragment.Tt (life (comma end)) ≡ life end
-life_taken = refl
-
-nothing_left : takes fragment.Tt end ≡ false
-nothing_left = refl
+use Rattle.mbe_pattern.proofs.Rows.{word, alone, joint, arrow, life, comma, var, rounds, listed}
 
 -- variables
 abbrev x_of : Fragment → Variable
-x_of which = record { name = Some (codes "x"); fragment = which }
+x_of which = record { name = codes "x"; fragment = which }
 
-abbrev nameless : Variable
-nameless = record { name = None; fragment = fragment.Tt }
+abbrev underscore : Variable
+underscore = record { name = codes "_"; fragment = fragment.Tt }
 
 -- `a, b,` is an instance of `$($x:ident),* $(,)?`; the last comma is the second repetition's.
 abbrev a_b : Forest
@@ -161,7 +53,7 @@ abbrev in_brace : Pattern
 in_brace = pattern_of (join (subtree Brace (var (codes "x") (codes "tt") end)) (var (codes "_") (codes "tt") end))
 
 brace_binds : binding_of in_brace (held (took (arrow end) done) (took (life end) done))
-    ≡ record { variable = x_of fragment.Tt; bound = one (arrow end) } ∷ record { variable = nameless; bound = one (life end) } ∷ []
+    ≡ record { variable = x_of fragment.Tt; bound = one (arrow end) } ∷ record { variable = underscore; bound = one (life end) } ∷ []
 brace_binds = refl
 
 -- A list in a list: `$( $($x:ident)+ );*` on `a b; c` binds `a` and `b` in the first round, and `c` in the second.
@@ -184,11 +76,14 @@ nested_noted = refl
 
 -- Of two variables of one name the first is found; for an unknown name none is.
 twice_bound : bound_to (codes "x")
-    (record { variable = nameless; bound = none } ∷ record { variable = x_of fragment.Tt; bound = one end } ∷ record { variable = x_of fragment.Tt; bound = none } ∷ []) ≡ Some (one end)
+    (record { variable = underscore; bound = none } ∷ record { variable = x_of fragment.Tt; bound = one end } ∷ record { variable = x_of fragment.Tt; bound = none } ∷ []) ≡ Some (one end)
 twice_bound = refl
 
 none_bound : bound_to (codes "y") (record { variable = x_of fragment.Tt; bound = one end } ∷ []) ≡ None
 none_bound = refl
+
+underscore_bound : bound_to (codes "_") (record { variable = underscore; bound = none } ∷ []) ≡ Some none
+underscore_bound = refl
 
 -- `+` requires a round.
 abbrev plus : Pattern
@@ -344,6 +239,15 @@ nothing_taken (left, place, inl (inl (is, at, stuck))) = stuck refl
 nothing_taken (left, place, inl (inr (vis, inl (is, at, stuck)))) = cc is
 nothing_taken (left, place, inl (inr (vis, inr (name, more)))) = more
 nothing_taken (left, place, inr (reading, rest, (more, same, vis, (others, alike, name, further)), next)) = cc
+
+-- At the end of the input it waits itself.
+visibility_waits : Waits viewed end 0 0
+visibility_waits = (0, refl, inl (inl (refl, refl, λ vis. cc vis)))
+
+behind_visibility_not : Waits viewed end 0 1 → ⊥
+behind_visibility_not (left, place, inl (inl (is, at, stuck))) = cc is
+behind_visibility_not (left, place, inl (inr (vis, more))) = cc vis
+behind_visibility_not (left, place, inr (reading, rest, (more, same, vis, others), next)) = cc vis
 
 -- No two of the three answers can hold of one input.
 module _ (pattern : Pattern) (input : Forest) where

@@ -67,10 +67,6 @@ abbrev pub bound_from : (is_it : Bool) → Bound → Option Bound → Option Bou
 bound_from true bound others = Some bound
 bound_from false bound others = others
 
-abbrev pub is_name : List ℕ → Option (List ℕ) → Bool
-is_name text None = false
-is_name text (Some name) = bytes_eq text name
-
 abbrev pub bound_to : List ℕ → Binding → Option Bound
 bound_to text [] = None
-bound_to text (it ∷ others) = bound_from (is_name text it.variable.name) it.bound (bound_to text others)
+bound_to text (it ∷ others) = bound_from (bytes_eq text it.variable.name) it.bound (bound_to text others)

@@ -1,58 +1,37 @@
 -- What a fragment takes.
 use Rattle.std.specs.Prelude.{ℕ, Bool, true, false, ◌&&◌, ◌||◌, not, Option, None, Some, codes, is_some, if◌then◌else◌}
-use Rattle.tt.specs.Expectations.{first_leaf_as, as_literal, as_ident_or_underscore, unless_underscore}
+use Rattle.tt.specs.Expectations.{first_leaf_as, as_ident_or_underscore, unless_underscore}
 use Rattle.tt.specs.Forest.{Forest, end, leaf, node}
 use Rattle.tt.specs.Gluing.{after_trees}
-use Rattle.tt.specs.Literal.{kind_of}
 use Rattle.tt.specs.Moves.{after_tree}
 use Rattle.tt.specs.Siblings.{is_end}
 use Rattle.tt.specs.Types.DelimiterKind.{DelimiterKind}
 use Rattle.tt.specs.Types.DelimiterKind.TheVariants as delimited
-use Rattle.tt.specs.Types.LitKind.{LitKind}
-use Rattle.tt.specs.Types.LitKind.TheVariants as literal
 use Rattle.tt.specs.Types.Leaf.{Leaf}
 use Rattle.tt.specs.Types.Leaf.TheVariants as leaf_of
 use Rattle.mbe_matcher.specs.GrammarReach.{grammar_reach, is_block}
 use Rattle.mbe_pattern.specs.declared.pattern.Fragment.{Fragment}
 use Rattle.mbe_pattern.specs.declared.pattern.Fragment.TheVariants as fragment
 use Rattle.mbe_pattern.specs.Spelling.{is_parenthesis}
-use Rattle.mbe_pattern.specs.Units.{is_at_ident, is_at_punct, unit_size, is_at_word, is_brace, front_trees}
+use Rattle.mbe_pattern.specs.Units.{is_at_ident, is_at_punct, unit_size, is_word, is_at_word, is_brace, front_trees}
+
+-- a literal, or a truth value, which is not raw
+abbrev pub is_literal_leaf : Leaf → Bool
+is_literal_leaf (leaf_of.Literal it) = true
+is_literal_leaf (leaf_of.Punct it) = false
+is_literal_leaf (leaf_of.Ident it) = is_word (codes "true") it.is_raw it.sym || is_word (codes "false") it.is_raw it.sym
 
 -- the first tree is a literal or a truth value
 abbrev pub is_at_literal : Forest → Bool
-is_at_literal trees = is_some (first_leaf_as as_literal trees)
+is_at_literal end = false
+is_at_literal (leaf it rest) = is_literal_leaf it
+is_at_literal (node delimiter children rest) = false
 
--- a kind of numbers
-abbrev pub is_number_kind : LitKind → Bool
-is_number_kind literal.Byte = false
-is_number_kind literal.Char = false
-is_number_kind literal.Integer = true
-is_number_kind literal.Float = true
-is_number_kind literal.Str = false
-is_number_kind (literal.StrRaw hashes) = false
-is_number_kind literal.ByteStr = false
-is_number_kind (literal.ByteStrRaw hashes) = false
-is_number_kind literal.CStr = false
-is_number_kind (literal.CStrRaw hashes) = false
-is_number_kind (literal.Err fault) = false
-
--- a number
-abbrev pub is_number : Leaf → Bool
-is_number (leaf_of.Literal it) = is_number_kind (kind_of it)
-is_number (leaf_of.Punct it) = false
-is_number (leaf_of.Ident it) = false
-
--- the first tree is a number
-abbrev pub is_at_number : Forest → Bool
-is_at_number end = false
-is_at_number (leaf it rest) = is_number it
-is_at_number (node delimiter children rest) = false
-
--- a `-` and a number come first
+-- a `-` and a literal or a truth value come first
 abbrev pub is_at_negative : Forest → Bool
-is_at_negative trees = is_at_punct (codes "-") trees && is_at_number (after_tree trees)
+is_at_negative trees = is_at_punct (codes "-") trees && is_at_literal (after_tree trees)
 
--- a literal, a truth value, or a `-` and a number come first
+-- a literal or a truth value comes first, or follows a `-`
 abbrev pub begins_literal : Forest → Bool
 begins_literal trees = is_at_literal trees || is_at_negative trees
 
@@ -104,14 +83,14 @@ is_at_scope (node delimiter children rest) = is_parenthesis delimiter.kind && is
 abbrev pub visibility_size : Forest → ℕ
 visibility_size trees = if is_at_word (codes "pub") trees then (if is_at_scope (after_tree trees) then 2 else 1) else 0
 
--- the fragment takes the trees at the front: an ident other than `_`; a literal, a truth value, or a number after `-`, also as an opaque
--- subtree; a lifetime; a block; a visibility, or nothing if there is none; any token or subtree; or what Rust's grammar takes
+-- the fragment takes the trees at the front: an ident other than `_`; a literal or a truth value, also after `-` and as an opaque subtree;
+-- a lifetime; a block; a visibility, or nothing before any tree; any token or subtree; or what Rust's grammar takes
 abbrev pub takes : Fragment → Forest → Bool
 takes fragment.Ident trees = is_some (unless_underscore (first_leaf_as as_ident_or_underscore trees))
 takes fragment.Literal trees = begins_literal trees || is_at_held_literal trees
 takes fragment.Lifetime trees = is_at_lifetime trees
 takes fragment.Block trees = is_at_block trees
-takes fragment.Vis trees = true
+takes fragment.Vis trees = not (is_end trees)
 takes fragment.Tt trees = not (is_end trees)
 takes (fragment.Grammar which) trees = is_some (grammar_reach which trees)
 

@@ -2,11 +2,10 @@
 use mbe_pattern::Fragment;
 use tt::Symbol;
 
-/// A variable of a pattern: its name, if it has one, its fragment, its number, and the numbers of the
-/// repetitions around it, the outermost first.
+/// A variable of a pattern: its name, its fragment, its number, and the numbers of the repetitions around it, the outermost first.
 #[derive(Drop)]
 pub struct Binder {
-    pub name: Option<Symbol>,
+    pub name: Symbol,
     pub fragment: Fragment,
     pub number: usize,
     pub nest: Vec<usize>,

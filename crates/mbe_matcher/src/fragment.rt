@@ -4,14 +4,14 @@ ghost use Rattle.tt.specs.Iters.{rest_of};
 ghost use Rattle.tt.specs.Moves.{after_tree};
 ghost use Rattle.tt.specs.Views.{trees_of};
 ghost use Rattle.mbe_grammar.specs.Fragments.{ReachesDeep};
-ghost use Rattle.mbe_matcher.specs.Fragments.{is_at_number, is_at_negative, begins_literal, literal_size, is_literal, is_at_held_literal, is_at_lifetime, is_at_block, is_scope, is_at_scope, visibility_size, takes, reach};
+ghost use Rattle.mbe_matcher.specs.Fragments.{is_at_literal, is_at_negative, begins_literal, literal_size, is_literal, is_at_held_literal, is_at_lifetime, is_at_block, is_scope, is_at_scope, visibility_size, takes, reach};
 ghost use Rattle.mbe_pattern.specs.Units.{is_at_word, unit_size, AreLeavesLike};
 ghost use Rattle.mbe_matcher.specs.GrammarReach.{grammar_reach, is_block};
 
 use mbe_grammar::{is_block as is_block_by_grammar, reach_deep};
 use mbe_pattern::{Fragment, GrammarFragment, is_at_word, pass, passes_leaf, unit_size};
 use std::alloc::{AllocError, Global};
-use tt::{DelimiterKind, Leaf, LitKind, TokenTreesView, TtElement, TtIter};
+use tt::{DelimiterKind, IdentIsRaw, Leaf, TokenTreesView, TtElement, TtIter};
 
 /// Returns whether the first trees are such leaves, one by one.
 pub fn are_leaves_like(leaves: &[Leaf], mut trees: TtIter<'_>) -> bool
@@ -25,32 +25,32 @@ pub fn are_leaves_like(leaves: &[Leaf], mut trees: TtIter<'_>) -> bool
     true
 }
 
-// Returns whether the first tree is a number.
-fn is_at_number(mut trees: TtIter<'_>) -> bool
-    ensures { result ≡ is_at_number (rest_of trees.entry) }
+// Returns whether the first tree is a literal or a truth value, which is not raw.
+fn is_at_literal(mut trees: TtIter<'_>) -> bool
+    ensures { result ≡ is_at_literal (rest_of trees.entry) }
 {
     match trees.next() {
-        Some(TtElement::Leaf(Leaf::Literal(literal))) => matches!(
-            literal.kind(),
-            LitKind::Integer | LitKind::Float,
+        Some(TtElement::Leaf(Leaf::Literal(_))) => true,
+        Some(TtElement::Leaf(Leaf::Ident(ident))) => matches!(
+            (ident.is_raw, ident.sym.as_str()),
+            (IdentIsRaw::No, "true" | "false")
         ),
         _ => false,
     }
 }
 
-// Returns whether a `-` and a number come first.
+// Returns whether a `-` and a literal or a truth value come first.
 fn is_at_negative(mut trees: TtIter<'_>) -> bool
     ensures { result ≡ is_at_negative (rest_of trees.entry) }
 {
-    trees.expect_char('-').is_ok() && is_at_number(trees)
+    trees.expect_char('-').is_ok() && is_at_literal(trees)
 }
 
-// Returns whether a literal, a truth value, or a `-` and a number come first.
-fn begins_literal(mut trees: TtIter<'_>) -> bool
+// Returns whether a literal or a truth value comes first, or follows a `-`.
+fn begins_literal(trees: TtIter<'_>) -> bool
     ensures { result ≡ begins_literal (rest_of trees.entry) }
 {
-    let ahead = trees.remaining().iter();
-    trees.expect_literal().is_ok() || is_at_negative(ahead)
+    is_at_literal(trees.remaining().iter()) || is_at_negative(trees)
 }
 
 // Returns how many trees a literal has.
@@ -171,8 +171,7 @@ pub fn takes(alloc: Global, fragment: Fragment, mut trees: TtIter<'_>) -> Result
         }
         Fragment::Lifetime => Ok(is_at_lifetime(trees)),
         Fragment::Block => is_at_block(alloc, trees),
-        Fragment::Vis => Ok(true),
-        Fragment::Tt => Ok(!trees.is_empty()),
+        Fragment::Vis | Fragment::Tt => Ok(!trees.is_empty()),
         Fragment::Grammar(which) => Ok(grammar_reach(alloc, which, trees)?.is_some()),
     }
 }

@@ -10,7 +10,7 @@ use Rattle.mbe_pattern.specs.declared.pattern.RepeatKind.{RepeatKind}
 use Rattle.mbe_pattern.specs.declared.pattern.Variable.{Variable}
 use Rattle.mbe_pattern.specs.Placed.{Placed, inner_part, part_of, fault_in, placed_behind, placed_until}
 use Rattle.mbe_pattern.specs.Placed as placed
-use Rattle.mbe_pattern.specs.Spelling.{Tail, Dollar, is_dollar, is_crate_in, variable_in, dollar_from, dollar_in, dollar_length}
+use Rattle.mbe_pattern.specs.Spelling.{Tail, Dollar, is_dollar, is_token_before, variable_in, dollar_from, dollar_in, dollar_length}
 use Rattle.mbe_pattern.specs.Spelling as spelling
 use Rattle.mbe_pattern.specs.Units.{unit_from, first_unit}
 use Rattle.mbe_pattern.proofs.Passing.{after_end}
@@ -22,8 +22,8 @@ no_repetition false None tail is = cc is
 no_repetition false (Some it) tail is = cc is
 
 pub node_there : (trees : Forest) (tail : Tail) → dollar_in trees ≡ spelling.repetition tail → is_at_node trees ≡ false → ⊥
-node_there end tail is none = no_repetition (is_crate_in end) (variable_in end) tail is
-node_there (leaf it rest) tail is none = no_repetition (is_crate_in (leaf it rest)) (variable_in (leaf it rest)) tail is
+node_there end tail is none = no_repetition (is_token_before end) (variable_in end) tail is
+node_there (leaf it rest) tail is none = no_repetition (is_token_before (leaf it rest)) (variable_in (leaf it rest)) tail is
 node_there (node delimiter children rest) tail is none = cc none
 
 -- the pattern that a leaf begins, given whether it is a `$`, and what a `$` begins there
@@ -62,8 +62,8 @@ module _ (until : ℕ) where
         (placed_passed (suc (suc (length separator))) rest ∙ ap (λ t. placed_until until (after_trees (suc (suc (length separator))) t)) begins
         ∙ ap (placed_until until) (sym left))
 
-    pub placed_crate : dollar_in rest ≡ spelling.crate_root → placed_until until (leaf dollar rest) ≡ placed.token (dollar ∷ []) (placed_until until rest)
-    placed_crate same = placed_dollar spelling.crate_root same
+    pub placed_alone : dollar_in rest ≡ spelling.token → placed_until until (leaf dollar rest) ≡ placed.token (dollar ∷ []) (placed_until until rest)
+    placed_alone same = placed_dollar spelling.token same
 
     pub placed_wrong : dollar_in rest ≡ spelling.nothing
         → placed_until until (leaf dollar rest) ≡ placed.wrong (fault_in (until - size (leaf dollar rest)) rest) dollar (placed_until until rest)

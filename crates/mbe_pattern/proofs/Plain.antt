@@ -35,7 +35,7 @@ begun_same until other it rest true (spelling.variable found) same = ap (pattern
 begun_same until other it rest true (spelling.repetition tail) same =
     ap₂ (λ held more. pattern.repetition held tail.separator tail.kind more)
     (plain_inner (placed_behind until zero rest) ∙ ap pattern.inner_part (same zero) ∙ sym (plain_inner (placed_behind other zero rest))) (same (suc (tail_length tail)))
-begun_same until other it rest true spelling.crate_root same = ap (pattern.token (it ∷ [])) (same 0)
+begun_same until other it rest true spelling.token same = ap (pattern.token (it ∷ [])) (same 0)
 begun_same until other it rest true spelling.nothing same = ap (pattern.token (it ∷ [])) (same 0)
 
 plain_same : (until other n : ℕ) (trees : Forest) → AreSame until other n trees

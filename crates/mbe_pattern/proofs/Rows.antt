@@ -81,7 +81,7 @@ abbrev pub listed : Forest
 listed = rounds (var (codes "x") (codes "ident") end) (joint 44 (alone 42 (rounds (comma end) (alone 63 end))))
 
 abbrev pub x_part : Pattern
-x_part = variable (record { name = Some (codes "x"); fragment = fragment.Ident }) nothing
+x_part = variable (record { name = codes "x"; fragment = fragment.Ident }) nothing
 
 listed_spells : pattern_of listed
     ≡ repetition x_part (punct 44 Joint ∷ []) repeat.ZeroOrMore (repetition (token (punct 44 Alone ∷ []) nothing) [] repeat.ZeroOrOne nothing)
@@ -96,17 +96,41 @@ life_separates : pattern_of (rounds (word (codes "b") end) (life (alone 42 end))
     ≡ repetition (token (ident (codes "b") ∷ []) nothing) (punct 39 Joint ∷ ident (codes "a") ∷ []) repeat.ZeroOrMore nothing
 life_separates = refl
 
--- `$_:tt` has no name, and `$r#x:tt` that of `x`.
-underscore_spells : pattern_of (var (codes "_") (codes "tt") end) ≡ variable (record { name = None; fragment = fragment.Tt }) nothing
+-- So is `$`, alone; a `$` that no operator follows separates nothing.
+dollar_separates : pattern_of (rounds (word (codes "a") end) (alone 36 (alone 42 end)))
+    ≡ repetition (token (ident (codes "a") ∷ []) nothing) (punct 36 Alone ∷ []) repeat.ZeroOrMore nothing
+dollar_separates = refl
+
+dollars_separate_not : pattern_of (rounds (comma end) (alone 36 (alone 36 (alone 42 end))))
+    ≡ token (punct 36 Alone ∷ []) (held_by Parenthesis (token (punct 44 Alone ∷ []) nothing) (token (punct 36 Alone ∷ []) (token (punct 36 Alone ∷ []) (token (punct 42 Alone ∷ []) nothing))))
+dollars_separate_not = refl
+
+-- An operator that comes first is no separator: in `$(,)?*` the `*` is a token.
+operator_first : pattern_of (rounds (comma end) (alone 63 (alone 42 end)))
+    ≡ repetition (token (punct 44 Alone ∷ []) nothing) [] repeat.ZeroOrOne (token (punct 42 Alone ∷ []) nothing)
+operator_first = refl
+
+-- `$_:tt` has the name `_`, and `$r#x:tt` that of `x`; keywords are names.
+underscore_spells : pattern_of (var (codes "_") (codes "tt") end) ≡ variable (record { name = codes "_"; fragment = fragment.Tt }) nothing
 underscore_spells = refl
 
-raw_spells : pattern_of (alone 36 (raw_word (codes "x") (alone 58 (word (codes "tt") end)))) ≡ variable (record { name = Some (codes "x"); fragment = fragment.Tt }) nothing
+raw_spells : pattern_of (alone 36 (raw_word (codes "x") (alone 58 (word (codes "tt") end)))) ≡ variable (record { name = codes "x"; fragment = fragment.Tt }) nothing
 raw_spells = refl
 
--- `$crate` stays, and so does a `$` that begins nothing.
+keyword_spells : pattern_of (var (codes "self") (codes "tt") end) ≡ variable (record { name = codes "self"; fragment = fragment.Tt }) nothing
+keyword_spells = refl
+
+-- `$crate` stays, also before `:tt`; so do a `$` at the end, and a `$` that begins nothing.
 crate_stays : pattern_of (alone 36 (word (codes "crate") (comma end)))
     ≡ token (punct 36 Alone ∷ []) (token (ident (codes "crate") ∷ []) (token (punct 44 Alone ∷ []) nothing))
 crate_stays = refl
+
+crate_no_variable : pattern_of (var (codes "crate") (codes "tt") end)
+    ≡ token (punct 36 Alone ∷ []) (token (ident (codes "crate") ∷ []) (token (punct 58 Alone ∷ []) (token (ident (codes "tt") ∷ []) nothing)))
+crate_no_variable = refl
+
+last_stays : pattern_of (word (codes "a") (alone 36 end)) ≡ token (ident (codes "a") ∷ []) (token (punct 36 Alone ∷ []) nothing)
+last_stays = refl
 
 no_operator : pattern_of (rounds (comma end) end) ≡ token (punct 36 Alone ∷ []) (held_by Parenthesis (token (punct 44 Alone ∷ []) nothing) nothing)
 no_operator = refl
@@ -132,22 +156,37 @@ y = codes "y"
 abbrev tts : List ℕ
 tts = codes "tt"
 
--- The list has no fault; `$crate` is no fault, and two variables may be written as `_`.
+-- The list has no fault; `$crate` is no fault, nor is a `$` at the end of the pattern or of a subtree.
 listed_sound : pattern_fault listed ≡ None
 listed_sound = refl
 
 crate_sound : pattern_fault (alone 36 (word (codes "crate") end)) ≡ None
 crate_sound = refl
 
-underscores_sound : pattern_fault (var (codes "_") tts (var (codes "_") tts end)) ≡ None
-underscores_sound = refl
+last_sound : pattern_fault (word x (alone 36 end)) ≡ None
+last_sound = refl
 
--- A `$` at the end, before itself, before a name alone, and before parentheses alone.
-last_dollar : pattern_fault (word x (alone 36 end)) ≡ Some (error.BeginsNothing 1)
-last_dollar = refl
+last_within_sound : pattern_fault (join (subtree Bracket (alone 36 end)) (word x end)) ≡ None
+last_within_sound = refl
 
+-- A `$` before itself, before brackets, braces, a punct and a lifetime, before a name alone, and before parentheses alone.
 two_dollars : pattern_fault (alone 36 (var x tts end)) ≡ Some (error.BeginsNothing 0)
 two_dollars = refl
+
+two_dollars_alone : pattern_fault (alone 36 (alone 36 end)) ≡ Some (error.BeginsNothing 0)
+two_dollars_alone = refl
+
+before_brackets : pattern_fault (alone 36 (join (subtree Bracket (word x end)) end)) ≡ Some (error.BeginsNothing 0)
+before_brackets = refl
+
+before_braces : pattern_fault (alone 36 (join (subtree Brace (word x end)) end)) ≡ Some (error.BeginsNothing 0)
+before_braces = refl
+
+before_punct : pattern_fault (alone 36 (alone 43 end)) ≡ Some (error.BeginsNothing 0)
+before_punct = refl
+
+before_lifetime : pattern_fault (alone 36 (life (alone 58 (word tts end)))) ≡ Some (error.BeginsNothing 0)
+before_lifetime = refl
 
 name_alone : pattern_fault (alone 36 (word x end)) ≡ Some (error.BeginsNothing 0)
 name_alone = refl
@@ -158,6 +197,12 @@ colon_alone = refl
 parentheses_alone : pattern_fault (rounds (comma end) end) ≡ Some (error.BeginsNothing 0)
 parentheses_alone = refl
 
+parentheses_before_dollar : pattern_fault (rounds (comma end) (alone 36 end)) ≡ Some (error.BeginsNothing 0)
+parentheses_before_dollar = refl
+
+dollar_separator_sound : pattern_fault (rounds (comma end) (alone 36 (alone 43 end))) ≡ None
+dollar_separator_sound = refl
+
 -- `$x:foo`, and `$x:expr`, which spells a variable of Rust's grammar.
 unknown_fragment : pattern_fault (comma (var x (codes "foo") end)) ≡ Some (error.UnknownFragment 1)
 unknown_fragment = refl
@@ -165,10 +210,10 @@ unknown_fragment = refl
 known_fragment : pattern_fault (comma (var x (codes "expr") end)) ≡ None
 known_fragment = refl
 
-grammar_spells : pattern_of (var x (codes "expr_2021") end) ≡ variable (record { name = Some x; fragment = fragment.Grammar grammar.Expr2021 }) nothing
+grammar_spells : pattern_of (var x (codes "expr_2021") end) ≡ variable (record { name = x; fragment = fragment.Grammar grammar.Expr2021 }) nothing
 grammar_spells = refl
 
--- `$x:tt $x:tt` and `$x:tt $r#x:tt`; `[$x:tt] $($x:tt)*`.
+-- `$x:tt $x:tt` and `$x:tt $r#x:tt`; `[$x:tt] $($x:tt)*`; `$_:tt $_:tt`.
 name_twice : pattern_fault (var x tts (var x tts end)) ≡ Some (error.NameTwice 4)
 name_twice = refl
 
@@ -178,12 +223,18 @@ raw_name_twice = refl
 name_twice_within : pattern_fault (join (subtree Bracket (var x tts end)) (rounds (var x tts end) (alone 42 end))) ≡ Some (error.NameTwice 7)
 name_twice_within = refl
 
+underscore_twice : pattern_fault (var (codes "_") tts (var (codes "_") tts end)) ≡ Some (error.NameTwice 4)
+underscore_twice = refl
+
 names_apart : pattern_fault (var x tts (var y tts end)) ≡ None
 names_apart = refl
 
--- `$(,),?`, and `$(,),*`.
+-- `$(,),?` and `$(,)$?`, and `$(,),*`.
 needless_separator : pattern_fault (rounds (comma end) (joint 44 (alone 63 end))) ≡ Some (error.NeedlessSeparator 0)
 needless_separator = refl
+
+needless_dollar : pattern_fault (rounds (comma end) (alone 36 (alone 63 end))) ≡ Some (error.NeedlessSeparator 0)
+needless_dollar = refl
 
 separator_sound : pattern_fault (rounds (comma end) (joint 44 (alone 42 end))) ≡ None
 separator_sound = refl
@@ -202,10 +253,10 @@ wrong_within : pattern_fault (rounds (rounds (comma end) (alone 42 (var x (codes
 wrong_within = refl
 
 -- The first fault counts: a repetition comes before what it holds, and that before what follows.
-outer_first : pattern_fault (rounds (rounds end (alone 42 end)) (alone 42 (alone 36 end))) ≡ Some (error.EmptyRepetition 0)
+outer_first : pattern_fault (rounds (rounds end (alone 42 end)) (alone 42 (alone 36 (alone 36 end)))) ≡ Some (error.EmptyRepetition 0)
 outer_first = refl
 
-inner_first : pattern_fault (rounds (comma (rounds end (alone 42 end))) (alone 42 (alone 36 end))) ≡ Some (error.EmptyRepetition 3)
+inner_first : pattern_fault (rounds (comma (rounds end (alone 42 end))) (alone 42 (alone 36 (alone 36 end)))) ≡ Some (error.EmptyRepetition 3)
 inner_first = refl
 
 -- `$($v:vis)*`, and `$($v:vis ,)*`.

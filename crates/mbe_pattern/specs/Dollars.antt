@@ -20,7 +20,7 @@ tail_of tail = record { separator = tail.separator.items; kind = tail.kind }
 abbrev pub dollar_of : Dollar → spelling.Dollar
 dollar_of (dollar.Variable it) = spelling.variable it
 dollar_of (dollar.Repetition tail) = spelling.repetition (tail_of tail)
-dollar_of dollar.CrateRoot = spelling.crate_root
+dollar_of dollar.Token = spelling.token
 dollar_of dollar.Nothing = spelling.nothing
 
 -- the pattern begins with the part, and the others follow it

@@ -18,10 +18,9 @@ or_else (Some it) other = Some it
 abbrev pub is_given : List ℕ → List (List ℕ) → Bool
 is_given name names = list_any (bytes_eq name) names
 
--- the names so far, each once, with the name of one more variable, if it has one
-abbrev pub names_with : Option (List ℕ) → List (List ℕ) → List (List ℕ)
-names_with None names = names
-names_with (Some name) names = if is_given name names then names else names ++ name ∷ []
+-- the names so far, each once, with the name of one more variable
+abbrev pub names_with : List ℕ → List (List ℕ) → List (List ℕ)
+names_with name names = if is_given name names then names else names ++ name ∷ []
 
 -- those names, with the names of a pattern's variables
 abbrev pub names_behind : List (List ℕ) → Placed → List (List ℕ)
@@ -33,9 +32,8 @@ names_behind names (subtree kind inner others) = names_behind (names_behind name
 names_behind names (repetition at inner separator op others) = names_behind (names_behind names inner) others
 
 -- an earlier variable has the name of the variable at that place
-abbrev pub name_fault : (at : ℕ) → Option (List ℕ) → List (List ℕ) → Option PatternError
-name_fault at None names = None
-name_fault at (Some name) names = if is_given name names then Some (error.NameTwice at) else None
+abbrev pub name_fault : (at : ℕ) → List ℕ → List (List ℕ) → Option PatternError
+name_fault at name names = if is_given name names then Some (error.NameTwice at) else None
 
 -- the repetition at that place has a separator, but never two rounds
 abbrev pub separator_fault : (at : ℕ) → List Leaf → RepeatKind → Option PatternError

@@ -61,7 +61,7 @@ fault_in at siblings =
 abbrev pub part_of : (at : ℕ) → Leaf → Dollar → (siblings : Forest) → (held others : Placed) → Placed
 part_of at it (dollar.variable found) siblings held others = variable at found others
 part_of at it (dollar.repetition tail) siblings held others = repetition at held tail.separator tail.kind others
-part_of at it dollar.crate_root siblings held others = token (it ∷ []) others
+part_of at it dollar.token siblings held others = token (it ∷ []) others
 part_of at it dollar.nothing siblings held others = wrong (fault_in at siblings) it others
 
 -- the pattern that trees spell after the first `passed` of them, which belong to an earlier part; `until`

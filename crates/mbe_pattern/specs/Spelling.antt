@@ -1,9 +1,10 @@
 -- What a `$` of a pattern begins.
-use Rattle.std.specs.Prelude.{◌==◌, not, ℕ, suc, Bool, true, false, List, [], ◌∷◌, length, Option, None, Some, option_map, codes, bytes_eq, if◌then◌else◌}
+use Rattle.std.specs.Prelude.{◌==◌, ◌||◌, ℕ, suc, Bool, true, false, List, [], ◌∷◌, length, Option, None, Some, option_map, codes, bytes_eq, if◌then◌else◌}
 use Rattle.tt.specs.Expectations.{first_leaf_as, as_ident_or_underscore}
 use Rattle.tt.specs.Forest.{Forest, end, leaf, node}
 use Rattle.tt.specs.Gluing.{after_trees}
 use Rattle.tt.specs.Moves.{after_tree}
+use Rattle.tt.specs.Siblings.{is_end}
 use Rattle.tt.specs.Types.DelimiterKind.{DelimiterKind}
 use Rattle.tt.specs.Types.DelimiterKind.TheVariants as delimited
 use Rattle.tt.specs.Types.Ident.{Ident}
@@ -78,16 +79,12 @@ fragment_from (Some it) = fragment_named it.sym
 abbrev pub fragment_in : Forest → Option Fragment
 fragment_in siblings = fragment_from (first_leaf_as as_ident_or_underscore siblings)
 
--- the name that an ident gives, raw or not: `_` gives none
-abbrev pub name_of : Ident → Option (List ℕ)
-name_of it = if bytes_eq it.sym (codes "_") then None else Some it.sym
-
--- a variable has an ident, a colon and a fragment
+-- a variable has an ident, raw or not, which may be `_`, a colon and a fragment
 abbrev pub variable_from : Option Ident → (colon : Bool) → Option Fragment → Option Variable
 variable_from None colon kind = None
 variable_from (Some it) false kind = None
 variable_from (Some it) true None = None
-variable_from (Some it) true (Some kind) = Some (record { name = name_of it; fragment = kind })
+variable_from (Some it) true (Some kind) = Some (record { name = it.sym; fragment = kind })
 
 -- the variable whose `$` precedes these siblings
 abbrev pub variable_in : Forest → Option Variable
@@ -118,15 +115,11 @@ abbrev pub tail_with : (separator : List Leaf) → Option RepeatKind → Option 
 tail_with separator None = None
 tail_with separator (Some it) = Some (record { separator = separator; kind = it })
 
--- a token is a separator unless it is `$`
-abbrev pub is_separator : List Leaf → Bool
-is_separator [] = false
-is_separator (it ∷ others) = not (is_dollar it)
-
--- a kind that comes first; otherwise a separator and a kind
+-- a kind that comes first; otherwise any other token, which separates, and a kind
 abbrev pub tail_from : Option RepeatKind → (token : List Leaf) → (siblings : Forest) → Option Tail
 tail_from (Some it) token siblings = Some (record { separator = []; kind = it })
-tail_from None token siblings = if is_separator token then tail_with token (as_repeat_kind (first_unit (after_trees (length token) siblings))) else None
+tail_from None [] siblings = None
+tail_from None (it ∷ others) siblings = tail_with (it ∷ others) (as_repeat_kind (first_unit (after_trees (length (it ∷ others)) siblings)))
 
 -- the tail at the front, if there is one
 abbrev pub tail_in : Forest → Option Tail
@@ -162,27 +155,31 @@ is_crate_from (Some it) = is_crate it.is_raw it.sym
 abbrev pub is_crate_in : Forest → Bool
 is_crate_in siblings = is_crate_from (first_leaf_as as_ident_or_underscore siblings)
 
--- what a `$` begins
+-- what a `$` begins; one that is a token begins nothing, and that is no fault
 pub data Dollar : Type 0 where
   variable : Variable → Dollar
   repetition : Tail → Dollar
-  crate_root : Dollar
+  token : Dollar
   nothing : Dollar
 
--- a repetition; otherwise `$crate`; otherwise a variable; otherwise nothing
-abbrev pub dollar_from : Option Tail → (crate_there : Bool) → Option Variable → Dollar
-dollar_from (Some tail) crate_there found = repetition tail
-dollar_from None true found = crate_root
+-- a `$` before these siblings is a token: `crate` follows it, or nothing
+abbrev pub is_token_before : Forest → Bool
+is_token_before siblings = is_crate_in siblings || is_end siblings
+
+-- a repetition; otherwise a token; otherwise a variable; otherwise nothing
+abbrev pub dollar_from : Option Tail → (is_token : Bool) → Option Variable → Dollar
+dollar_from (Some tail) is_token found = repetition tail
+dollar_from None true found = token
 dollar_from None false (Some found) = variable found
 dollar_from None false None = nothing
 
 -- what a `$` before these siblings begins
 abbrev pub dollar_in : Forest → Dollar
-dollar_in siblings = dollar_from (repetition_in siblings) (is_crate_in siblings) (variable_in siblings)
+dollar_in siblings = dollar_from (repetition_in siblings) (is_token_before siblings) (variable_in siblings)
 
 -- how many trees belong to the sign: a name, a colon and a fragment, or parentheses and a tail
 abbrev pub dollar_length : Dollar → ℕ
 dollar_length (variable it) = 3
 dollar_length (repetition tail) = suc (tail_length tail)
-dollar_length crate_root = 0
+dollar_length token = 0
 dollar_length nothing = 0

@@ -100,8 +100,8 @@ with_level level state = record { names = state.names; fault = state.fault; leve
 abbrev pub with_fault : Option PatternError → State → State
 with_fault fault state = record { names = state.names; fault = or_else state.fault fault; levels = state.levels }
 
--- one more name, if there is one
-abbrev pub with_name : (at : ℕ) → Option (List ℕ) → State → State
+-- one more name
+abbrev pub with_name : (at : ℕ) → List ℕ → State → State
 with_name at name state =
     record { names = names_with name state.names; fault = or_else state.fault (name_fault at name state.names); levels = state.levels }
 

@@ -4,14 +4,14 @@ ghost use Rattle.tt.specs.Forest.{size};
 ghost use Rattle.tt.specs.Gluing.{after_trees};
 ghost use Rattle.tt.specs.Iters.{rest_of};
 ghost use Rattle.mbe_pattern.specs.Dollars.{tail_of, dollar_of};
-ghost use Rattle.mbe_pattern.specs.Spelling.{is_dollar, grammar_named, fragment_named, fragment_in, name_of, variable_in, repeat_kind_of, as_repeat_kind, is_separator, tail_in, is_parenthesis, repetition_in, is_crate_in, dollar_in};
+ghost use Rattle.mbe_pattern.specs.Spelling.{is_dollar, grammar_named, fragment_named, fragment_in, variable_in, repeat_kind_of, as_repeat_kind, tail_in, is_parenthesis, repetition_in, is_crate_in, is_token_before, dollar_in};
 ghost use Rattle.mbe_pattern.specs.Units.{front_leaves, first_unit};
 
 use crate::front::pass;
 use crate::pattern::{Fragment, GrammarFragment, RepeatKind, Variable};
 use crate::units::unit_size;
 use std::alloc::{AllocError, Global};
-use tt::{DelimiterKind, Ident, IdentIsRaw, Leaf, Symbol, TtElement, TtIter};
+use tt::{DelimiterKind, IdentIsRaw, Leaf, Symbol, TtElement, TtIter};
 
 /// What follows the inside of a repetition: a separator or none, and its kind.
 #[derive(Drop)]
@@ -25,8 +25,8 @@ pub struct Tail {
 pub(crate) enum Dollar {
     Variable(Variable),
     Repetition(Tail),
-    /// `$crate`.
-    CrateRoot,
+    /// The `$` is a token.
+    Token,
     Nothing,
 }
 
@@ -103,17 +103,6 @@ impl Fragment {
     }
 }
 
-// Returns the name that an ident gives; `_` gives none.
-fn name_of(ident: Ident) -> Option<Symbol>
-    ensures { result ≡ name_of ident }
-{
-    if ident.sym.as_str() == "_" {
-        None
-    } else {
-        Some(ident.sym)
-    }
-}
-
 // Returns the variable whose `$` precedes these siblings.
 fn variable_in(mut siblings: TtIter<'_>) -> Option<Variable>
     ensures { result ≡ variable_in (rest_of siblings.entry) }
@@ -122,7 +111,7 @@ fn variable_in(mut siblings: TtIter<'_>) -> Option<Variable>
     siblings.expect_char(':').ok()?;
     let fragment = Fragment::named(&siblings.expect_ident_or_underscore().ok()?.sym)?;
     Some(Variable {
-        name: name_of(ident),
+        name: ident.sym,
         fragment,
     })
 }
@@ -145,16 +134,6 @@ fn as_repeat_kind(leaves: &[Leaf]) -> Option<RepeatKind>
     }
 }
 
-// Returns whether a token separates: it is there, and is not `$`.
-fn is_separator(leaves: &[Leaf]) -> bool
-    ensures { result ≡ is_separator leaves.now }
-{
-    match leaves.first() {
-        Some(leaf) => !is_dollar(leaf),
-        None => false,
-    }
-}
-
 // Returns the tail at the front, if there is one.
 fn tail_in(alloc: Global, mut siblings: TtIter<'_>) -> Result<Option<Tail>, AllocError>
     ensures { IfOk result (λ tail. option_map tail_of tail ≡ tail_in (rest_of siblings.entry)) }
@@ -166,7 +145,7 @@ fn tail_in(alloc: Global, mut siblings: TtIter<'_>) -> Result<Option<Tail>, Allo
             kind,
         }));
     }
-    if !is_separator(&token) {
+    if token.is_empty() {
         return Ok(None);
     }
     pass(&mut siblings, token.len());
@@ -209,6 +188,13 @@ pub fn is_crate_in(mut siblings: TtIter<'_>) -> bool
     }
 }
 
+// Returns whether a `$` before these siblings is a token: `crate` follows it, or nothing.
+fn is_token_before(siblings: TtIter<'_>) -> bool
+    ensures { result ≡ is_token_before (rest_of siblings.entry) }
+{
+    is_crate_in(siblings.remaining().iter()) || siblings.is_empty()
+}
+
 /// Returns what a `$` before these siblings begins.
 pub(crate) fn dollar_in(alloc: Global, siblings: TtIter<'_>) -> Result<Dollar, AllocError>
     ensures { IfOk result (λ dollar. dollar_of dollar ≡ dollar_in (rest_of siblings.entry)) }
@@ -216,8 +202,8 @@ pub(crate) fn dollar_in(alloc: Global, siblings: TtIter<'_>) -> Result<Dollar, A
     if let Some(tail) = repetition_in(alloc, siblings.remaining().iter())? {
         return Ok(Dollar::Repetition(tail));
     }
-    if is_crate_in(siblings.remaining().iter()) {
-        return Ok(Dollar::CrateRoot);
+    if is_token_before(siblings.remaining().iter()) {
+        return Ok(Dollar::Token);
     }
     match variable_in(siblings) {
         Some(variable) => Ok(Dollar::Variable(variable)),

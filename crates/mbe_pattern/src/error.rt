@@ -7,7 +7,7 @@ use thiserror::Error;
 /// Why trees are no pattern. A number is the flat place of a `$`: how many tokens precede it, at any depth.
 #[derive(Debug, Clone, Copy, PartialEq, Eq, Error)]
 pub enum PatternError {
-    /// The `$` begins nothing. What follows it is neither a name, `:` and an ident, parentheses with `*`, `+` or `?`, or `crate`.
+    /// The `$` begins nothing. What follows it is neither a name, `:` and an ident, nor parentheses with `*`, `+` or `?`, nor `crate`, nor the end.
     #[error("the `$` begins nothing")]
     BeginsNothing(usize),
     /// No fragment has the name that the variable gives.

@@ -76,7 +76,7 @@ fn dollar_first<'p>(
             }
             Err(()) => unreachable!(),
         },
-        Dollar::CrateRoot => Ok(First::Token(1)),
+        Dollar::Token => Ok(First::Token(1)),
         Dollar::Nothing => {
             let fault = fault_in(at, siblings.remaining().iter());
             Ok(First::Wrong(fault, dollar))

@@ -10,13 +10,13 @@ use tt::Symbol;
 pub enum Fragment {
     /// An ident other than `_`.
     Ident,
-    /// A literal, a truth value, or a number after `-`.
+    /// A literal or a truth value, which may stand after `-`.
     Literal,
     /// A `'` and its ident.
     Lifetime,
     /// A subtree in braces.
     Block,
-    /// A visibility, which may be nothing.
+    /// A visibility, or nothing before any tree.
     Vis,
     /// Any token or subtree.
     Tt,
@@ -24,10 +24,10 @@ pub enum Fragment {
     Grammar(GrammarFragment),
 }
 
-/// A variable of a pattern. A variable written as `_` has no name.
+/// A variable of a pattern. Its name may be `_`.
 #[derive(Drop)]
 pub struct Variable {
-    pub name: Option<Symbol>,
+    pub name: Symbol,
     pub fragment: Fragment,
 }
 

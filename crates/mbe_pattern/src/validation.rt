@@ -66,15 +66,12 @@ fn separator_fault(at: usize, tail: &Tail) -> Option<PatternError>
 // Returns the fault if an earlier variable has the name of the variable at that place. Adds the name to the names.
 fn name_fault(
     at: usize,
-    name: Option<Symbol>,
+    name: Symbol,
     names: &mut IndexSet<Symbol>,
 ) -> Result<Option<PatternError>, AllocError>
     ensures fault { IfOk result (λ fault. fault ≡ name_fault at name names.old.keys) }
     ensures names { IfOk result (λ _. names.new.keys ≡ names_with name names.old.keys) }
 {
-    let Some(name) = name else {
-        return Ok(None);
-    };
     if names.insert(name)? {
         Ok(None)
     } else {
@@ -219,8 +216,8 @@ impl<'p> Validation<'p> {
         self.fault = or_else(self.fault, fault);
     }
 
-    // Adds a variable's name, if it has one.
-    fn name(&mut self, at: usize, name: Option<Symbol>) -> Result<(), AllocError>
+    // Adds a variable's name.
+    fn name(&mut self, at: usize, name: Symbol) -> Result<(), AllocError>
         ensures { OnOk result (state_of self.new ≡ with_name at name (state_of self.old)) }
     {
         let fault = name_fault(at, name, &mut self.names)?;
@@ -296,8 +293,8 @@ fn first_fault(alloc: Global, trees: TtIter<'_>) -> Result<Option<PatternError>,
 
 /// Checks that the trees spell a pattern without faults.
 ///
-/// Each name is given once. Each `$` begins something whose fragment is supported. The parts of a repetition may not all take no tree, and
-/// a repetition that never has two rounds has no separator.
+/// Each name is given once. Each `$` begins something whose fragment is known, or is a token. The parts of a repetition may not all take no
+/// tree, and a repetition that never has two rounds has no separator.
 ///
 /// Time and memory are linear in the number of tokens. Returns the first fault in reading order; fails also if memory runs out.
 pub fn validate(alloc: Global, trees: TtIter<'_>) -> Result<(), PatternError>

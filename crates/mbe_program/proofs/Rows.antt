@@ -1,5 +1,5 @@
 -- Worked programs and their runs, each instruction at least once, and worked positions.
-use Rattle.std.proofs.Common.{◌≡◌, inl, inr, zero, suc, List, [], ◌∷◌, Some, codes, refl}
+use Rattle.std.proofs.Common.{◌≡◌, inl, inr, zero, suc, List, [], ◌∷◌, codes, refl}
 use Rattle.tt.specs.Forest.{end}
 use Rattle.tt.specs.Types.DelimiterKind.TheVariants.{Parenthesis}
 use Rattle.tt.specs.Types.Leaf.{Leaf}
@@ -21,7 +21,7 @@ use Rattle.mbe_program.specs.Variables.{variable_at, variables_in}
 
 -- the variable `$x:ident`, and the token `,`
 abbrev x : Variable
-x = record { name = Some (codes "x"); fragment = fragment.Ident }
+x = record { name = codes "x"; fragment = fragment.Ident }
 
 abbrev a_comma : List Leaf
 a_comma = punct 44 Alone ∷ []

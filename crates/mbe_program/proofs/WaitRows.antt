@@ -16,7 +16,7 @@ use Rattle.mbe_program.specs.Program.{program_of}
 
 -- the variable `$x:ident`
 abbrev x : Variable
-x = record { name = Some (codes "x"); fragment = fragment.Ident }
+x = record { name = codes "x"; fragment = fragment.Ident }
 
 -- `($x:ident)` has four parts: the beginning of the subtree, the variable, the end of the subtree, and the end of the input.
 inside_row : parts_of (subtree Parenthesis (variable x nothing) nothing) ≡ 0 ∷ 1 ∷ 2 ∷ 3 ∷ []

@@ -33,11 +33,11 @@ fn punct(char: char) -> Leaf {
 }
 
 // The instruction that takes one tree.
-fn take() -> Instruction {
-    Instruction::Take(Variable {
-        name: None,
+fn take(alloc: Global) -> Result<Instruction, TtFault> {
+    Ok(Instruction::Take(Variable {
+        name: Symbol::new(alloc, "x")?,
         fragment: Fragment::Tt,
-    })
+    }))
 }
 
 // What a run answers: `none` with the farthest place, `one` with the number of marks, or `two`.
@@ -73,7 +73,7 @@ fn answer_to<const N: usize>(
 fn a_run_ends_or_stops(rt: HostRuntime) -> Result<(), Fail> {
     let alloc = rt.alloc();
     let program = vec![in alloc;
-        take(),
+        take(alloc)?,
         Instruction::Pass(vec![in alloc; punct(',')]?),
         Instruction::Leave,
     ]?;
@@ -100,10 +100,10 @@ fn runs_are_counted(rt: HostRuntime) -> Result<(), Fail> {
     let alloc = rt.alloc();
     let program = vec![in alloc;
         Instruction::Begin(RepeatKind::ZeroOrMore, 6, 4),
-        take(),
+        take(alloc)?,
         Instruction::Close(RepeatKind::ZeroOrMore, 6),
         Instruction::Begin(RepeatKind::ZeroOrMore, 3, 1),
-        take(),
+        take(alloc)?,
         Instruction::Close(RepeatKind::ZeroOrMore, 3),
         Instruction::Leave,
     ]?;
@@ -131,7 +131,7 @@ fn parts_wait(rt: HostRuntime) -> Result<(), Fail> {
     let program = vec![in alloc;
         Instruction::Begin(RepeatKind::ZeroOrMore, 4, 2),
         Instruction::Pass(vec![in alloc; punct(',')]?),
-        take(),
+        take(alloc)?,
         Instruction::Close(RepeatKind::ZeroOrMore, 5),
         Instruction::Pass(vec![in alloc; punct('.')]?),
         Instruction::Leave,
@@ -220,10 +220,7 @@ fn write_leaves(text: &mut String, leaves: &[Leaf]) -> Result<(), AllocError> {
 
 // Writes behind a text that a variable takes trees.
 fn write_take(text: &mut String, variable: &Variable) -> Result<(), AllocError> {
-    match &variable.name {
-        Some(name) => write!(text, "take {name}; "),
-        None => write!(text, "take _; "),
-    }
+    write!(text, "take {}; ", variable.name)
 }
 
 // Writes behind a text that a token of these leaves is passed.

@@ -51,25 +51,28 @@ y = codes "y"
 abbrev z : List ℕ
 z = codes "z"
 
--- a variable without a name
-abbrev nameless : Variable
-nameless = record { name = None; fragment = fragment.Tt }
+-- a variable that is named `_`
+abbrev underscore : Variable
+underscore = record { name = codes "_"; fragment = fragment.Tt }
 
--- variables of those names, in no repetition, in one, and in two; and one without a name
+-- variables of those names, in no repetition, in one, and in two; and one that is named `_`
 abbrev variable : List ℕ → List ℕ → Where
-variable name nest = record { variable = record { name = Some name; fragment = fragment.Tt }; number = 0; nest = nest }
+variable name nest = record { variable = record { name = name; fragment = fragment.Tt }; number = 0; nest = nest }
 
 abbrev variables : List Where
-variables = record { variable = nameless; number = 0; nest = [] } ∷ variable x [] ∷ variable y (1 ∷ []) ∷ variable z (1 ∷ 2 ∷ []) ∷ []
+variables = record { variable = underscore; number = 0; nest = [] } ∷ variable x [] ∷ variable y (1 ∷ []) ∷ variable z (1 ∷ 2 ∷ []) ∷ []
 
--- `$x` is a use, and `$r#x` too.
+-- `$x` is a use, `$r#x` too, and so is `$_`.
 use_spelled : template_of variables (alone 36 (word x (alone 59 end))) ≡ use_of 0 1 false (token (punct 59 Alone) nothing)
 use_spelled = refl
 
 raw_spelled : template_of variables (alone 36 (raw_word x end)) ≡ use_of 0 1 false nothing
 raw_spelled = refl
 
--- `$a`, `$crate` and `$_` stay as they are, and so does a `$` at the end.
+underscore_spelled : template_of variables (alone 36 (word (codes "_") end)) ≡ use_of 0 0 false nothing
+underscore_spelled = refl
+
+-- `$a` and `$crate` stay as they are, and so do `$_` if no variable is named `_`, and a `$` at the end.
 abbrev dollar_leaf : Template → Template
 dollar_leaf others = token (punct 36 Alone) others
 
@@ -79,7 +82,7 @@ unknown_stays = refl
 crate_stays : template_of variables (alone 36 (word (codes "crate") end)) ≡ dollar_leaf (token (ident (codes "crate")) nothing)
 crate_stays = refl
 
-underscore_stays : template_of variables (alone 36 (word (codes "_") end)) ≡ dollar_leaf (token (ident (codes "_")) nothing)
+underscore_stays : template_of (variable x [] ∷ []) (alone 36 (word (codes "_") end)) ≡ dollar_leaf (token (ident (codes "_")) nothing)
 underscore_stays = refl
 
 last_stays : template_of variables (alone 36 end) ≡ dollar_leaf nothing
@@ -89,7 +92,7 @@ last_stays = refl
 second_used : template_of variables (alone 36 (alone 36 (word x end))) ≡ dollar_leaf (use_of 1 1 false nothing)
 second_used = refl
 
--- `$($y),*` and `$($y)+`; `$($y)` is no repetition, and neither is `$[$y]*`.
+-- `$($y),*`, `$($y)+` and `$($y)$*`; `$($y)` is no repetition, and neither is `$[$y]*`.
 list_spelled : template_of variables (rounds (alone 36 (word y end)) (alone 44 (alone 42 (word x end))))
     ≡ repetition 0 (use_of 2 2 false nothing) (punct 44 Alone ∷ []) repeat.ZeroOrMore (token (ident x) nothing)
 list_spelled = refl
@@ -97,6 +100,10 @@ list_spelled = refl
 more_spelled : template_of variables (rounds (alone 36 (word y end)) (alone 43 end))
     ≡ repetition 0 (use_of 2 2 false nothing) [] repeat.OneOrMore nothing
 more_spelled = refl
+
+dollar_separates : template_of variables (rounds (alone 36 (word y end)) (alone 36 (alone 42 end)))
+    ≡ repetition 0 (use_of 2 2 false nothing) (punct 36 Alone ∷ []) repeat.ZeroOrMore nothing
+dollar_separates = refl
 
 no_tail : template_of variables (rounds (alone 36 (word y end)) end)
     ≡ dollar_leaf (held_by (delimiter Parenthesis (span 0 1) (span 1 1)) (use_of 2 2 false nothing) nothing)
@@ -157,23 +164,29 @@ abbrev b_tree : Forest
 b_tree = word (codes "b") end
 
 abbrev bind : List ℕ → Bound → Named
-bind name bound = record { variable = record { name = Some name; fragment = fragment.Tt }; bound = bound }
+bind name bound = record { variable = record { name = name; fragment = fragment.Tt }; bound = bound }
 
 abbrev binding : Binding
 binding =
-    record { variable = nameless; bound = one b_tree } ∷ bind x (one a_tree) ∷ bind y (first (one a_tree) (first (one b_tree) none))
+    record { variable = underscore; bound = one b_tree } ∷ bind x (one a_tree) ∷ bind y (first (one a_tree) (first (one b_tree) none))
     ∷ bind z (first (first (one a_tree) none) (first none none)) ∷ []
 
 -- what trees become
 abbrev becomes : Binding → Forest → Transcribed
 becomes bound trees = transcribed (template_of variables trees) bound
 
--- `$x;`, `$($y),*` and `$($x $y)*`
+-- `$x;`, `$($y),*`, `$($y)$*`, `$_` and `$($x $y)*`
 use_transcribed : becomes binding (alone 36 (word x (alone 59 end))) ≡ all_transcribed (word (codes "a") (alone 59 end))
 use_transcribed = refl
 
 list_transcribed : becomes binding (rounds (alone 36 (word y end)) (alone 44 (alone 42 end))) ≡ all_transcribed (word (codes "a") (alone 44 (word (codes "b") end)))
 list_transcribed = refl
+
+dollars_transcribed : becomes binding (rounds (alone 36 (word y end)) (alone 36 (alone 42 end))) ≡ all_transcribed (word (codes "a") (alone 36 (word (codes "b") end)))
+dollars_transcribed = refl
+
+underscore_transcribed : becomes binding (alone 36 (word (codes "_") end)) ≡ all_transcribed (word (codes "b") end)
+underscore_transcribed = refl
 
 outer_transcribed : becomes binding (rounds (alone 36 (word x (alone 36 (word y end)))) (alone 42 end))
     ≡ all_transcribed (word (codes "a") (word (codes "a") (word (codes "a") (word (codes "b") end))))
@@ -186,7 +199,7 @@ nested_transcribed = refl
 
 -- `+` requires a round; and `$y` and `$z` must have the same number of rounds.
 abbrev empty : Binding
-empty = record { variable = nameless; bound = one b_tree } ∷ bind x (one a_tree) ∷ bind y none ∷ bind z (first none none) ∷ []
+empty = record { variable = underscore; bound = one b_tree } ∷ bind x (one a_tree) ∷ bind y none ∷ bind z (first none none) ∷ []
 
 none_wanted : becomes empty (rounds (alone 36 (word y end)) (alone 43 end)) ≡ record { trees = end; fault = Some (no_round 0) }
 none_wanted = refl
@@ -253,7 +266,7 @@ joint_bound = refl
 -- What a fragment of Rust's grammar took: an expression of more than one token becomes one opaque subtree with the spans of its ends. A
 -- single token is written as it is, and so is a path.
 abbrev bound_as : Fragment → Forest → Binding
-bound_as which trees = record { variable = record { name = Some x; fragment = which }; bound = one trees } ∷ []
+bound_as which trees = record { variable = record { name = x; fragment = which }; bound = one trees } ∷ []
 
 -- `a + b`, with these spans of `a` and `b`
 abbrev sum : Forest

@@ -1,13 +1,12 @@
 -- What template trees spell.
-use Rattle.std.specs.Prelude.{◌-◌, ℕ, zero, suc, Bool, true, false, List, [], ◌∷◌, Option, None, Some, codes, if◌then◌else◌}
+use Rattle.std.specs.Prelude.{◌-◌, ℕ, zero, suc, Bool, true, false, List, [], ◌∷◌, Option, None, Some, bytes_eq, codes, if◌then◌else◌}
 use Rattle.std.specs.List.{position}
 use Rattle.tt.specs.Building.{leaf_alone}
-use Rattle.tt.specs.Expectations.{first_leaf_as, as_ident_or_underscore, unless_underscore}
+use Rattle.tt.specs.Expectations.{first_leaf_as, as_ident_or_underscore}
 use Rattle.tt.specs.Forest.{Forest, end, leaf, node, size}
 use Rattle.tt.specs.Moves.{after_tree}
 use Rattle.tt.specs.Types.Ident.{Ident}
 use Rattle.tt.specs.Types.Leaf.{Leaf}
-use Rattle.mbe_matcher.specs.Bindings.{is_name}
 use Rattle.mbe_matcher.specs.Grouping.{Where}
 use Rattle.mbe_pattern.specs.Spelling.{Tail, tail_length, repetition_in, is_crate_in, is_dollar}
 use Rattle.mbe_pattern.specs.Units.{is_at_punct}
@@ -16,15 +15,15 @@ use Rattle.mbe_rules.specs.Templates as template
 
 -- this is the variable of that name
 abbrev pub has_name : List ℕ → Where → Bool
-has_name text it = is_name text it.variable.name
+has_name text it = bytes_eq text it.variable.name
 
--- the index of the first variable that an ident names, raw or not
+-- the index of the first variable that an ident names, raw or not; `_` is a name
 abbrev pub variable_from : List Where → Option Ident → Option ℕ
 variable_from variables None = None
 variable_from variables (Some it) = position (has_name it.sym) variables
 
 abbrev pub variable_in : List Where → Forest → Option ℕ
-variable_in variables siblings = variable_from variables (unless_underscore (first_leaf_as as_ident_or_underscore siblings))
+variable_in variables siblings = variable_from variables (first_leaf_as as_ident_or_underscore siblings)
 
 -- what a `$` begins in a template
 pub data Mark : Type 0 where

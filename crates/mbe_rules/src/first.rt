@@ -39,10 +39,7 @@ pub(crate) enum Mark {
 fn has_name(binder: &Binder, name: &Symbol) -> bool
     ensures { result ≡ has_name name.now (where_of binder.now) }
 {
-    match &binder.name {
-        Some(other) => name.as_str() == other.as_str(),
-        None => false,
-    }
+    name.as_str() == binder.name.as_str()
 }
 
 // Returns the index of the first variable of that name.
@@ -56,7 +53,7 @@ fn named(binders: &[Binder], name: &Symbol) -> Option<usize>
 fn variable_in(binders: &[Binder], mut siblings: TtIter<'_>) -> Option<usize>
     ensures { result ≡ variable_in (map where_of binders.now) (rest_of siblings.entry) }
 {
-    let ident = siblings.expect_ident().ok()?;
+    let ident = siblings.expect_ident_or_underscore().ok()?;
     named(binders, &ident.sym)
 }
 

@@ -42,8 +42,8 @@ fn numbered(alloc: Global, word: &str, number: usize) -> Option<String> {
 // The first arm that takes the input answers, in the brackets of its template. If it takes the input in two ways, or its
 // template is not filled, no later arm answers.
 // A list, a tail, words that are not variables, and common forms of macros: a map, a count by recursion, an enum with a visibility and
-// values, lists in lists, a loop with its lifetime, a macro that is handed on.
-const EXPANSIONS: [(&str, &str, &str); 25] = [
+// values, lists in lists, a loop with its lifetime, a macro that is handed on; `$_`, a `$` between rounds and a last one.
+const EXPANSIONS: [(&str, &str, &str); 28] = [
     ("() => {}", "", "{0"),
     ("() => {a};", "", "{1a "),
     ("[] => (a b)", "", "(2a b "),
@@ -113,13 +113,18 @@ const EXPANSIONS: [(&str, &str, &str); 25] = [
         "f!(1, 2)",
         "{7f ! (4begin 1 , 2 ",
     ),
+    ("($_:tt $x:tt) => {$x $_}", "a b", "{2b a "),
+    ("($($x:ident)$*) => {[$($x)$+]}", "a $ b", "{4[3a $ b "),
+    ("(a $) => {b $}", "a $", "{2b $ "),
 ];
 
 // What a fragment took: an expression, a type, a pattern or a literal of more than one token is one subtree. Others are the trees as they
 // are.
-const PIECES: [(&str, &str, &str); 12] = [
+const PIECES: [(&str, &str, &str); 14] = [
     ("($x:literal) => {$x.pow(2)}", "-3", "{7<2- 3 . pow (12 "),
     ("($x:literal) => {$x.pow(2)}", "3", "{53 . pow (12 "),
+    ("($x:literal) => {$x;}", "- true", "{4<2- true ; "),
+    ("($x:literal) => {$x;}", "- \"s\"", "{4<2- s ; "),
     ("($e:expr) => {$e * 2}", "a + b", "{6<3a + b * 2 "),
     ("($e:expr) => {$e * 2}", "a", "{3a * 2 "),
     (
@@ -168,9 +173,9 @@ fn told_again(alloc: Global, arms: &str, input: &str, others: &str) -> Option<St
     }
 }
 
-// A subtree of a fragment is taken as one: by `tt`, and by its own fragment, which then writes it as it is, or as a part of more. A negative
+// A subtree of a fragment is taken as one: by `tt`, and by its own fragment, which then writes it as it is, or as a part of more. A negated
 // literal is taken so by `literal`, `expr` and `pat`, whether a `literal` or an `expr` took it first.
-const AGAIN: [(&str, &str, &str, &str); 14] = [
+const AGAIN: [(&str, &str, &str, &str); 16] = [
     (
         "($e:expr) => {$e * 2}",
         "a + b",
@@ -248,6 +253,18 @@ const AGAIN: [(&str, &str, &str, &str); 14] = [
         "3",
         "($y:literal) => {$y;}",
         "{4<2- 3 ; ",
+    ),
+    (
+        "($x:expr) => {$x}",
+        "- true",
+        "($y:literal) => {$y;}",
+        "{4<2- true ; ",
+    ),
+    (
+        "($x:literal) => {-$x}",
+        "true",
+        "($y:literal) => {$y;}",
+        "{4<2- true ; ",
     ),
     (
         "($($x:literal),*) => {$($x)*}",

@@ -18,9 +18,16 @@ fn is_told(alloc: Global, sound: &str, faulty: &str, fault: PatternError) -> Opt
 
 // A sound pattern, a faulty one, and its fault: a `$` that begins nothing, unknown fragments, a name that is given twice, repetitions that
 // may take no tree, a separator before `?`; and the first of several.
-const FAULTS: [(&str, &str, PatternError); 60] = [
-    ("a", "$", PatternError::BeginsNothing(0)),
+const FAULTS: [(&str, &str, PatternError); 71] = [
+    ("$", "$$", PatternError::BeginsNothing(0)),
     ("$crate", "$$crate", PatternError::BeginsNothing(0)),
+    ("a $", "a $+", PatternError::BeginsNothing(1)),
+    ("$", "$1", PatternError::BeginsNothing(0)),
+    ("[$] a", "[$ \"b\"] a", PatternError::BeginsNothing(1)),
+    ("$($x:tt)*", "${count(x)}", PatternError::BeginsNothing(0)),
+    ("$x:tt", "$'x:tt", PatternError::BeginsNothing(0)),
+    ("$self:tt", "$self", PatternError::BeginsNothing(0)),
+    ("$x:tt:b", "$x::tt", PatternError::BeginsNothing(0)),
     ("$x:tt", "$x", PatternError::BeginsNothing(0)),
     ("$x:tt", "$x tt", PatternError::BeginsNothing(0)),
     ("$x:tt", "$x:", PatternError::BeginsNothing(0)),
@@ -30,14 +37,17 @@ const FAULTS: [(&str, &str, PatternError); 60] = [
     ("[$x:tt]", "[$x]", PatternError::BeginsNothing(1)),
     (
         "(a [b] c) $x:tt",
-        "(a [b] c) $",
+        "(a [b] c) $[b]",
         PatternError::BeginsNothing(5),
     ),
     ("$(a)*", "$(a)", PatternError::BeginsNothing(0)),
     ("$(a)+", "$(a);", PatternError::BeginsNothing(0)),
     ("$(a)*", "$[a]*", PatternError::BeginsNothing(0)),
-    ("$(a)**", "$(a)$*", PatternError::BeginsNothing(0)),
-    ("$(a)**", "$(a)*$", PatternError::BeginsNothing(4)),
+    ("$(a)$*", "$(a)$", PatternError::BeginsNothing(0)),
+    ("$(a)$*", "$(a)$$*", PatternError::BeginsNothing(0)),
+    ("$(a)*$", "$(a)*$*", PatternError::BeginsNothing(4)),
+    ("$(a)=>*", "$(a)= >*", PatternError::BeginsNothing(0)),
+    ("$(a)'b*", "$(a)[b]*", PatternError::BeginsNothing(0)),
     ("$($x:tt)*", "$($x)*", PatternError::BeginsNothing(2)),
     ("$x:tt", "$x:foo", PatternError::UnknownFragment(0)),
     ("$x:ident", "$x:Ident", PatternError::UnknownFragment(0)),
@@ -74,8 +84,8 @@ const FAULTS: [(&str, &str, PatternError); 60] = [
     ("$x:tt $y:tt", "$x:tt $x:tt", PatternError::NameTwice(4)),
     ("$x:tt $r#y:tt", "$x:tt $r#x:tt", PatternError::NameTwice(4)),
     (
-        "$_:tt $_:tt",
-        "$a:tt $_:tt $a:ident",
+        "$_:tt $a:tt",
+        "$_:tt $a:tt $_:ident",
         PatternError::NameTwice(8),
     ),
     (
@@ -90,6 +100,7 @@ const FAULTS: [(&str, &str, PatternError); 60] = [
     ),
     ("$(a)?", "$(a),?", PatternError::NeedlessSeparator(0)),
     ("$(a),+", "$(a),?", PatternError::NeedlessSeparator(0)),
+    ("$(a)$+", "$(a)$?", PatternError::NeedlessSeparator(0)),
     ("b $(a)=>*", "b $(a)=>?", PatternError::NeedlessSeparator(1)),
     ("$(())*", "$()*", PatternError::EmptyRepetition(0)),
     ("$($(a)+),*", "$($(a)*),*", PatternError::EmptyRepetition(0)),
@@ -120,7 +131,7 @@ const FAULTS: [(&str, &str, PatternError); 60] = [
         "a $($($(a)*)+)* b",
         PatternError::EmptyRepetition(1),
     ),
-    ("$(a)* b", "$()* $", PatternError::EmptyRepetition(0)),
+    ("$(a)* b", "$()* $$", PatternError::EmptyRepetition(0)),
     ("$crate $(a)*", "$ $()*", PatternError::BeginsNothing(0)),
     (
         "$($(a)* $x:tt)*",
@@ -129,12 +140,12 @@ const FAULTS: [(&str, &str, PatternError); 60] = [
     ),
     (
         "$($x:expr $(b)*)? c",
-        "$($x:exp $(b)*)? $",
+        "$($x:exp $(b)*)? $$",
         PatternError::UnknownFragment(2),
     ),
     (
         "$(a $(b)*)* c",
-        "$(a $()*)* $",
+        "$(a $()*)* $$",
         PatternError::EmptyRepetition(3),
     ),
     ("$($(a)+)*", "$($()*)*", PatternError::EmptyRepetition(0)),

@@ -8,10 +8,7 @@ use std::test::Fail;
 
 // Returns the name of the variable with that number.
 fn name_of(binders: &[Binder], number: usize) -> Option<&str> {
-    match &binders.get(number)?.name {
-        Some(name) => Some(name.as_str()),
-        None => None,
-    }
+    Some(binders.get(number)?.name.as_str())
 }
 
 // Returns the text for the end of a repetition: with `,` if it has a separator.
@@ -61,8 +58,8 @@ fn has_parts(alloc: Global, pattern: &str, template: &str, parts: &str) -> Optio
 }
 
 // Uses, in repetitions and subtrees; names that are no variables, `$crate`, `$_`, a `$` before nothing and before itself; raw names;
-// repetitions without a tail, in other brackets, and with `$` as a separator.
-const PARTS: [(&str, &str, &str); 24] = [
+// repetitions without a tail, in other brackets, and with `$` as a separator, which two `$` are not.
+const PARTS: [(&str, &str, &str); 27] = [
     ("", "", "} "),
     ("$x:tt", "$x", "$x } "),
     ("$x:tt", "$x;", "$x t } "),
@@ -71,7 +68,9 @@ const PARTS: [(&str, &str, &str); 24] = [
     ("$x:tt", "$y", "t t } "),
     ("$x:tt", "$crate", "t t } "),
     ("$x:tt", "$crate::$x", "t t t t $x } "),
-    ("$_:tt", "$_", "t t } "),
+    ("$_:tt", "$_", "$_ } "),
+    ("$x:tt", "$_", "t t } "),
+    ("$($_:tt)*", "$($_)*", "( $_ )* } "),
     ("$x:tt", "a $", "t t } "),
     ("$x:tt", "$$x", "t $x } "),
     ("$r#x:tt", "$x", "$x } "),
@@ -94,7 +93,8 @@ const PARTS: [(&str, &str, &str); 24] = [
     ),
     ("$x:tt", "$($x)", "t { $x } } "),
     ("$x:tt", "$[$x]*", "t { $x } t } "),
-    ("$x:tt", "$($x)$*", "t { $x } t t } "),
+    ("$($x:tt)*", "$($x)$*", "( $x ),* } "),
+    ("$x:tt", "$($x)$$*", "t { $x } t t t } "),
 ];
 
 fn are_parts(alloc: Global) -> bool {

@@ -11,8 +11,7 @@ fn push_part(text: &mut String, part: Part<'_>) -> Option<()> {
     match part {
         Part::Take(variable) => {
             text.push('$').ok()?;
-            let name = variable.name.as_ref()?;
-            text.push_str(name.as_str()).ok()
+            text.push_str(variable.name.as_str()).ok()
         }
         Part::Same(leaves) => {
             for leaf in leaves {
@@ -57,8 +56,8 @@ fn waiting_text(alloc: Global, arms: &str, input: &str) -> Option<String> {
 }
 
 // A token, a fragment, a subtree and its end; the first part of another round, a separator and what follows a repetition; the end of the
-// input; arms that come equally far; a part that takes nothing; fragments that fail behind their first tree.
-const WAITING: [(&str, &str, &str); 17] = [
+// input; arms that come equally far; a part that takes nothing, which an end does not allow; fragments that fail behind their first tree.
+const WAITING: [(&str, &str, &str); 19] = [
     ("(a b) => {}", "a c", "0b "),
     ("(a => b) => {}", "a = b", "0=> "),
     ("(a $x:ident) => {}", "a ,", "0$x "),
@@ -74,6 +73,8 @@ const WAITING: [(&str, &str, &str); 17] = [
     ("(a b) => {}; (c) => {}; (a d) => {}", "a e", "0b 2d "),
     ("($(a)? $(b)? $(c)? $(d)? e) => {}", "f", "0a 0b 0c 0d 0e "),
     ("($v:vis $x:ident) => {}", ",", "0$x "),
+    ("($v:vis $x:ident) => {}", "", "0$v "),
+    ("(a [$v:vis]) => {}", "a []", "0$v "),
     ("($x:literal ;) => {}", "-a;", "0$x "),
     ("(a $t:ty) => {}", "a &", "0$t "),
 ];

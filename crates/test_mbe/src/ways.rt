@@ -33,7 +33,7 @@ fn stop(alloc: Global, pattern: &str, input: &str) -> Option<usize> {
 // Before the first token, after some, in a subtree, at its end, after it; after a round, after a separator, in a round and in a repetition
 // of it; if one of two ways gets farther; before a token whose beginning alone the input has; after a `vis` that takes nothing, and after
 // one that takes three tokens; if nothing is left; after an expression, and before something that is none.
-const STOPS: [(&str, &str, usize); 28] = [
+const STOPS: [(&str, &str, usize); 30] = [
     ("", "a", 0),
     ("a", "", 0),
     ("a", "b", 0),
@@ -56,6 +56,8 @@ const STOPS: [(&str, &str, usize); 28] = [
     ("a = b", "a == b", 1),
     ("a == b", "a == c", 3),
     ("$v:vis struct", "enum", 0),
+    ("a [$v:vis] b", "a [] b", 2),
+    ("$x:literal", "- a", 0),
     ("$v:vis struct", "pub(crate) enum", 3),
     ("$x:lifetime b", "'a c", 2),
     ("$e:expr;", "a + b", 3),
@@ -73,9 +75,9 @@ fn are_stopped(alloc: Global) -> bool {
     true
 }
 
-// A list with a comma at its end or none, options given twice, fragments, subtrees, nested repetitions, names, and `$crate`; visibilities,
-// which may be empty, next to each other and at the end of rounds.
-const WAYS: [(&str, &str, usize); 101] = [
+// A list with a comma at its end or none, options given twice, fragments, subtrees, nested repetitions, names, `$crate`, a last `$` and one
+// between rounds; comments; visibilities, which may be empty before a tree, next to each other and at the end of rounds.
+const WAYS: [(&str, &str, usize); 163] = [
     ("$($x:ident),* $(,)?", "", 1),
     ("$($x:ident),* $(,)?", "a", 1),
     ("$($x:ident),* $(,)?", "a, b,", 1),
@@ -135,7 +137,18 @@ const WAYS: [(&str, &str, usize); 101] = [
     ("{ $x:tt } $($rest:tt)*", "{ a b } c", 0),
     ("$_:ident", "a", 1),
     ("$_:ident", "_", 0),
-    ("$_:tt $_:tt", "a b", 1),
+    ("$_:tt $x:tt", "a b", 1),
+    ("$x:ident", "self", 1),
+    ("$x:ident", "r#if", 1),
+    ("$x:ident", "true", 1),
+    ("$x:ident", "'a", 0),
+    ("$x:ident", "$crate", 0),
+    ("$x:lifetime", "'_", 1),
+    ("$x:lifetime", "'static", 1),
+    ("$x:lifetime", "'r#if", 1),
+    ("$x:lifetime", "a", 0),
+    ("$x:tt", "'a", 1),
+    ("$x:tt: loop", "'a: loop", 1),
     ("$x:tt", "_", 1),
     ("$x:tt $y:tt", "a b", 1),
     ("$(a)?", "a a", 0),
@@ -144,14 +157,61 @@ const WAYS: [(&str, &str, usize); 101] = [
     ("$crate", "$crate", 1),
     ("$crate::a", "$crate::a", 1),
     ("$crate:ident", "a", 0),
+    ("$crate", "crate", 0),
+    ("$self:tt", "a", 1),
+    ("$", "$", 1),
+    ("$", "", 0),
+    ("a $", "a $", 1),
+    ("a $", "a", 0),
+    ("[$] a", "[$] a", 1),
+    ("$x:tt $", "a $", 1),
+    ("$($x:ident)$*", "", 1),
+    ("$($x:ident)$*", "a", 1),
+    ("$($x:ident)$*", "a $ b", 1),
+    ("$($x:ident)$*", "a b", 0),
+    ("$($x:ident)$+", "a $", 0),
+    ("$(a)*$", "a $", 1),
+    ("$(a)++", "a a +", 1),
+    ("$(a)?=", "a =", 1),
+    ("#[$m:meta] b", "/// a\n b", 1),
+    ("# $x:tt b", "/// a\n b", 1),
+    ("#[doc = $x:literal] b", "/// a\n b", 1),
+    ("#[doc = r\" a\"] b", "/// a\n b", 1),
+    ("#[doc = \" a\"] b", "/// a\n b", 0),
+    ("#![$m:meta] b", "//! a\n b", 1),
+    ("b", "/// a\n b", 0),
     ("==", "==", 1),
     ("==", "= =", 0),
     ("= =", "==", 0),
-    ("$x:literal", "- \"s\"", 0),
-    ("$x:literal", "- true", 0),
+    ("$x:literal", "- \"s\"", 1),
+    ("$x:literal", "- r\"s\"", 1),
+    ("$x:literal", "- b\"s\"", 1),
+    ("$x:literal", "- 'c'", 1),
+    ("$x:literal", "- true", 1),
+    ("$x:literal", "- false", 1),
+    ("$x:literal", "- r#true", 0),
+    ("$x:literal", "r#true", 0),
+    ("$x:literal", "- - 1", 0),
+    ("$x:literal", "- (1)", 0),
     ("$x:literal", "-", 0),
+    ("$x:literal", "_", 0),
+    ("$x:literal $y:tt", "- true b", 1),
+    ("- $x:literal", "- true", 1),
+    ("- $x:literal", "- - true", 1),
     ("$x:block", "{ 1; 2 }", 1),
-    ("$v:vis", "", 1),
+    ("$v:vis", "", 0),
+    ("$v:vis", "a", 0),
+    ("$x:ident $v:vis", "a", 0),
+    ("$x:ident $v:vis", "a pub", 1),
+    ("[$v:vis]", "[]", 0),
+    ("[$v:vis]", "[pub]", 1),
+    ("[$v:vis] a", "[] a", 0),
+    ("$v:vis, a", ", a", 1),
+    ("$v:vis $($x:ident)?", "", 0),
+    ("$v:vis $($x:ident)?", "pub", 1),
+    ("$v:vis $($x:ident)?", "a", 1),
+    ("$($v:vis a)*", "", 1),
+    ("$($v:vis a)*", "pub a a", 1),
     ("$v:vis", "pub", 1),
     ("$v:vis", "pub(crate)", 1),
     ("$v:vis", "pub(self)", 1),
@@ -170,11 +230,15 @@ const WAYS: [(&str, &str, usize); 101] = [
     ("$v:vis $w:vis a", "a", 1),
     ("$v:vis $w:vis", "pub pub", 1),
     ("$($v:vis $x:ident),*", "pub a, b", 1),
-    ("$($x:ident $v:vis)*", "a pub b", 1),
-    ("($v:vis) $w:vis", "() pub", 1),
-    ("$($v:vis $x:tt $w:vis)* $u:vis", "a", 1),
-    ("$(a $v:vis)* $w:vis", "a pub", 1),
-    ("$($(a $v:vis)+)*", "a a", 2),
+    ("$($x:ident $v:vis)*", "a pub b", 0),
+    ("$($x:ident $v:vis)*", "a b pub", 1),
+    ("($v:vis) $w:vis", "() pub", 0),
+    ("($v:vis) $w:vis", "(pub) pub", 1),
+    ("$($v:vis $x:tt $w:vis)* $u:vis", "a", 0),
+    ("$($v:vis $x:tt $w:vis)* $u:vis", "a pub pub", 1),
+    ("$(a $v:vis)* $w:vis", "a pub", 0),
+    ("$(a $v:vis)* $w:vis", "a pub pub", 1),
+    ("$($(a $v:vis)+)*", "a a pub", 2),
     ("$(a)? $v:vis b", "a b", 1),
     ("$v:vis $x:tt", "pub", 0),
 ];
@@ -227,10 +291,7 @@ fn is_bound(
 
 // Returns whether a variable has that name.
 fn is_named(binder: &Binder, name: &str) -> bool {
-    match &binder.name {
-        Some(text) => text.as_str() == name,
-        None => false,
-    }
+    binder.name.as_str() == name
 }
 
 // Returns whether the input is an instance in one way, with those idents for the variable of that name.

@@ -9,7 +9,7 @@ use Rattle.mbe_pattern.specs.Placed as placed
 use Rattle.mbe_pattern.specs.Spelling.{dollar_in}
 use Rattle.mbe_pattern.specs.Spelling as spelling
 use Rattle.mbe_pattern.specs.Dollars.{tail_of}
-use Rattle.mbe_pattern.proofs.FirstSteps.{node_there, placed_repetition, placed_crate, placed_wrong}
+use Rattle.mbe_pattern.proofs.FirstSteps.{node_there, placed_repetition, placed_alone, placed_wrong}
 use Rattle.mbe_pattern.proofs.FirstTrees.{node_before}
 use Rattle.mbe_pattern.proofs.Passing.{after_less}
 use Rattle.mbe_pattern.proofs.first.dollar_first.Goals as goal
@@ -56,12 +56,12 @@ unreachable-requires c =
     let none : is_at_node rest ≡ false = search rules in
     node_there rest tail (sym (found ∙ ap dollar_in seen)) none
 
-pub returns-in-CrateRoot-clause-part : goal.returns-in-CrateRoot-clause-part
-returns-in-CrateRoot-clause-part c =
+pub returns-in-Token-clause-part : goal.returns-in-Token-clause-part
+returns-in-Token-clause-part c =
     let rest = rest_of c.args.siblings.now in
     let seen : rest_of c.iter.result ≡ rest = search rules in
-    let found : spelling.crate_root ≡ dollar_in (rest_of c.iter.result) = search rules in
-    placed_crate c.args.until c.args.dollar rest c.requires (sym (found ∙ ap dollar_in seen))
+    let found : spelling.token ≡ dollar_in (rest_of c.iter.result) = search rules in
+    placed_alone c.args.until c.args.dollar rest c.requires (sym (found ∙ ap dollar_in seen))
 
 pub returns-in-Nothing-clause-part : goal.returns-in-Nothing-clause-part
 returns-in-Nothing-clause-part c =
