@@ -106,6 +106,8 @@ module _ (most : Option ℕ) (delimiter : Delimiter) (it : Transcribed) (none : 
 -- The error that stops the filling is the right one.
 pub stop_is_error : (most : Option ℕ) (delimiter : Delimiter) (it : Transcribed) (error : TranscribeError) → IsStop most (written_of it) error
     → IsTranscribeError most delimiter it error
+stop_is_error most delimiter it (refusal.StillRepeats at) stop = stop
+stop_is_error most delimiter it (refusal.NothingRepeats at) stop = stop
 stop_is_error most delimiter it (refusal.LengthsDiffer at) stop = stop
 stop_is_error most delimiter it (refusal.NoRound at) stop = stop
 stop_is_error most delimiter it refusal.OverLimit stop = stop

@@ -1,6 +1,6 @@
 -- What is written grows, or an error is returned.
 use Rattle.std.proofs.Common.{◌≡◌, ◌+◌, ◌<◌, ◌≤◌, ℕ, suc, List, [], ◌∷◌, ◌++◌, length, take, get_or, inl, inr, Ok, Err, Result, Option, refl, ap, ap₂, sym, subst, ◌∙◌, arith}
-use Rattle.std.specs.Prelude.{OnOk, IfErr, option_map}
+use Rattle.std.specs.Prelude.{OnOk, IfOk, IfErr, option_map}
 use Rattle.std.proofs.lemmas.List.{take_more, length-take-le}
 use Rattle.tt.specs.Building.{alone, Stack, lowest, above, append, close_innermost, opened, extended, closed, tokens_held, HasRoom, IsAbove, IsGrowthFault}
 use Rattle.tt.specs.Forest.{Forest, end, leaf, node, join, size}
@@ -134,6 +134,10 @@ on_ok (Err e) then p = tt
 pub ok_both : {A E P Q R : Type 0} (result : Result A E) → (P → Q → R) → OnOk result P → OnOk result Q → OnOk result R
 ok_both (Ok x) then p q = then p q
 ok_both (Err e) then p q = tt
+
+pub ok_so : {A E : Type 0} {P Q : A → Type 0} (result : Result A E) → ((x : A) → P x → Q x) → IfOk result P → IfOk result Q
+ok_so (Ok x) then p = then x p
+ok_so (Err e) then p = tt
 
 pub err_so : {A E : Type 0} {P Q : E → Type 0} (result : Result A E) → ((e : E) → P e → Q e) → IfErr result P → IfErr result Q
 err_so (Ok x) then p = tt

@@ -15,6 +15,7 @@ pub mod Rounding
 pub mod Rows
 pub mod Scans
 pub mod Seeing
+pub mod Showing
 pub mod Stepping
 pub mod Validates
 pub mod Waiting

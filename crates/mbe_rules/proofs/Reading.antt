@@ -1,5 +1,5 @@
 -- Reads an arm from trees.
-use Rattle.std.proofs.Common.{◌≡◌, ◌<◌, ◌≤◌, ℕ, true, false, List, None, Some, inl, inr, refl, ap, ap₂, sym, ◌∙◌, arith, cond}
+use Rattle.std.proofs.Common.{◌≡◌, ◌<◌, ◌≤◌, ℕ, true, false, None, Some, inl, inr, refl, ap, ap₂, sym, ◌∙◌, arith, cond}
 use Rattle.std.specs.Prelude.{option_map}
 use Rattle.tt.specs.Expectations.{is_at_node}
 use Rattle.tt.specs.Forest.{Forest, end, leaf, node, size}
@@ -10,21 +10,14 @@ use Rattle.tt.specs.Siblings.{is_end}
 use Rattle.tt.specs.Types.Delimiter.{Delimiter}
 use Rattle.tt.specs.Types.Subtree.{Subtree}
 use Rattle.tt.specs.Types.TtIter.{TtIter}
-use Rattle.mbe_matcher.specs.Grouping.{Where}
 use Rattle.mbe_pattern.specs.declared.error.PatternError.{PatternError}
 use Rattle.mbe_pattern.specs.declared.error.PatternError.TheVariants as pattern
 use Rattle.mbe_pattern.specs.Faults.{pattern_fault, IsPatternError}
-use Rattle.mbe_pattern.specs.Placed.{pattern_of}
-use Rattle.mbe_rules.specs.declared.error.TemplateError.{TemplateError}
-use Rattle.mbe_rules.specs.declared.error.TemplateError.TheVariants as template
-use Rattle.mbe_rules.specs.Faults.{template_fault}
-use Rattle.mbe_rules.specs.Results.{IsTemplateError}
-use Rattle.mbe_rules.specs.Spelling.{template_of}
 use Rattle.mbe_rules.specs.declared.rules_error.ArmFault.{ArmFault}
 use Rattle.mbe_rules.specs.declared.rules_error.ArmFault.TheVariants as fault
-use Rattle.mbe_rules.specs.Arms.{Arm, variables, IsArm, IsBehind}
+use Rattle.mbe_rules.specs.Arms.{Arm, IsArm, IsBehind}
 use Rattle.mbe_rules.specs.Arrows.{is_arrow_in, is_semicolon_in}
-use Rattle.mbe_rules.specs.ArmFaults.{of_pattern, of_template, or_else, place, template_fault_in, arrow_fault, semicolon_fault, behind_arm, body_fault, arm_fault, IsArmFault}
+use Rattle.mbe_rules.specs.ArmFaults.{of_pattern, or_else, place, template_fault_in, arrow_fault, semicolon_fault, behind_arm, body_fault, arm_fault, IsArmFault}
 
 -- A first subtree, and what follows it.
 pub node_first : (trees : Forest) (header : Subtree) (below : TtIter) → IsFirstSubtree trees header below → trees ≡ node header.delimiter (rest_of below) (after_tree trees)
@@ -40,58 +33,47 @@ no_pattern until (node delimiter children rest) is = absurd (cc is)
 
 module _ (until : ℕ) (trees : Forest) (outer : Delimiter) (held between : Forest) (begins : trees ≡ node outer held between) where
   -- what is wrong, depending on how it begins
-  body_is : body_fault until trees ≡ or_else (option_map of_pattern (pattern_fault held)) (arrow_fault until (variables (pattern_of held)) between)
+  body_is : body_fault until trees ≡ or_else (option_map of_pattern (pattern_fault held)) (arrow_fault until between)
   body_is = ap (body_fault until) begins
 
   -- Its pattern has a fault.
   pub pattern_wrong : (error : PatternError) → IsPatternError held error → IsArmFault (body_fault until trees) (of_pattern error)
   pattern_wrong pattern.Memory is = tt
-  pattern_wrong (pattern.BeginsNothing at) is = body_is ∙ ap (λ f. or_else (option_map of_pattern f) (arrow_fault until (variables (pattern_of held)) between)) is
-  pattern_wrong (pattern.UnknownFragment at) is = body_is ∙ ap (λ f. or_else (option_map of_pattern f) (arrow_fault until (variables (pattern_of held)) between)) is
-  pattern_wrong (pattern.NameTwice at) is = body_is ∙ ap (λ f. or_else (option_map of_pattern f) (arrow_fault until (variables (pattern_of held)) between)) is
-  pattern_wrong (pattern.NeedlessSeparator at) is = body_is ∙ ap (λ f. or_else (option_map of_pattern f) (arrow_fault until (variables (pattern_of held)) between)) is
-  pattern_wrong (pattern.EmptyRepetition at) is = body_is ∙ ap (λ f. or_else (option_map of_pattern f) (arrow_fault until (variables (pattern_of held)) between)) is
+  pattern_wrong (pattern.BeginsNothing at) is = body_is ∙ ap (λ f. or_else (option_map of_pattern f) (arrow_fault until between)) is
+  pattern_wrong (pattern.UnknownFragment at) is = body_is ∙ ap (λ f. or_else (option_map of_pattern f) (arrow_fault until between)) is
+  pattern_wrong (pattern.NameTwice at) is = body_is ∙ ap (λ f. or_else (option_map of_pattern f) (arrow_fault until between)) is
+  pattern_wrong (pattern.NeedlessSeparator at) is = body_is ∙ ap (λ f. or_else (option_map of_pattern f) (arrow_fault until between)) is
+  pattern_wrong (pattern.EmptyRepetition at) is = body_is ∙ ap (λ f. or_else (option_map of_pattern f) (arrow_fault until between)) is
 
   module _ (sound : pattern_fault held ≡ None) where
-    behind_is : body_fault until trees ≡ arrow_fault until (variables (pattern_of held)) between
-    behind_is = body_is ∙ ap (λ f. or_else (option_map of_pattern f) (arrow_fault until (variables (pattern_of held)) between)) sound
+    behind_is : body_fault until trees ≡ arrow_fault until between
+    behind_is = body_is ∙ ap (λ f. or_else (option_map of_pattern f) (arrow_fault until between)) sound
 
     -- No `=>` follows it.
     pub no_arrow : is_arrow_in between ≡ false → body_fault until trees ≡ Some (fault.NoArrow (place until between))
     no_arrow none =
         behind_is
-        ∙ ap (λ b. cond b (template_fault_in until (variables (pattern_of held)) (after_trees 2 between)) (Some (fault.NoArrow (place until between)))) none
+        ∙ ap (λ b. cond b (template_fault_in until (after_trees 2 between)) (Some (fault.NoArrow (place until between)))) none
 
     module _ (arrow : is_arrow_in between ≡ true) where
-      template_is : body_fault until trees ≡ template_fault_in until (variables (pattern_of held)) (after_trees 2 between)
+      template_is : body_fault until trees ≡ template_fault_in until (after_trees 2 between)
       template_is =
           behind_is
-          ∙ ap (λ b. cond b (template_fault_in until (variables (pattern_of held)) (after_trees 2 between)) (Some (fault.NoArrow (place until between)))) arrow
+          ∙ ap (λ b. cond b (template_fault_in until (after_trees 2 between)) (Some (fault.NoArrow (place until between)))) arrow
 
       -- No subtree follows that.
       pub no_template : (behind : Forest) → behind ≡ after_trees 2 between → is_at_node behind ≡ false → body_fault until trees ≡ Some (fault.NoTemplate (place until behind))
-      no_template behind is none = template_is ∙ ap (template_fault_in until (variables (pattern_of held))) (sym is) ∙ by behind none
+      no_template behind is none = template_is ∙ ap (template_fault_in until) (sym is) ∙ by behind none
         where
-          by : (behind : Forest) → is_at_node behind ≡ false → template_fault_in until (variables (pattern_of held)) behind ≡ Some (fault.NoTemplate (place until behind))
+          by : (behind : Forest) → is_at_node behind ≡ false → template_fault_in until behind ≡ Some (fault.NoTemplate (place until behind))
           by end none = refl
           by (leaf it rest) none = refl
           by (node delimiter children rest) none = absurd (cc none)
 
       module _ (inner : Delimiter) (body rest : Forest) (ends : after_trees 2 between ≡ node inner body rest) where
-        -- The template has a fault.
-        pub template_wrong : (its : List Where) → its ≡ variables (pattern_of held) → (error : TemplateError) → IsTemplateError its (template_of its body) error
-            → IsArmFault (body_fault until trees) (of_template error)
-        template_wrong its same template.Memory is = tt
-        template_wrong its same (template.StillRepeats at) is =
-            template_is ∙ ap (template_fault_in until (variables (pattern_of held))) ends
-            ∙ ap (λ v. option_map of_template (template_fault v (template_of v body))) (sym same) ∙ ap (option_map of_template) is
-        template_wrong its same (template.NothingRepeats at) is =
-            template_is ∙ ap (template_fault_in until (variables (pattern_of held))) ends
-            ∙ ap (λ v. option_map of_template (template_fault v (template_of v body))) (sym same) ∙ ap (option_map of_template) is
-
         -- There is no fault up to its end.
-        pub body_sound : template_fault (variables (pattern_of held)) (template_of (variables (pattern_of held)) body) ≡ None → body_fault until trees ≡ None
-        body_sound is = template_is ∙ ap (template_fault_in until (variables (pattern_of held))) ends ∙ ap (option_map of_template) is
+        pub body_sound : body_fault until trees ≡ None
+        body_sound = template_is ∙ ap (template_fault_in until) ends
 
         pub behind_same : behind_arm trees ≡ rest
         behind_same = ap behind_arm begins ∙ ap after_tree ends
@@ -103,15 +85,12 @@ body_wrong until trees (fault.NoPattern at) is = ap (λ f. or_else f (semicolon_
 body_wrong until trees (fault.Pattern it) is = ap (λ f. or_else f (semicolon_fault until (behind_arm trees))) is
 body_wrong until trees (fault.NoArrow at) is = ap (λ f. or_else f (semicolon_fault until (behind_arm trees))) is
 body_wrong until trees (fault.NoTemplate at) is = ap (λ f. or_else f (semicolon_fault until (behind_arm trees))) is
-body_wrong until trees (fault.Template it) is = ap (λ f. or_else f (semicolon_fault until (behind_arm trees))) is
 body_wrong until trees (fault.NoSemicolon at) is = ap (λ f. or_else f (semicolon_fault until (behind_arm trees))) is
 
 module _ (until : ℕ) (trees : Forest) (arm : Arm) (rest : Forest) (is : IsArm trees arm rest) where
   -- An arm is sound up to the end of its template.
   arm_body : body_fault until trees ≡ None
-  arm_body =
-      body_sound until trees is.outer is.pattern is.between is.begins is.sound_pattern is.arrow arm.delimiter is.template rest is.ends
-      (ap₂ (λ p t. template_fault (variables p) t) (sym is.is_pattern) (ap (λ p. template_of (variables p) is.template) (sym is.is_pattern) ∙ sym is.is_template) ∙ is.sound_template)
+  arm_body = body_sound until trees is.outer is.pattern is.between is.begins is.sound_pattern is.arrow arm.delimiter is.template rest is.ends
 
   arm_behind : behind_arm trees ≡ rest
   arm_behind = behind_same until trees is.outer is.pattern is.between is.begins is.sound_pattern is.arrow arm.delimiter is.template rest is.ends

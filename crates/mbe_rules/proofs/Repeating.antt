@@ -1,7 +1,6 @@
 -- How a partly filled template goes on at the end of a subtree, and at the beginning and the end of a repetition.
 use Rattle.std.proofs.Common.{◌≡◌, ◌<◌, ◌≤◌, ℕ, zero, suc, List, [], ◌∷◌, map, drop, Some, Result, Ok, Err, refl, ap, ap₂, sym, subst, ◌∙◌, arith}
 use Rattle.tt.specs.Building.{Stack, append, close_innermost, tokens_held}
-use Rattle.tt.specs.Forest.{end}
 use Rattle.tt.specs.Siblings.{leaves}
 use Rattle.tt.specs.Types.Leaf.{Leaf}
 use Rattle.tt.specs.Types.Span.{Span}
@@ -19,8 +18,7 @@ use Rattle.mbe_rules.specs.Writing.{Closing, last, shut, again, Level, end_of, w
 use Rattle.mbe_rules.proofs.Going.{level_of, Next}
 use Rattle.mbe_rules.proofs.Rounding.{bound_inside, first_round, other_rounds}
 use Rattle.mbe_rules.proofs.Scans.{scanned_uses, scanned_kind, scanned_behind, rounds_counted}
-use Rattle.tt_base.proofs.Appending.{held-append}
-use Rattle.mbe_rules.proofs.Writes.{sound, faulty, write_nothing, write_both, fault_stays, held_stays}
+use Rattle.mbe_rules.proofs.Writes.{sound, write_nothing, write_both, fault_ends}
 
 -- how often the repetition with these parts is filled
 abbrev pub asked : (at : ℕ) → Binding → List Bit → Result ℕ TranscribeFault
@@ -145,11 +143,8 @@ module _ (bits : List Bit) (whole : Binding) (left : List Bit) where
         → ((finished (level_of (repetition at inner separator kind others) binding closing ∷ outer) (sound stack)).fault ≡ Some fault)
         × (tokens_held (finished (level_of (repetition at inner separator kind others) binding closing ∷ outer) (sound stack)).stack ≡ tokens_held stack)
     begin_fault fault stack is =
-        let level = level_of others binding closing in
-        let written = faulty (append end stack) fault in (
-          ap (λ w. w.fault) (written_as (Err fault) stack is) ∙ fault_stays (level ∷ outer) written fault refl,
-          ap (λ w. tokens_held w.stack) (written_as (Err fault) stack is) ∙ held_stays (level ∷ outer) written fault refl ∙ omega (arith, held-append end stack),
-        )
+        let (first, kept) = fault_ends (level_of others binding closing ∷ outer) fault stack in
+        (ap (λ w. w.fault) (written_as (Err fault) stack is) ∙ first, ap (λ w. tokens_held w.stack) (written_as (Err fault) stack is) ∙ kept)
 
   module _ (outer : List Level) (binding : Binding) (behind : List Bit) (closes : List Span) (separator : List Leaf) (kind : RepeatKind)
       (it : Round) (more : List Round) where

@@ -14,15 +14,17 @@ use Rattle.mbe_pattern.specs.declared.pattern.Fragment.TheVariants as fragment
 use Rattle.mbe_pattern.specs.declared.pattern.GrammarFragment.TheVariants as grammar
 use Rattle.mbe_pattern.specs.declared.pattern.RepeatKind.TheVariants as repeat
 use Rattle.mbe_pattern.specs.declared.pattern.Variable.{Variable}
+use Rattle.mbe_pattern.specs.Patterns.{Pattern}
+use Rattle.mbe_pattern.specs.Patterns as pattern
 use Rattle.mbe_matcher.specs.Bindings.{Bound, one, none, first, Named, Binding}
 use Rattle.mbe_matcher.specs.Grouping.{Where}
-use Rattle.mbe_rules.specs.declared.error.TemplateError.{TemplateError}
-use Rattle.mbe_rules.specs.declared.error.TemplateError.TheVariants as error
+use Rattle.mbe_rules.specs.declared.transcribe_error.TranscribeError.{TranscribeError}
 use Rattle.mbe_rules.specs.declared.transcribe_error.TranscribeError.TheVariants as refusal
-use Rattle.mbe_rules.specs.Faults.{template_fault}
+use Rattle.mbe_rules.specs.Arms.{Arm}
+use Rattle.mbe_rules.specs.Faults.{template_fault, faults_of}
 use Rattle.mbe_rules.specs.Limits.{IsWithin}
 use Rattle.mbe_rules.specs.Results.{IsTranscribeError}
-use Rattle.mbe_rules.specs.Transcribing.{Transcribed, all_transcribed, transcribed, lengths_differ, no_round}
+use Rattle.mbe_rules.specs.Transcribing.{Transcribed, all_transcribed, transcribed, still_repeats, nothing_repeats, lengths_differ, no_round}
 use Rattle.mbe_rules.specs.Parts.{all_bits, uses, same, begin, close, leave}
 use Rattle.mbe_rules.specs.Spelling.{template_of}
 use Rattle.mbe_rules.specs.Templates.{Template, nothing, use_of, token, subtree as held_by, repetition}
@@ -118,43 +120,59 @@ list_parts : all_bits (template_of variables (rounds (alone 36 (word y end)) (al
     ≡ begin 0 ∷ uses 2 2 false ∷ close (punct 44 Alone ∷ []) repeat.ZeroOrMore ∷ same (ident x) ∷ leave ∷ []
 list_parts = refl
 
--- what is wrong with trees as a template
-abbrev fault_of : Forest → Option TemplateError
+-- the fault that trees show as a template
+abbrev fault_of : Forest → Option TranscribeError
 fault_of trees = template_fault variables (template_of variables trees)
 
 -- `$x` may be used in any repetitions in which another variable repeats; `$y` still repeats in none, and so does `$z` in one.
 fine : fault_of (rounds (alone 36 (word x (alone 36 (word y end)))) (alone 42 end)) ≡ None
 fine = refl
 
-repeats_still : fault_of (alone 36 (word x (alone 36 (word y end)))) ≡ Some (error.StillRepeats 2)
+repeats_still : fault_of (alone 36 (word x (alone 36 (word y end)))) ≡ Some (refusal.StillRepeats 2)
 repeats_still = refl
 
-inner_repeats_still : fault_of (rounds (alone 36 (word z end)) (alone 42 end)) ≡ Some (error.StillRepeats 2)
+inner_repeats_still : fault_of (rounds (alone 36 (word z end)) (alone 42 end)) ≡ Some (refusal.StillRepeats 2)
 inner_repeats_still = refl
 
 -- `$($x)*` and `$( )*` use nothing that repeats, and neither does the inner repetition of `$($($y)*)*`.
-nothing_repeats : fault_of (rounds (alone 36 (word x end)) (alone 42 end)) ≡ Some (error.NothingRepeats 0)
-nothing_repeats = refl
+none_repeats : fault_of (rounds (alone 36 (word x end)) (alone 42 end)) ≡ Some (refusal.NothingRepeats 0)
+none_repeats = refl
 
-empty_repeats : fault_of (rounds end (alone 42 end)) ≡ Some (error.NothingRepeats 0)
+empty_repeats : fault_of (rounds end (alone 42 end)) ≡ Some (refusal.NothingRepeats 0)
 empty_repeats = refl
 
-inner_nothing : fault_of (rounds (rounds (alone 36 (word y end)) (alone 42 end)) (alone 42 end)) ≡ Some (error.NothingRepeats 2)
+inner_nothing : fault_of (rounds (rounds (alone 36 (word y end)) (alone 42 end)) (alone 42 end)) ≡ Some (refusal.NothingRepeats 2)
 inner_nothing = refl
 
 -- The first fault counts: a repetition comes before what it holds, and that before what follows.
-outer_first : fault_of (rounds (rounds end (alone 42 end)) (alone 42 (alone 36 (word y end)))) ≡ Some (error.NothingRepeats 0)
+outer_first : fault_of (rounds (rounds end (alone 42 end)) (alone 42 (alone 36 (word y end)))) ≡ Some (refusal.NothingRepeats 0)
 outer_first = refl
 
-inner_first : fault_of (rounds (alone 36 (word z end)) (alone 42 (alone 36 (word y end)))) ≡ Some (error.StillRepeats 2)
+inner_first : fault_of (rounds (alone 36 (word z end)) (alone 42 (alone 36 (word y end)))) ≡ Some (refusal.StillRepeats 2)
 inner_first = refl
 
 -- The tokens before it are counted at any depth, with brackets and tails.
-behind_subtree : fault_of (join (subtree Parenthesis (word x end)) (word x (alone 36 (word y end)))) ≡ Some (error.StillRepeats 3)
+behind_subtree : fault_of (join (subtree Parenthesis (word x end)) (word x (alone 36 (word y end)))) ≡ Some (refusal.StillRepeats 3)
 behind_subtree = refl
 
-behind_repetition : fault_of (rounds (alone 36 (word y end)) (alone 44 (alone 42 (alone 36 (word y end))))) ≡ Some (error.StillRepeats 6)
+behind_repetition : fault_of (rounds (alone 36 (word y end)) (alone 44 (alone 42 (alone 36 (word y end))))) ≡ Some (refusal.StillRepeats 6)
 behind_repetition = refl
+
+-- Of the arms `($x:tt) => { $x }`, `($($x:tt)*) => { $x $( )* }` and `($x:tt) => { $($x)* }` the last two show a fault.
+abbrev one_x : Pattern
+one_x = pattern.variable (record { name = Some x; fragment = fragment.Tt }) pattern.nothing
+
+abbrev many_x : Pattern
+many_x = pattern.repetition one_x [] repeat.ZeroOrMore pattern.nothing
+
+abbrev arm_of : Pattern → Template → Arm
+arm_of its template = record { pattern = its; delimiter = delimiter Brace (span 0 1) (span 1 1); template = template }
+
+arms_show : faults_of
+    (arm_of one_x (use_of 0 0 false nothing) ∷ arm_of many_x (use_of 0 0 false (repetition 2 nothing [] repeat.ZeroOrMore nothing))
+    ∷ arm_of one_x (repetition 0 (use_of 2 0 false nothing) [] repeat.ZeroOrMore nothing) ∷ []) 0
+    ≡ record { arm = 1; fault = refusal.StillRepeats 0 } ∷ record { arm = 2; fault = refusal.NothingRepeats 0 } ∷ []
+arms_show = refl
 
 -- what is bound: `a` to `$x`, trees to `$y` in two rounds, and to `$z` in two rounds, where the second holds no inner round
 abbrev a_tree : Forest
@@ -197,6 +215,24 @@ nested_transcribed : becomes binding (rounds (alone 36 (word y (rounds (alone 36
     ≡ all_transcribed (word (codes "a") (word (codes "a") (word (codes "b") end)))
 nested_transcribed = refl
 
+-- A use of `$y` still repeats, and so does one of `$z` in one repetition; what comes before it is written.
+use_repeats : becomes binding (alone 36 (word x (alone 36 (word y end)))) ≡ record { trees = word (codes "a") end; fault = Some (still_repeats 2) }
+use_repeats = refl
+
+inner_use_repeats : becomes binding (rounds (alone 36 (word y (alone 36 (word z end)))) (alone 42 end)) ≡ record { trees = word (codes "a") end; fault = Some (still_repeats 4) }
+inner_use_repeats = refl
+
+-- `$($x)*` and `$( )*` use nothing that repeats, and neither does the inner repetition of `$($y $($x)*)*`.
+outer_nothing : becomes binding (rounds (alone 36 (word x end)) (alone 42 end)) ≡ record { trees = end; fault = Some (nothing_repeats 0) }
+outer_nothing = refl
+
+empty_nothing : becomes binding (rounds end (alone 42 end)) ≡ record { trees = end; fault = Some (nothing_repeats 0) }
+empty_nothing = refl
+
+inside_nothing : becomes binding (rounds (alone 36 (word y (rounds (alone 36 (word x end)) (alone 42 end)))) (alone 42 end))
+    ≡ record { trees = word (codes "a") end; fault = Some (nothing_repeats 4) }
+inside_nothing = refl
+
 -- `+` requires a round; and `$y` and `$z` must have the same number of rounds.
 abbrev empty : Binding
 empty = record { variable = underscore; bound = one b_tree } ∷ bind x (one a_tree) ∷ bind y none ∷ bind z (first none none) ∷ []
@@ -209,6 +245,13 @@ none_there = refl
 
 lengths_apart : becomes empty (rounds (alone 36 (word y (rounds (alone 36 (word z end)) (alone 42 end)))) (alone 42 end)) ≡ record { trees = end; fault = Some (lengths_differ 0) }
 lengths_apart = refl
+
+-- `$y` still repeats without a round, too. In a repetition with no round no fault is met.
+empty_use : becomes empty (alone 36 (word y end)) ≡ record { trees = end; fault = Some (still_repeats 0) }
+empty_use = refl
+
+never_met : becomes empty (rounds (alone 36 (word y (rounds end (alone 42 end)))) (alone 42 end)) ≡ all_transcribed end
+never_met = refl
 
 -- A limit of tokens: the three of `$($y),*` exceed two, and not three. Without a limit no number is too many.
 abbrev braces : Delimiter

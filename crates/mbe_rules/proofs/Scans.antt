@@ -4,13 +4,15 @@ use Rattle.std.proofs.lemmas.List.{append-nil}
 use Rattle.std.specs.Prelude.{nat_eq, slice_get}
 use Rattle.mbe_pattern.specs.declared.pattern.RepeatKind.{RepeatKind}
 use Rattle.mbe_matcher.specs.Bindings.{Bound, one, none, first, Named, Binding}
+use Rattle.tt.specs.Forest.{Forest, end}
 use Rattle.tt.specs.Types.Leaf.{Leaf}
+use Rattle.mbe_rules.specs.Enclosing.{as_piece}
 use Rattle.mbe_rules.specs.declared.counting.Count.{Count}
 use Rattle.mbe_rules.specs.declared.counting.Count.TheVariants.{Unknown, Same, Differ}
 use Rattle.mbe_rules.specs.Counting.{counted_with, counted_all, counts_seen, rounds_by, uses_before, kind_before, behind_close}
-use Rattle.mbe_rules.specs.Transcribing.{lengths_differ, enough, are_all, rounds_of, used_in, count_in, count_of, counts_of, trees_in, trees_used}
+use Rattle.mbe_rules.specs.Transcribing.{still_repeats, lengths_differ, all_transcribed, faulted, bound_transcribed, use_transcribed, enough, are_all, rounds_of, used_in, count_in, count_of, counts_of}
 use Rattle.mbe_rules.specs.Parts.{Bit, leave, close, bits_of}
-use Rattle.mbe_rules.specs.Rounds.{seen_of, seen_at, trees_seen}
+use Rattle.mbe_rules.specs.Rounds.{trees, rounds, seen_of, seen_at, fragment_of}
 use Rattle.mbe_rules.specs.Templates.{Template, nothing, use_of, token, subtree, repetition}
 
 -- The uses of a template, before others.
@@ -84,7 +86,7 @@ rounds_counted at kind (n ∷ its) = by (are_all n its) ∙ sym (ap (rounds_by a
 
 -- What is seen of a variable is how many rounds it has, or its trees.
 bound_counted : (bound : Bound) → counts_seen (seen_of bound) ≡ count_in bound
-bound_counted (one trees) = refl
+bound_counted (one its) = refl
 bound_counted none = refl
 bound_counted (first it others) = refl
 
@@ -92,14 +94,30 @@ pub seen_counted : (it : Option Named) → counts_seen (seen_at it) ≡ count_of
 seen_counted None = refl
 seen_counted (Some it) = bound_counted it.bound
 
-bound_trees : (bound : Bound) → trees_seen (seen_of bound) ≡ trees_in bound
-bound_trees (one trees) = refl
-bound_trees none = refl
-bound_trees (first it others) = refl
+-- If trees are seen, a use becomes them; if rounds are seen, it still repeats.
+pub used_trees : (at : ℕ) (less_follows : Bool) (it : Option Named) (its : Forest) → seen_at it ≡ trees its
+    → use_transcribed at less_follows it ≡ all_transcribed (as_piece (fragment_of it) less_follows its)
+used_trees at less_follows None its is = ap (λ f. all_transcribed (as_piece None less_follows f)) same
+  where
+    same : end ≡ its
+    same = cc is
+used_trees at less_follows (Some it) its is = by it.bound is
+  where
+    by : (bound : Bound) → seen_of bound ≡ trees its
+        → bound_transcribed at less_follows it.variable.fragment bound ≡ all_transcribed (as_piece (Some it.variable.fragment) less_follows its)
+    by (one others) is = let same : others ≡ its = cc is in ap (λ f. all_transcribed (as_piece (Some it.variable.fragment) less_follows f)) same
+    by none is = absurd (cc is)
+    by (first this others) is = absurd (cc is)
 
-pub seen_trees : (it : Option Named) → trees_seen (seen_at it) ≡ trees_used it
-seen_trees None = refl
-seen_trees (Some it) = bound_trees it.bound
+pub used_rounds : (at : ℕ) (less_follows : Bool) (it : Option Named) (n : ℕ) → seen_at it ≡ rounds n
+    → use_transcribed at less_follows it ≡ faulted (still_repeats at)
+used_rounds at less_follows None n is = absurd (cc is)
+used_rounds at less_follows (Some it) n is = by it.bound is
+  where
+    by : (bound : Bound) → seen_of bound ≡ rounds n → bound_transcribed at less_follows it.variable.fragment bound ≡ faulted (still_repeats at)
+    by (one others) is = absurd (cc is)
+    by none is = refl
+    by (first this others) is = refl
 
 -- One more use is counted.
 pub counted_use : (binding : Binding) (variable : ℕ) (others : List ℕ) (count : Count)

@@ -10,8 +10,8 @@ use Rattle.mbe_matcher.specs.Ends.{sums}
 use Rattle.mbe_matcher.specs.Grouping.{grouped}
 use Rattle.mbe_rules.specs.declared.taken.Round.{Round}
 use Rattle.mbe_rules.specs.declared.taken.Taken.{Taken}
-use Rattle.mbe_rules.specs.Transcribing.{in_round, fragment_of}
-use Rattle.mbe_rules.specs.Rounds.{bound_in, binding_in, dones, rounds, seen_of, time_seen, nested, IsTaken, IsTakenBy, AreTaken, first_at, count_at, times_in, times_at}
+use Rattle.mbe_rules.specs.Transcribing.{in_round}
+use Rattle.mbe_rules.specs.Rounds.{bound_in, binding_in, dones, rounds, seen_of, fragment_of, time_seen, nested, IsTaken, IsTakenBy, AreTaken, first_at, count_at, times_in, times_at}
 use Rattle.mbe_rules.proofs.Nesting.{seen_rounds, in_one, in_none, seen_trees_at, first_is}
 
 module _ {A B : Type 0} (f : A → B) where

@@ -1,5 +1,5 @@
 -- Where each part of a template leads, and which errors it gives.
-use Rattle.std.proofs.Common.{◌≡◌, ◌+◌, ◌<◌, ◌≤◌, ℕ, suc, Bool, List, [], ◌∷◌, ◌++◌, drop, reverse, Some, Ok, Err, inl, inr, refl, ap, ap₂, sym, subst, ◌∙◌, arith}
+use Rattle.std.proofs.Common.{◌≡◌, ◌+◌, ◌<◌, ◌≤◌, ℕ, suc, Bool, List, [], ◌∷◌, ◌++◌, drop, reverse, None, Some, Ok, Err, inl, inr, refl, ap, ap₂, sym, subst, ◌∙◌, arith}
 use Rattle.std.proofs.lemmas.List.{reverse-append}
 use Rattle.std.specs.Prelude.{slice_get}
 use Rattle.tt.specs.Building.{Stack, above, append, close_innermost, tokens_held}
@@ -14,13 +14,14 @@ use Rattle.mbe_matcher.specs.Bindings.{Binding}
 use Rattle.mbe_rules.specs.declared.transcribe_error.TranscribeError.{TranscribeError}
 use Rattle.mbe_rules.specs.declared.transcribe.Transcriber.{Transcriber}
 use Rattle.mbe_rules.specs.declared.taken.Round.{Round}
-use Rattle.mbe_rules.specs.Counting.{behind_close, round_error}
-use Rattle.mbe_rules.specs.Transcribing.{TranscribeFault, lengths_differ, no_round, trees_transcribed}
+use Rattle.mbe_rules.specs.Counting.{behind_close}
+use Rattle.mbe_rules.specs.Transcribing.{Transcribed, TranscribeFault, still_repeats, nothing_repeats, lengths_differ, no_round, use_transcribed}
 use Rattle.mbe_rules.specs.Parts.{Bit, uses, same, enter, leave, begin, close}
 use Rattle.mbe_rules.specs.Limits.{IsWithin}
-use Rattle.mbe_rules.specs.Filling.{most_of, AreLevels, IsAt, Goes, Grows, IsWant, Enters, AreClosed, Leaves, IsStop, bound_here}
+use Rattle.mbe_rules.specs.Results.{error_of}
+use Rattle.mbe_rules.specs.Filling.{most_of, AreLevels, IsAt, Goes, Grows, IsWant, IsUsed, IsUseError, Enters, AreClosed, Leaves, IsStop, bound_here}
 use Rattle.mbe_rules.specs.Writing.{Level, written_by, finished}
-use Rattle.mbe_rules.proofs.Going.{Next, goes_use, goes_token, goes_enter}
+use Rattle.mbe_rules.proofs.Going.{Next, goes_use, use_goes_nowhere, goes_token, goes_enter}
 use Rattle.mbe_rules.proofs.Limits.{over_more, in_all, held_within}
 use Rattle.mbe_rules.proofs.Repeating.{asked, goes_leave_all, goes_leave, goes_none, goes_begin, goes_nowhere, goes_last, goes_again}
 use Rattle.tt_base.proofs.Appending.{held-append, held-close}
@@ -70,19 +71,44 @@ module _ (bits : List Bit) (whole : Binding) (levels : List Level) (left : List 
     abbrev pub closes : List Span
     closes = reverse old.closes.items
 
-    -- A use.
-    pub use_steps : (new : Transcriber) (at variable : ℕ) (less_follows : Bool) → IsAt bits whole levels old (uses at variable less_follows ∷ left)
-        → Grows (trees_transcribed less_follows (slice_get (bound_here whole rounds) variable)) old new → Goes bits whole levels old new left
-    use_steps new at variable less_follows is grows =
-        let trees = trees_transcribed less_follows (slice_get (bound_here whole rounds) variable) in
-        goes_on old new rounds closes (append trees) (goes_use bits whole rounds closes left at variable less_follows levels is.agree)
-        (ap (λ r. reverse r.items) grows.rounds) (ap (λ r. reverse r.items) grows.closes) grows.stack (grows.few is.few) grows.top grows.most
+    -- A fault, before which nothing more is written, is the error.
+    fault_stops : (fault : TranscribeFault) → tokens_held old.builder.stack ≤ most_tokens → (finished levels (written_by old)).fault ≡ Some fault
+        → tokens_held (finished levels (written_by old)).stack ≡ tokens_held old.builder.stack → IsStop (most_of old) (finished levels (written_by old)) (error_of fault)
+    fault_stops fault few first held = by fault first
+      where
+        no_more : tokens_held (finished levels (written_by old)).stack ≤ most_tokens
+        no_more = omega (arith, held, few)
 
-    pub use_stops : (at variable : ℕ) (less_follows : Bool) (fault : TranscribeError) → IsAt bits whole levels old (uses at variable less_follows ∷ left)
-        → IsWant (size (trees_transcribed less_follows (slice_get (bound_here whole rounds) variable))) old fault → IsStop (most_of old) (finished levels (written_by old)) fault
-    use_stops at variable less_follows fault is want =
-        let trees = trees_transcribed less_follows (slice_get (bound_here whole rounds) variable) in
-        want_stops old rounds closes left (append trees) (size trees) fault (goes_use bits whole rounds closes left at variable less_follows levels is.agree) (held-append trees old.builder.stack) want
+        within : IsWithin (most_of old) (tokens_held (finished levels (written_by old)).stack)
+        within = subst (IsWithin (most_of old)) (sym held) (held_within (tokens_held old.builder.stack) old.left)
+
+        by : (fault : TranscribeFault) → (finished levels (written_by old)).fault ≡ Some fault → IsStop (most_of old) (finished levels (written_by old)) (error_of fault)
+        by (still_repeats at) first = (first, no_more, within)
+        by (nothing_repeats at) first = (first, no_more, within)
+        by (lengths_differ at) first = (first, no_more, within)
+        by (no_round at) first = (first, no_more, within)
+
+    -- A use.
+    module _ (at variable : ℕ) (less_follows : Bool) (is : IsAt bits whole levels old (uses at variable less_follows ∷ left)) where
+      -- what it becomes
+      abbrev made : Transcribed
+      made = use_transcribed at less_follows (slice_get (bound_here whole rounds) variable)
+
+      -- If it has no fault, it becomes trees.
+      use_next : made.fault ≡ None → Next bits whole levels rounds closes left (append made.trees)
+      use_next none = goes_use bits whole rounds closes left at variable less_follows made.trees levels is.agree (ap (λ f. record { trees = made.trees; fault = f }) none)
+
+      pub use_steps : (new : Transcriber) → IsUsed made old new → Goes bits whole levels old new left
+      use_steps new (none, grows) =
+          goes_on old new rounds closes (append made.trees) (use_next none)
+          (ap (λ r. reverse r.items) grows.rounds) (ap (λ r. reverse r.items) grows.closes) grows.stack (grows.few is.few) grows.top grows.most
+
+      pub use_stops : (why : TranscribeError) → IsUseError made old why → IsStop (most_of old) (finished levels (written_by old)) why
+      use_stops why (inl (fault, wrong, error)) =
+          let (first, held) = use_goes_nowhere bits whole rounds closes left at variable less_follows fault old.builder.stack levels is.agree wrong in
+          subst (IsStop (most_of old) (finished levels (written_by old))) (sym error) (fault_stops fault is.few first held)
+      use_stops why (inr (none, want)) =
+          want_stops old rounds closes left (append made.trees) (size made.trees) why (use_next none) (held-append made.trees old.builder.stack) want
 
     -- A token.
     pub token_steps : (new : Transcriber) (it : Leaf) → IsAt bits whole levels old (same it ∷ left) → Grows (leaf it end) old new → Goes bits whole levels old new left
@@ -153,15 +179,10 @@ module _ (bits : List Bit) (whole : Binding) (levels : List Level) (left : List 
 
     -- The number of rounds is a fault.
     pub begin_stops : (at : ℕ) (fault : TranscribeFault) → IsAt bits whole levels old (begin at ∷ left) → asked at (bound_here whole rounds) left ≡ Err fault
-        → IsStop (most_of old) (finished levels (written_by old)) (round_error fault)
+        → IsStop (most_of old) (finished levels (written_by old)) (error_of fault)
     begin_stops at fault is answer =
         let (first, held) = goes_nowhere bits whole rounds left closes at fault old.builder.stack levels is.agree answer in
-        by fault first (omega (arith, held, is.few)) (subst (IsWithin (most_of old)) (sym held) (held_within (tokens_held old.builder.stack) old.left))
-      where
-        by : (fault : TranscribeFault) → (finished levels (written_by old)).fault ≡ Some fault → tokens_held (finished levels (written_by old)).stack ≤ most_tokens
-            → IsWithin (most_of old) (tokens_held (finished levels (written_by old)).stack) → IsStop (most_of old) (finished levels (written_by old)) (round_error fault)
-        by (lengths_differ there) first few within = (first, few, within)
-        by (no_round there) first few within = (first, few, within)
+        fault_stops fault is.few first held
 
 -- A round ends.
 module _ (bits : List Bit) (whole : Binding) (levels : List Level) (left : List Bit) (old : Transcriber) (separator : List Leaf) (kind : RepeatKind)

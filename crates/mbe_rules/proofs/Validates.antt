@@ -1,12 +1,10 @@
 -- Judged by its parts from the last to the first, a template has its first fault.
 use Rattle.std.proofs.Common.{◌≡◌, ℕ, suc, List, [], ◌∷◌, length, Option, None, Some, refl, ap, ap₂, sym, ◌∙◌, arith}
 use Rattle.mbe_matcher.specs.Grouping.{Where}
-use Rattle.mbe_rules.specs.declared.error.TemplateError.{TemplateError}
-use Rattle.mbe_rules.specs.declared.error.TemplateError.TheVariants as error
+use Rattle.mbe_rules.specs.declared.transcribe_error.TranscribeError.{TranscribeError}
 use Rattle.mbe_rules.specs.Faults.{or_else, use_fault, round_fault, fault_at, template_fault}
 use Rattle.mbe_rules.specs.Validating.{Validation, raised, begun, used_with, validated_with, validated_of}
 use Rattle.mbe_rules.specs.Parts.{Bit, leave, begin, close, bits_of, all_bits}
-use Rattle.mbe_rules.specs.Results.{IsTemplateError}
 use Rattle.mbe_rules.specs.Templates.{Template, nothing, use_of, token, subtree, repetition, depth_of, greater, deepest}
 
 greater_more : (a b c : ℕ) → greater a (greater b c) ≡ greater (greater a b) c
@@ -30,16 +28,16 @@ raised_length : (a : ℕ) (its : List ℕ) → length (raised a its) ≡ length 
 raised_length a [] = refl
 raised_length a (it ∷ outer) = refl
 
-or_else_more : (a b c : Option TemplateError) → or_else a (or_else b c) ≡ or_else (or_else a b) c
+or_else_more : (a b c : Option TranscribeError) → or_else a (or_else b c) ≡ or_else (or_else a b) c
 or_else_more None b c = refl
 or_else_more (Some it) b c = refl
 
-or_else_none : (a : Option TemplateError) → or_else a None ≡ a
+or_else_none : (a : Option TranscribeError) → or_else a None ≡ a
 or_else_none None = refl
 or_else_none (Some it) = refl
 
 -- what is judged
-abbrev validated : Option TemplateError → List ℕ → Validation
+abbrev validated : Option TranscribeError → List ℕ → Validation
 validated fault depths = record { fault = fault; depths = depths }
 
 -- one more template, from the last part to the first
@@ -48,7 +46,7 @@ validated_on variables template it =
     validated (or_else (fault_at variables (length it.depths) template) it.fault) (raised (deepest variables template) it.depths)
 
 -- Two faults, one after the other.
-both : (f : ℕ → Option TemplateError) (a b : ℕ) (g : Option TemplateError) (it : Validation)
+both : (f : ℕ → Option TranscribeError) (a b : ℕ) (g : Option TranscribeError) (it : Validation)
     → validated (or_else (f (length (raised b it.depths))) (or_else g it.fault)) (raised a (raised b it.depths))
     ≡ validated (or_else (or_else (f (length it.depths)) g) it.fault) (raised (greater a b) it.depths)
 both f a b g it =
@@ -72,7 +70,7 @@ module _ (variables : List Where) where
   validated_parts (repetition at inner separator kind others) behind =
       let it = validated_of variables behind in
       let d = deepest variables inner in
-      let here : ℕ → Option TemplateError = λ n. or_else (round_fault at n d) (fault_at variables (suc n) inner) in
+      let here : ℕ → Option TranscribeError = λ n. or_else (round_fault at n d) (fault_at variables (suc n) inner) in
       let opened : Validation → Validation = λ j. begun at (greater d 0 ∷ j.depths) (or_else (fault_at variables (suc (length j.depths)) inner) j.fault) in
       let closed : Validation → Validation = λ j. validated (or_else (round_fault at (length j.depths) d) (or_else (fault_at variables (suc (length j.depths)) inner) j.fault)) (raised d j.depths) in
       let same : (j : Validation) → opened j ≡ closed j = λ j.
@@ -89,9 +87,3 @@ module _ (variables : List Where) where
   -- The parts of a whole template.
   pub validated_whole : (template : Template) → (validated_of variables (all_bits template)).fault ≡ template_fault variables template
   validated_whole template = ap (λ j. j.fault) (validated_parts template (leave ∷ [])) ∙ or_else_none (template_fault variables template)
-
-  -- So that is the error.
-  pub is_error : (template : Template) (fault : TemplateError) → template_fault variables template ≡ Some fault → IsTemplateError variables template fault
-  is_error template error.Memory is = tt
-  is_error template (error.StillRepeats at) is = is
-  is_error template (error.NothingRepeats at) is = is

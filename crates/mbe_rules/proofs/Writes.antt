@@ -1,10 +1,10 @@
 -- What is finally written of the rest of a template.
 use Rattle.std.proofs.Common.{◌≡◌, ◌≤◌, List, [], ◌∷◌, Some, None, Option, refl, ap, ◌∙◌, arith}
-use Rattle.tt.specs.Building.{Stack, tokens_held}
+use Rattle.tt.specs.Building.{Stack, append, tokens_held}
 use Rattle.tt.specs.Forest.{end}
 use Rattle.tt.specs.Siblings.{leaves}
 use Rattle.tt_base.proofs.Appending.{append-end, append-join, held-append, held-close}
-use Rattle.mbe_rules.specs.Transcribing.{TranscribeFault, Transcribed, all_transcribed, and_then, more_rounds, transcribed}
+use Rattle.mbe_rules.specs.Transcribing.{TranscribeFault, Transcribed, all_transcribed, faulted, and_then, more_rounds, transcribed}
 use Rattle.mbe_rules.specs.Writing.{Closing, last, shut, again, Level, Written, write, behind_end, finished}
 
 -- a stack, and no fault
@@ -64,15 +64,25 @@ behind_held last stack fault = refl
 behind_held (shut span) stack fault = held-close span stack
 behind_held (again body separator kind left others) stack fault = refl
 
-pub fault_stays : (levels : List Level) (it : Written) (fault : TranscribeFault) → it.fault ≡ Some fault → (finished levels it).fault ≡ Some fault
+fault_stays : (levels : List Level) (it : Written) (fault : TranscribeFault) → it.fault ≡ Some fault → (finished levels it).fault ≡ Some fault
 fault_stays [] it fault is = is
 fault_stays (level ∷ outer) it fault is =
     ap (λ f. (finished outer (behind_end level.closing (write (transcribed level.rest level.binding) (record { stack = it.stack; fault = f })))).fault) is
     ∙ fault_stays outer (behind_end level.closing (faulty it.stack fault)) fault (behind_fault level.closing it.stack fault)
 
-pub held_stays : (levels : List Level) (it : Written) (fault : TranscribeFault) → it.fault ≡ Some fault → tokens_held (finished levels it).stack ≡ tokens_held it.stack
+held_stays : (levels : List Level) (it : Written) (fault : TranscribeFault) → it.fault ≡ Some fault → tokens_held (finished levels it).stack ≡ tokens_held it.stack
 held_stays [] it fault is = refl
 held_stays (level ∷ outer) it fault is =
     ap (λ f. tokens_held (finished outer (behind_end level.closing (write (transcribed level.rest level.binding) (record { stack = it.stack; fault = f })))).stack) is
     ∙ held_stays outer (behind_end level.closing (faulty it.stack fault)) fault (behind_fault level.closing it.stack fault)
     ∙ behind_held level.closing it.stack fault
+
+-- So a fault that nothing is written before is the fault of the whole.
+pub fault_ends : (levels : List Level) (fault : TranscribeFault) (stack : Stack)
+    → ((finished levels (write (faulted fault) (sound stack))).fault ≡ Some fault)
+    × (tokens_held (finished levels (write (faulted fault) (sound stack))).stack ≡ tokens_held stack)
+fault_ends levels fault stack =
+    let written = faulty (append end stack) fault in (
+      fault_stays levels written fault refl,
+      held_stays levels written fault refl ∙ omega (arith, held-append end stack),
+    )

@@ -1,33 +1,21 @@
 -- What is wrong with the arms of a macro.
-use Rattle.std.specs.Prelude.{◌≡◌, ◌-◌, ℕ, zero, suc, false, List, Option, None, Some, option_map, if◌then◌else◌}
+use Rattle.std.specs.Prelude.{◌≡◌, ◌-◌, ℕ, zero, suc, false, Option, None, Some, option_map, if◌then◌else◌}
 use Rattle.tt.specs.Forest.{Forest, end, leaf, node, size}
 use Rattle.tt.specs.Gluing.{after_trees}
 use Rattle.tt.specs.Moves.{after_tree}
 use Rattle.tt.specs.Siblings.{is_end}
-use Rattle.mbe_matcher.specs.Grouping.{Where}
 use Rattle.mbe_pattern.specs.declared.error.PatternError.{PatternError}
 use Rattle.mbe_pattern.specs.declared.error.PatternError.TheVariants as pattern
 use Rattle.mbe_pattern.specs.Faults.{pattern_fault}
-use Rattle.mbe_pattern.specs.Placed.{pattern_of}
-use Rattle.mbe_rules.specs.declared.error.TemplateError.{TemplateError}
-use Rattle.mbe_rules.specs.declared.error.TemplateError.TheVariants as template
-use Rattle.mbe_rules.specs.Faults.{template_fault}
-use Rattle.mbe_rules.specs.Spelling.{template_of}
 use Rattle.mbe_rules.specs.declared.rules_error.ArmFault.{ArmFault}
 use Rattle.mbe_rules.specs.declared.rules_error.ArmFault.TheVariants as fault
 use Rattle.mbe_rules.specs.declared.rules_error.RulesError.{RulesError}
-use Rattle.mbe_rules.specs.Arms.{variables}
 use Rattle.mbe_rules.specs.Arrows.{is_arrow_in, is_semicolon_in}
 
 -- a pattern's fault, as a fault of its arm
 abbrev pub of_pattern : PatternError → ArmFault
 of_pattern pattern.Memory = fault.Memory
 of_pattern other = fault.Pattern other
-
--- a template's fault, as a fault of its arm
-abbrev pub of_template : TemplateError → ArmFault
-of_template template.Memory = fault.Memory
-of_template other = fault.Template other
 
 -- the first, or otherwise the other
 abbrev pub or_else : Option ArmFault → Option ArmFault → Option ArmFault
@@ -39,15 +27,15 @@ abbrev pub place : (until : ℕ) → Forest → ℕ
 place until trees = until - size trees
 
 -- what is wrong in the place of a template
-abbrev pub template_fault_in : (until : ℕ) → List Where → Forest → Option ArmFault
-template_fault_in until variables end = Some (fault.NoTemplate (place until end))
-template_fault_in until variables (leaf it rest) = Some (fault.NoTemplate (place until (leaf it rest)))
-template_fault_in until variables (node delimiter children rest) = option_map of_template (template_fault variables (template_of variables children))
+abbrev pub template_fault_in : (until : ℕ) → Forest → Option ArmFault
+template_fault_in until end = Some (fault.NoTemplate (place until end))
+template_fault_in until (leaf it rest) = Some (fault.NoTemplate (place until (leaf it rest)))
+template_fault_in until (node delimiter children rest) = None
 
 -- what is wrong after a pattern
-abbrev pub arrow_fault : (until : ℕ) → List Where → Forest → Option ArmFault
-arrow_fault until variables between =
-    if is_arrow_in between then template_fault_in until variables (after_trees 2 between) else Some (fault.NoArrow (place until between))
+abbrev pub arrow_fault : (until : ℕ) → Forest → Option ArmFault
+arrow_fault until between =
+    if is_arrow_in between then template_fault_in until (after_trees 2 between) else Some (fault.NoArrow (place until between))
 
 -- what is wrong after an arm
 abbrev pub semicolon_fault : (until : ℕ) → Forest → Option ArmFault
@@ -62,8 +50,7 @@ behind_arm trees = after_tree (after_trees 2 (after_tree trees))
 abbrev pub body_fault : (until : ℕ) → Forest → Option ArmFault
 body_fault until end = Some (fault.NoPattern (place until end))
 body_fault until (leaf it rest) = Some (fault.NoPattern (place until (leaf it rest)))
-body_fault until (node delimiter children between) =
-    or_else (option_map of_pattern (pattern_fault children)) (arrow_fault until (variables (pattern_of children)) between)
+body_fault until (node delimiter children between) = or_else (option_map of_pattern (pattern_fault children)) (arrow_fault until between)
 
 -- the arm's first fault, in reading order
 abbrev pub arm_fault : (until : ℕ) → Forest → Option ArmFault

@@ -1,12 +1,10 @@
 -- How often a repetition is filled, counted part by part.
-use Rattle.std.specs.Prelude.{ℕ, zero, suc, List, [], ◌∷◌, Result, Ok, Err, nat_eq, if◌then◌else◌}
+use Rattle.std.specs.Prelude.{ℕ, zero, suc, List, [], ◌∷◌, Result, Err, nat_eq, if◌then◌else◌}
 use Rattle.mbe_pattern.specs.declared.pattern.RepeatKind.{RepeatKind}
 use Rattle.mbe_pattern.specs.declared.pattern.RepeatKind.TheVariants.{ZeroOrMore}
 use Rattle.mbe_rules.specs.declared.counting.Count.{Count}
 use Rattle.mbe_rules.specs.declared.counting.Count.TheVariants.{Unknown, Same, Differ}
-use Rattle.mbe_rules.specs.declared.transcribe_error.TranscribeError.{TranscribeError}
-use Rattle.mbe_rules.specs.declared.transcribe_error.TranscribeError.TheVariants.{LengthsDiffer, NoRound}
-use Rattle.mbe_rules.specs.Transcribing.{TranscribeFault, lengths_differ, no_round, enough}
+use Rattle.mbe_rules.specs.Transcribing.{TranscribeFault, nothing_repeats, lengths_differ, enough}
 use Rattle.mbe_rules.specs.Parts.{Bit, uses, same, enter, leave, begin, close}
 use Rattle.mbe_rules.specs.Rounds.{Seen, trees, rounds}
 
@@ -28,14 +26,9 @@ counts_seen (rounds n) = n ∷ []
 
 -- how often a repetition of that kind is filled
 abbrev pub rounds_by : (at : ℕ) → RepeatKind → Count → Result ℕ TranscribeFault
-rounds_by at kind Unknown = Ok 0
+rounds_by at kind Unknown = Err (nothing_repeats at)
 rounds_by at kind (Same n) = enough at kind n
 rounds_by at kind Differ = Err (lengths_differ at)
-
--- the error for a fault
-abbrev pub round_error : TranscribeFault → TranscribeError
-round_error (lengths_differ at) = LengthsDiffer at
-round_error (no_round at) = NoRound at
 
 -- the variables used before the end of the repetition, if that many inner repetitions are open
 abbrev pub uses_before : (open_count : ℕ) → List Bit → List ℕ

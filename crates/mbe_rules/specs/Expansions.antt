@@ -10,19 +10,19 @@ use Rattle.mbe_rules.specs.declared.transcribe_error.TranscribeError.{Transcribe
 use Rattle.mbe_rules.specs.declared.transcribe_error.TranscribeError.TheVariants.{Tree}
 use Rattle.mbe_rules.specs.Limits.{IsWithin}
 use Rattle.mbe_rules.specs.Transcribing.{Transcribed, transcribed}
-use Rattle.mbe_rules.specs.Results.{IsTemplate, IsTranscribed, IsTranscribeError}
+use Rattle.mbe_rules.specs.Results.{meant, IsTranscribed, IsTranscribeError}
 use Rattle.mbe_rules.specs.declared.arm.Answer.{Answer}
 use Rattle.mbe_rules.specs.declared.arm.Answer.TheVariants as answer
 use Rattle.mbe_rules.specs.declared.arm.Arm as rust
 use Rattle.mbe_rules.specs.declared.rules_error.ExpandError.{ExpandError}
 use Rattle.mbe_rules.specs.declared.macro_rules.Expansion.{Expansion}
 use Rattle.mbe_rules.specs.declared.macro_rules.Expansion.TheVariants as expansion
-use Rattle.mbe_rules.specs.Arms.{Arm, variables}
+use Rattle.mbe_rules.specs.Arms.{Arm}
 
 -- the arm is made ready to read inputs and to write
 pub record IsMade (arm : Arm) (it : rust.Arm) : Type 0 where
   pub matcher : IsMatcherOf arm.pattern it.matcher
-  pub template : IsTemplate (variables arm.pattern) arm.template it.template
+  pub template : meant it.template ≡ arm.template
   pub delimiter : it.delimiter ≡ arm.delimiter
 
 abbrev pub AreMade : List Arm → List rust.Arm → Type 0

@@ -1,7 +1,7 @@
 -- Where the filling of a template is, and how it goes on.
-use Rattle.std.specs.Prelude.{◌≡◌, ◌+◌, ◌<◌, ◌≤◌, ◌⊎◌, ℕ, zero, suc, List, [], ◌∷◌, ◌++◌, map, drop, reverse, Option, Some, option_map}
+use Rattle.std.specs.Prelude.{◌≡◌, ◌+◌, ◌<◌, ◌≤◌, ◌⊎◌, ℕ, zero, suc, List, [], ◌∷◌, ◌++◌, map, drop, reverse, Option, None, option_map}
 use Rattle.tt.specs.Building.{tokens_held, append, close_innermost, opened, HasRoom}
-use Rattle.tt.specs.Forest.{Forest}
+use Rattle.tt.specs.Forest.{Forest, size}
 use Rattle.tt.specs.Stored.{most_tokens}
 use Rattle.tt.specs.Types.Delimiter.{Delimiter}
 use Rattle.tt.specs.Types.DelimiterKind.{DelimiterKind}
@@ -17,7 +17,8 @@ use Rattle.mbe_rules.specs.declared.parts.Part.{Part}
 use Rattle.mbe_rules.specs.declared.taken.Round.{Round}
 use Rattle.mbe_rules.specs.declared.taken.Taken.{Taken}
 use Rattle.mbe_rules.specs.Limits.{IsOver, IsWithin}
-use Rattle.mbe_rules.specs.Transcribing.{lengths_differ, no_round, others_of, in_round}
+use Rattle.mbe_rules.specs.Results.{IsFirstFault, error_of}
+use Rattle.mbe_rules.specs.Transcribing.{Transcribed, TranscribeFault, faulted, still_repeats, nothing_repeats, lengths_differ, no_round, others_of, in_round}
 use Rattle.mbe_rules.specs.Parts.{Bit, close, bits_of, bit_of}
 use Rattle.mbe_rules.specs.Rounds.{AreTaken, binding_in, dones}
 use Rattle.mbe_rules.specs.Templates.{Template}
@@ -91,6 +92,14 @@ IsTooMany more old fault =
 abbrev pub IsWant : ℕ → Transcriber → TranscribeError → Type 0
 IsWant more old fault = (fault ≡ error.Tree limit.Memory) ⊎ IsTooMany more old fault
 
+-- a use becomes trees, which are written
+abbrev pub IsUsed : Transcribed → (old new : Transcriber) → Type 0
+IsUsed it old new = (it.fault ≡ None) × Grows it.trees old new
+
+-- or it has a fault, or its trees cannot be written
+abbrev pub IsUseError : Transcribed → (old : Transcriber) → TranscribeError → Type 0
+IsUseError it old why = ((fault : TranscribeFault) × (it ≡ faulted fault) × (why ≡ error_of fault)) ⊎ ((it.fault ≡ None) × IsWant (size it.trees) old why)
+
 -- a subtree is opened
 pub record Opens (kind : DelimiterKind) (open_span : Span) (old new : Transcriber) : Type 0 where
   pub builder : new.builder ≡ opened kind open_span old.builder
@@ -119,10 +128,10 @@ Leaves old new = AreClosed (reverse old.closes.items) old new
 
 -- the final result has that fault, or is too large, or memory ran out
 abbrev pub IsStop : (most : Option ℕ) → Written → TranscribeError → Type 0
-IsStop most it (error.LengthsDiffer at) =
-    (it.fault ≡ Some (lengths_differ at)) × (tokens_held it.stack ≤ most_tokens) × IsWithin most (tokens_held it.stack)
-IsStop most it (error.NoRound at) =
-    (it.fault ≡ Some (no_round at)) × (tokens_held it.stack ≤ most_tokens) × IsWithin most (tokens_held it.stack)
+IsStop most it (error.StillRepeats at) = IsFirstFault most it.fault (tokens_held it.stack) (still_repeats at)
+IsStop most it (error.NothingRepeats at) = IsFirstFault most it.fault (tokens_held it.stack) (nothing_repeats at)
+IsStop most it (error.LengthsDiffer at) = IsFirstFault most it.fault (tokens_held it.stack) (lengths_differ at)
+IsStop most it (error.NoRound at) = IsFirstFault most it.fault (tokens_held it.stack) (no_round at)
 IsStop most it error.OverLimit = IsOver most (tokens_held it.stack)
 IsStop most it (error.Tree limit.Memory) = Unit {0}
 IsStop most it (error.Tree limit.TooManyTokens) = (most_tokens < tokens_held it.stack) × IsWithin most (suc most_tokens)

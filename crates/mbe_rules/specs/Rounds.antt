@@ -2,6 +2,7 @@
 use Rattle.std.specs.Prelude.{◌≡◌, ◌-◌, ℕ, zero, suc, List, [], ◌∷◌, map, length, get_or, slice_get, Option, None, Some}
 use Rattle.tt.specs.Forest.{Forest, end}
 use Rattle.tt.specs.Views.{trees_of}
+use Rattle.mbe_pattern.specs.declared.pattern.Fragment.{Fragment}
 use Rattle.mbe_matcher.specs.Bindings.{Bound, one, none, first, Named, Binding}
 use Rattle.mbe_matcher.specs.Ends.{sums}
 use Rattle.mbe_matcher.specs.Grouping.{grouped, first_bound}
@@ -97,7 +98,7 @@ abbrev pub seen_at : Option Named → Seen
 seen_at None = trees end
 seen_at (Some it) = seen_of it.bound
 
--- the trees that are seen
-abbrev pub trees_seen : Seen → Forest
-trees_seen (trees its) = its
-trees_seen (rounds n) = end
+-- the fragment of a variable; none, if there is no variable
+abbrev pub fragment_of : Option Named → Option Fragment
+fragment_of None = None
+fragment_of (Some it) = Some it.variable.fragment

@@ -10,9 +10,11 @@ use Rattle.mbe_matcher.specs.Bindings.{Bound, one, none, first, Named, Binding}
 use Rattle.mbe_rules.specs.Enclosing.{as_piece}
 use Rattle.mbe_rules.specs.Templates.{Template, nothing, use_of, token, subtree, repetition}
 
--- why a template cannot be filled, at the flat place of a repetition's `$`: one of its variables has more rounds than another, or
--- there is no round but one is required
+-- why a template cannot be filled, at the flat place of a `$`: the variable of a use has rounds there, none of the variables of a repetition
+-- has rounds, one of them has more rounds than another, or there is no round but one is required
 pub data TranscribeFault : Type 0 where
+  still_repeats : (at : ℕ) → TranscribeFault
+  nothing_repeats : (at : ℕ) → TranscribeFault
   lengths_differ : (at : ℕ) → TranscribeFault
   no_round : (at : ℕ) → TranscribeFault
 
@@ -63,7 +65,7 @@ enough at repeat.OneOrMore (suc n) = Ok (suc n)
 
 -- how often a repetition is filled: as often as all its variables have rounds
 abbrev pub rounds_of : (at : ℕ) → RepeatKind → List ℕ → Result ℕ TranscribeFault
-rounds_of at kind [] = Ok 0
+rounds_of at kind [] = Err (nothing_repeats at)
 rounds_of at kind (n ∷ others) = if are_all n others then enough at kind n else Err (lengths_differ at)
 
 -- what is bound in the first round, and in the others; what is bound outside a repetition is bound in each round
@@ -80,28 +82,24 @@ others_of (first it others) = others
 abbrev pub in_round : (Bound → Bound) → Named → Named
 in_round f it = record { variable = it.variable; bound = f it.bound }
 
--- the trees of a use
-abbrev pub trees_in : Bound → Forest
-trees_in (one trees) = trees
-trees_in none = end
-trees_in (first this others) = end
-
-abbrev pub trees_used : Option Named → Forest
-trees_used None = end
-trees_used (Some it) = trees_in it.bound
-
--- the fragment of its variable
-abbrev pub fragment_of : Option Named → Option Fragment
-fragment_of None = None
-fragment_of (Some it) = Some it.variable.fragment
-
--- the trees that replace a use, which a `<` follows or not
-abbrev pub trees_transcribed : (less_follows : Bool) → Option Named → Forest
-trees_transcribed less_follows it = as_piece (fragment_of it) less_follows (trees_used it)
-
 -- trees, and no fault
 abbrev pub all_transcribed : Forest → Transcribed
 all_transcribed trees = record { trees = trees; fault = None }
+
+-- a fault, and no trees
+abbrev pub faulted : TranscribeFault → Transcribed
+faulted fault = record { trees = end; fault = Some fault }
+
+-- what a use of a variable of that fragment becomes, which a `<` follows or not: what the variable took, unless it has rounds there
+abbrev pub bound_transcribed : (at : ℕ) → (less_follows : Bool) → Fragment → Bound → Transcribed
+bound_transcribed at less_follows which (one trees) = all_transcribed (as_piece (Some which) less_follows trees)
+bound_transcribed at less_follows which none = faulted (still_repeats at)
+bound_transcribed at less_follows which (first this others) = faulted (still_repeats at)
+
+-- what a use becomes; nothing, if there is no variable
+abbrev pub use_transcribed : (at : ℕ) → (less_follows : Bool) → Option Named → Transcribed
+use_transcribed at less_follows None = all_transcribed end
+use_transcribed at less_follows (Some it) = bound_transcribed at less_follows it.variable.fragment it.bound
 
 -- the first, and then the other if the first has no fault
 abbrev pub then_if : (fault : Option TranscribeFault) → Forest → Transcribed → Transcribed
@@ -125,7 +123,7 @@ transcribed_rounds transcribe separator (suc n) binding =
 
 -- the rounds, if their number is known
 abbrev pub transcribed_if : (transcribe : Binding → Transcribed) → (separator : Forest) → Result ℕ TranscribeFault → Binding → Transcribed
-transcribed_if transcribe separator (Err fault) binding = record { trees = end; fault = Some fault }
+transcribed_if transcribe separator (Err fault) binding = faulted fault
 transcribed_if transcribe separator (Ok n) binding = transcribed_rounds transcribe separator n binding
 
 -- a subtree around what was filled
@@ -136,7 +134,7 @@ in_subtree delimiter it = record { trees = node delimiter it.trees end; fault = 
 abbrev pub transcribed : Template → Binding → Transcribed
 transcribed nothing binding = all_transcribed end
 transcribed (use_of at variable less_follows others) binding =
-    and_then (all_transcribed (trees_transcribed less_follows (slice_get binding variable))) (transcribed others binding)
+    and_then (use_transcribed at less_follows (slice_get binding variable)) (transcribed others binding)
 transcribed (token it others) binding = and_then (all_transcribed (leaf it end)) (transcribed others binding)
 transcribed (subtree delimiter inner others) binding = and_then (in_subtree delimiter (transcribed inner binding)) (transcribed others binding)
 transcribed (repetition at inner separator kind others) binding =

@@ -1,7 +1,7 @@
 -- What is wrong with a template, by its parts from the last to the first.
 use Rattle.std.specs.Prelude.{ℕ, List, [], ◌∷◌, length, reverse, Option, None}
 use Rattle.mbe_matcher.specs.Grouping.{Where}
-use Rattle.mbe_rules.specs.declared.error.TemplateError.{TemplateError}
+use Rattle.mbe_rules.specs.declared.transcribe_error.TranscribeError.{TranscribeError}
 use Rattle.mbe_rules.specs.declared.validate.Validation as rust
 use Rattle.mbe_rules.specs.Faults.{or_else, use_fault, round_fault}
 use Rattle.mbe_rules.specs.Parts.{Bit, uses, same, enter, leave, begin, close}
@@ -9,7 +9,7 @@ use Rattle.mbe_rules.specs.Templates.{depth_of, greater}
 
 -- the first fault; and for each open repetition, the innermost first, the greatest depth of a variable that it uses
 pub record Validation : Type 0 where
-  pub fault : Option TemplateError
+  pub fault : Option TranscribeError
   pub depths : List ℕ
 
 -- the innermost open repetition uses a variable of that depth
@@ -23,7 +23,7 @@ used_with at depth validated =
     record { fault = or_else (use_fault at (length validated.depths) depth) validated.fault; depths = raised depth validated.depths }
 
 -- the beginning of the innermost open repetition
-abbrev pub begun : (at : ℕ) → List ℕ → Option TemplateError → Validation
+abbrev pub begun : (at : ℕ) → List ℕ → Option TranscribeError → Validation
 begun at [] fault = record { fault = fault; depths = [] }
 begun at (it ∷ outer) fault = record { fault = or_else (round_fault at (length outer) it) fault; depths = raised it outer }
 

@@ -5,7 +5,8 @@ ghost use Rattle.tt.specs.Iters.{rest_of};
 ghost use Rattle.mbe_matcher.specs.Parts.{part_of};
 ghost use Rattle.mbe_matcher.specs.Waiting.{AreWaiting};
 ghost use Rattle.mbe_program.specs.Labelling.{label_of};
-ghost use Rattle.mbe_rules.specs.Arms.{Arm as ArmOf, IsArm, IsBehind};
+ghost use Rattle.mbe_rules.specs.Arms.{Arm as ArmOf, IsArm, IsBehind, variables};
+ghost use Rattle.mbe_rules.specs.Faults.{template_fault};
 ghost use Rattle.mbe_rules.specs.Expansions.{IsMade, IsAnswer, IsAnswerWithin, IsRefusalWithin};
 ghost use Rattle.mbe_rules.specs.ArmFaults.{place, body_fault, arm_fault, IsArmFault};
 
@@ -115,6 +116,13 @@ impl Arm {
             limit,
         )?;
         Ok(Answer::Tree(tree))
+    }
+
+    /// Returns the first fault that the arm's template shows, whatever the input. Fails only if memory runs out.
+    pub(crate) fn fault(&self, alloc: Global) -> Result<Option<TranscribeError>, AllocError>
+        ensures { IfOk result (λ fault. (arm : ArmOf) → IsMade arm self.now → fault ≡ template_fault (variables arm.pattern) arm.template) }
+    {
+        self.template.fault(alloc, self.matcher.binders())
     }
 
     /// Returns the parts of the arm's pattern that wait at that flat place of an input. Fails only if memory runs out.

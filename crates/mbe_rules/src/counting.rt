@@ -2,7 +2,8 @@
 ghost use Rattle.std.specs.Prelude.{◌≡◌, Ok, Err, drop, map, IfOk, IfErr};
 ghost use Rattle.mbe_matcher.specs.Bindings.{Binding};
 ghost use Rattle.mbe_rules.specs.declared.counting.Count.TheVariants.{Unknown};
-ghost use Rattle.mbe_rules.specs.Counting.{counted_with, counted_all, rounds_by, counts_seen, uses_before, kind_before, behind_close, round_error};
+ghost use Rattle.mbe_rules.specs.Counting.{counted_with, counted_all, rounds_by, counts_seen, uses_before, kind_before, behind_close};
+ghost use Rattle.mbe_rules.specs.Results.{error_of};
 ghost use Rattle.mbe_rules.specs.Transcribing.{TranscribeFault, counts_of};
 ghost use Rattle.mbe_rules.specs.Parts.{bit_of};
 ghost use Rattle.mbe_rules.specs.Rounds.{AreTaken, binding_in, dones, seen_as};
@@ -79,10 +80,10 @@ pub(crate) fn scan(parts: &[Part], taken: &[Taken<'_>], rounds: &[Round], body: 
 /// Returns how often the repetition whose `$` is at that flat place is filled.
 pub(crate) fn rounds_by(at: usize, kind: RepeatKind, count: Count) -> Result<usize, TranscribeError>
     ensures ok { IfOk result (λ n. rounds_by at kind count ≡ Ok n) }
-    ensures err { IfErr result (λ error. (fault : TranscribeFault) × (rounds_by at kind count ≡ Err fault) × (error ≡ round_error fault)) }
+    ensures err { IfErr result (λ error. (fault : TranscribeFault) × (rounds_by at kind count ≡ Err fault) × (error ≡ error_of fault)) }
 {
     match (count, kind) {
-        (Count::Unknown, _) => Ok(0),
+        (Count::Unknown, _) => Err(TranscribeError::NothingRepeats(at)),
         (Count::Same(0), RepeatKind::OneOrMore) => Err(TranscribeError::NoRound(at)),
         (Count::Same(rounds), _) => Ok(rounds),
         (Count::Differ, _) => Err(TranscribeError::LengthsDiffer(at)),

@@ -7,14 +7,6 @@ use thiserror::Error;
 /// Why trees are no template.
 #[derive(Debug, Clone, Copy, PartialEq, Eq, Error)]
 pub enum TemplateError {
-    /// A variable is used in fewer repetitions than enclose it in its pattern. The number is the flat place of the `$` of the use: how
-    /// many tokens precede it, at any depth.
-    #[error("the variable repeats still")]
-    StillRepeats(usize),
-    /// A repetition uses no variable that is in more repetitions of its pattern than enclose this repetition, so nothing gives its number
-    /// of rounds. The number is the flat place of its `$`.
-    #[error("nothing repeats in the repetition")]
-    NothingRepeats(usize),
     /// Memory ran out.
     #[error("out of memory")]
     Memory,

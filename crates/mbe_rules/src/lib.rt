@@ -1,13 +1,13 @@
 //! Macros of several arms, each a pattern and a template with repetitions.
 //!
 //! A `Template` is a list of parts: tokens, uses of variables, and the ends of subtrees and repetitions. `Template::new` reads the parts
-//! (`parse`, `first`) and then goes through them from the last to find the first fault (`validate`). `Template::transcribe` goes through the
-//! parts and writes with a `TopSubtreeBuilder`. It keeps an index, the rounds under way and the close spans of the open subtrees. An
-//! expression, type, pattern or literal of several tokens goes into an opaque subtree (`enclose`).
+//! (`parse`, `first`). `Template::fault` goes through them from the last to find the first fault that they show (`validate`).
+//! `Template::transcribe` goes through the parts and writes with a `TopSubtreeBuilder`. It keeps an index, the rounds under way and the close
+//! spans of the open subtrees. An expression, type, pattern or literal of several tokens goes into an opaque subtree (`enclose`).
 //!
 //! A `MacroRules` is a list of arms, each a `Matcher` of `mbe_program`, a `Template` and a delimiter. `expand` returns what the first arm
 //! that matches the input makes of it. `expand_within` does so with at most so many tokens: before each write, it takes them from those that
-//! may still be written (`limit`).
+//! may still be written (`limit`). `faults` returns the faults that the templates show, whatever the input.
 //!
 //! The definitions that the contracts use are in `specs/` of this crate.
 #![tactic(auto)]

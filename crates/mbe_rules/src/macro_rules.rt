@@ -4,10 +4,12 @@ ghost use Rattle.tt.specs.Forest.{size};
 ghost use Rattle.tt.specs.Iters.{rest_of};
 ghost use Rattle.mbe_program.specs.Labelling.{label_of};
 ghost use Rattle.mbe_rules.specs.Arms.{Arm as ArmOf, Spell};
+ghost use Rattle.mbe_rules.specs.Faults.{fault_in_arm, faults_of};
 ghost use Rattle.mbe_rules.specs.Waiting.{in_arm, part_in, AreWaitingIn};
 
 use crate::arm::{Answer, Arm};
 use crate::rules_error::{ArmFault, ExpandError, RulesError};
+use crate::transcribe_error::TranscribeError;
 use mbe_program::Part;
 use std::alloc::{AllocError, Global};
 use tt::{TopSubtree, TtIter};
@@ -46,6 +48,20 @@ fn add_parts(arm: usize, parts: &[usize], all: &mut Vec<ArmPart>) -> Result<(), 
         all.push(ArmPart { arm, part: *part })?;
     }
     Ok(())
+}
+
+// Adds the fault of that arm's template, if it has one.
+fn add_fault(
+    arm: usize,
+    fault: Option<TranscribeError>,
+    all: &mut Vec<ExpandError>,
+) -> Result<(), AllocError>
+    ensures { OnOk result (all.new.items ≡ all.old.items ++ fault_in_arm arm fault) }
+{
+    match fault {
+        Some(fault) => Ok(all.push(ExpandError { arm, fault })?),
+        None => Ok(()),
+    }
 }
 
 impl MacroRules {
@@ -158,6 +174,23 @@ impl MacroRules {
             number += 1;
         }
         Ok(all)
+    }
+
+    /// Returns for each arm, in order, the first fault in reading order that its template shows whatever the input: a use in fewer repetitions
+    /// than enclose its variable in the pattern, or a repetition that uses no variable in more repetitions than enclose the repetition.
+    ///
+    /// Time is linear in the parts of the templates, and memory in those of the longest. Fails only if memory runs out.
+    pub fn faults(&self, alloc: Global) -> Result<Vec<ExpandError>, AllocError>
+        ensures { IfOk result (λ faults. (arms : List ArmOf) → AreMade arms self.now.arms.items → faults.items ≡ faults_of arms 0) }
+    {
+        let mut faults = Vec::new(alloc);
+        let mut number = 0;
+        while let Some(arm) = self.arms.get(number) {
+            let fault = arm.fault(alloc)?;
+            add_fault(number, fault, &mut faults)?;
+            number += 1;
+        }
+        Ok(faults)
     }
 
     /// Returns what a part requires; none if there is no such part.

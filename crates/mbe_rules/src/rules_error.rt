@@ -1,8 +1,7 @@
 //! Why trees are no macro, and why one does not expand.
 ghost use Rattle.std.specs.Prelude.{◌≡◌};
 ghost use Rattle.mbe_pattern.specs.declared.error.PatternError.{PatternError};
-ghost use Rattle.mbe_rules.specs.declared.error.TemplateError.{TemplateError};
-ghost use Rattle.mbe_rules.specs.ArmFaults.{of_pattern, of_template};
+ghost use Rattle.mbe_rules.specs.ArmFaults.{of_pattern};
 ghost use Rattle.mbe_rules.specs.declared.rules_error.ArmFault.TheVariants.{Memory};
 
 use crate::error::TemplateError;
@@ -12,7 +11,7 @@ use std::alloc::{AllocError, AllocFailed};
 use thiserror::Error;
 
 /// What is wrong with an arm. A number is a flat place among the trees of all arms: how many tokens, at any depth, precede the fault. In
-/// the faults of a pattern or a template it is counted from the beginning of that pattern or template.
+/// the fault of a pattern it is counted from the beginning of that pattern.
 #[derive(Debug, Clone, Copy, PartialEq, Eq, Error)]
 pub enum ArmFault {
     /// There is no subtree in the place of a pattern.
@@ -27,9 +26,6 @@ pub enum ArmFault {
     /// There is no subtree in the place of a template.
     #[error("there is no template")]
     NoTemplate(usize),
-    /// The template has a fault.
-    #[error("{0}")]
-    Template(TemplateError),
     /// After the template comes neither the end nor `;`.
     #[error("there is no `;` behind the template")]
     NoSemicolon(usize),
@@ -66,12 +62,9 @@ impl From<PatternError> for ArmFault {
 }
 
 impl From<TemplateError> for ArmFault {
-    ghost from_gives = { λ error fault. fault ≡ of_template error };
+    ghost from_gives = { λ _ fault. fault ≡ Memory };
 
-    fn from(error: TemplateError) -> ArmFault {
-        match error {
-            TemplateError::Memory => ArmFault::Memory,
-            other => ArmFault::Template(other),
-        }
+    fn from(_error: TemplateError) -> ArmFault {
+        ArmFault::Memory
     }
 }

@@ -5,8 +5,7 @@ ghost use Rattle.mbe_matcher.specs.Bindings.{Bound, Binding as Bindings};
 ghost use Rattle.mbe_matcher.specs.Grouping.{binding_by, named_by};
 ghost use Rattle.mbe_matcher.specs.Marks.{note_of};
 ghost use Rattle.mbe_matcher.specs.Binders.{where_of};
-ghost use Rattle.mbe_rules.specs.Transcribing.{fragment_of};
-ghost use Rattle.mbe_rules.specs.Rounds.{IsTaken, IsTakenBy, AreTaken, seen_as, seen_of, seen_at, time_seen, bound_in, dones, binding_in, times_at, lesser, first_at, count_at};
+ghost use Rattle.mbe_rules.specs.Rounds.{fragment_of, IsTaken, IsTakenBy, AreTaken, seen_as, seen_of, seen_at, time_seen, bound_in, dones, binding_in, times_at, lesser, first_at, count_at};
 
 use mbe_matcher::{Binder, Binding};
 use mbe_pattern::Fragment;

@@ -7,6 +7,7 @@ ghost use Rattle.mbe_matcher.specs.Grouping.{binding_by};
 ghost use Rattle.mbe_matcher.specs.Marks.{note_of};
 ghost use Rattle.mbe_matcher.specs.Binders.{where_of};
 ghost use Rattle.mbe_rules.specs.Limits.{IsWithin};
+ghost use Rattle.mbe_rules.specs.Faults.{template_fault};
 ghost use Rattle.mbe_rules.specs.Transcribing.{transcribed};
 ghost use Rattle.mbe_rules.specs.Spelling.{template_of};
 ghost use Rattle.mbe_rules.specs.Wholes.{AreWhole};
@@ -18,7 +19,7 @@ use crate::transcribe::transcribed;
 use crate::transcribe_error::TranscribeError;
 use crate::validate::fault_of;
 use mbe_matcher::{Binder, Binding};
-use std::alloc::Global;
+use std::alloc::{AllocError, Global};
 use tt::{Delimiter, TopSubtree, TtIter};
 
 /// What a macro writes: uses of a pattern's variables, tokens, subtrees and repetitions.
@@ -29,28 +30,38 @@ pub struct Template {
 }
 
 impl Template {
-    ghost use Rattle.mbe_rules.specs.Results.{meant, IsTemplate, IsTemplateError, IsTranscribed, IsTranscribeError};
+    ghost use Rattle.mbe_rules.specs.Results.{meant, IsTranscribed, IsTranscribeError};
 
     /// Returns the template that the trees spell; the variables are those of a pattern.
     ///
     /// `$name` is a use of the first variable of that name, raw or not. `$( .. )`, with a separator if there is one, and `*`, `+` or `?` is
     /// a repetition. Everything else is written as it is, also `$crate` and a `$` before a name that no variable has.
     ///
-    /// Time is linear in the number of trees times the number of variables, and memory in the number of trees. Returns the first fault in
-    /// reading order if the template has one; fails also if memory runs out.
+    /// Time is linear in the number of trees times the number of variables, and memory in the number of trees. Fails only if memory runs out.
     pub fn new(
         alloc: Global,
         binders: &[Binder],
         trees: TtIter<'_>,
     ) -> Result<Template, TemplateError>
-        ensures ok { IfOk result (IsTemplate (map where_of binders.now) (template_of (map where_of binders.now) (rest_of trees.entry))) }
-        ensures err { IfErr result (IsTemplateError (map where_of binders.now) (template_of (map where_of binders.now) (rest_of trees.entry))) }
+        ensures { IfOk result (λ it. meant it ≡ template_of (map where_of binders.now) (rest_of trees.entry)) }
     {
         let parts = parse(alloc, binders, trees)?;
-        match fault_of(alloc, binders, &parts)? {
-            Some(fault) => Err(fault),
-            None => Ok(Template { parts }),
-        }
+        Ok(Template { parts })
+    }
+
+    /// Returns the first fault, in reading order, that the template shows whatever it is filled with: a use in fewer repetitions than enclose
+    /// its variable in the pattern, or a repetition that uses no variable in more repetitions than enclose the repetition. The variables must
+    /// be those that the template was made for.
+    ///
+    /// Time and memory are linear in the number of parts. Fails only if memory runs out.
+    pub fn fault(
+        &self,
+        alloc: Global,
+        binders: &[Binder],
+    ) -> Result<Option<TranscribeError>, AllocError>
+        ensures { IfOk result (λ fault. fault ≡ template_fault (map where_of binders.now) (meant self.now)) }
+    {
+        fault_of(alloc, binders, &self.parts)
     }
 
     /// Returns the template filled with what an input binds. Each use is replaced by what is bound to its variable. Each

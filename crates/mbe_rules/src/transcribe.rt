@@ -13,12 +13,12 @@ ghost use Rattle.mbe_matcher.specs.Binders.{where_of};
 ghost use Rattle.mbe_rules.specs.declared.taken.Taken.{Taken};
 ghost use Rattle.mbe_rules.specs.declared.transcribe_error.TranscribeError.TheVariants.{Tree};
 ghost use Rattle.mbe_rules.specs.Limits.{IsWithin};
-ghost use Rattle.mbe_rules.specs.Transcribing.{transcribed, trees_used, trees_transcribed};
+ghost use Rattle.mbe_rules.specs.Transcribing.{transcribed, use_transcribed};
 ghost use Rattle.mbe_rules.specs.Parts.{bit_of, begin, close};
 ghost use Rattle.mbe_rules.specs.Enclosing.{enclosed_between, enclosed, as_piece};
 ghost use Rattle.mbe_rules.specs.Results.{IsTranscribed, IsTranscribeError};
-ghost use Rattle.mbe_rules.specs.Rounds.{AreTaken, binding_in, dones};
-ghost use Rattle.mbe_rules.specs.Filling.{bound_here, Grows, IsWant, Opens, Enters, Leaves, StepsTo, StopsAt};
+ghost use Rattle.mbe_rules.specs.Rounds.{AreTaken};
+ghost use Rattle.mbe_rules.specs.Filling.{bound_here, Grows, IsUsed, IsUseError, IsWant, Opens, Enters, Leaves, StepsTo, StopsAt};
 ghost use Rattle.mbe_rules.specs.Wholes.{AreWhole, whole_of};
 
 use crate::counting::{rounds_by, scan};
@@ -40,16 +40,6 @@ pub(crate) struct Transcriber {
     pub(crate) rounds: Vec<Round>,
     pub(crate) closes: Vec<Span>,
     pub(crate) left: Option<usize>,
-}
-
-// Returns the trees that are bound to the variable of that index.
-fn trees_of<'i>(taken: &[Taken<'i>], number: usize, rounds: &[Round]) -> TokenTreesView<'i>
-    ensures { (binding : Bindings) → AreTaken binding taken.now → trees_of result ≡ trees_used (slice_get (binding_in (dones rounds.now) binding) number) }
-{
-    let Seen::Trees(trees) = seen_in(taken, number, rounds) else {
-        return TokenTreesView::empty();
-    };
-    trees
 }
 
 impl Transcriber {
@@ -117,18 +107,21 @@ impl Transcriber {
         }
     }
 
-    // Writes what is bound to the variable of that index, before a `<` or not.
+    // Writes what is bound to the variable of that index, before a `<` or not. The `$` of the use is at that flat place.
     fn transcribe_variable(
         &mut self,
         taken: &[Taken<'_>],
+        at: usize,
         number: usize,
         less_follows: bool,
     ) -> Result<(), TranscribeError>
-        ensures ok { OnOk result ((binding : Bindings) → AreTaken binding taken.now → Grows (trees_transcribed less_follows (slice_get (bound_here binding (reverse self.old.rounds.items)) number)) self.old self.new) }
-        ensures err { IfErr result (λ error. (binding : Bindings) → AreTaken binding taken.now → IsWant (size (trees_transcribed less_follows (slice_get (bound_here binding (reverse self.old.rounds.items)) number))) self.old error) }
+        ensures ok { OnOk result ((binding : Bindings) → AreTaken binding taken.now → IsUsed (use_transcribed at less_follows (slice_get (bound_here binding (reverse self.old.rounds.items)) number)) self.old self.new) }
+        ensures err { IfErr result (λ error. (binding : Bindings) → AreTaken binding taken.now → IsUseError (use_transcribed at less_follows (slice_get (bound_here binding (reverse self.old.rounds.items)) number)) self.old error) }
     {
-        let trees = trees_of(taken, number, &self.rounds);
-        self.write(fragment_of(taken, number), less_follows, trees)
+        match seen_in(taken, number, &self.rounds) {
+            Seen::Trees(trees) => self.write(fragment_of(taken, number), less_follows, trees),
+            Seen::Rounds(_) => Err(TranscribeError::StillRepeats(at)),
+        }
     }
 
     // Writes a token.
@@ -237,8 +230,8 @@ impl Transcriber {
         ensures err { IfErr result (StopsAt parts.now taken.now (bit_of part.now) behind self.old) }
     {
         match part {
-            Part::Use(_, number, less_follows) => {
-                self.transcribe_variable(taken, *number, *less_follows)?
+            Part::Use(at, number, less_follows) => {
+                self.transcribe_variable(taken, *at, *number, *less_follows)?
             }
             Part::Token(leaf) => self.push(leaf)?,
             Part::Enter(delimiter) => self.enter(delimiter)?,

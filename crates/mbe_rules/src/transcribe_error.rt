@@ -10,6 +10,14 @@ use tt::{Refused, TtFault};
 /// Why a template is not filled.
 #[derive(Debug, Clone, Copy, PartialEq, Eq, Error)]
 pub enum TranscribeError {
+    /// A variable is used where it has rounds: in fewer repetitions than enclose it in its pattern. The number is the flat place of the `$` of
+    /// the use: how many tokens of the template precede it, at any depth.
+    #[error("the variable repeats still")]
+    StillRepeats(usize),
+    /// None of the variables that a repetition uses has rounds there, so nothing gives its number of rounds. The number is the flat place of
+    /// its `$`.
+    #[error("nothing repeats in the repetition")]
+    NothingRepeats(usize),
     /// A variable of a repetition has more rounds than another. The number is the flat place of the repetition's `$`.
     #[error("variables of the repetition have different numbers of rounds")]
     LengthsDiffer(usize),

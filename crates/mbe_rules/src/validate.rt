@@ -1,12 +1,12 @@
-//! Finds what is wrong with a template, by its parts from the last to the first.
+//! Finds the fault that a template shows, by its parts from the last to the first.
 ghost use Rattle.std.specs.Prelude.{◌≡◌, map, reverse, IfOk, OnOk};
 ghost use Rattle.mbe_matcher.specs.Binders.{where_of};
 ghost use Rattle.mbe_rules.specs.Validating.{raised, used_with, begun, validated_with, validated_by, validated_of};
 ghost use Rattle.mbe_rules.specs.Parts.{bit_of};
 ghost use Rattle.mbe_rules.specs.Templates.{depth_of, greater};
 
-use crate::error::TemplateError;
 use crate::parts::Part;
+use crate::transcribe_error::TranscribeError;
 use mbe_matcher::Binder;
 use std::alloc::{AllocError, Global};
 
@@ -14,7 +14,7 @@ use std::alloc::{AllocError, Global};
 /// the number of repetitions around a variable in its pattern.
 #[derive(Drop)]
 pub(crate) struct Validation {
-    fault: Option<TemplateError>,
+    fault: Option<TranscribeError>,
     depths: Vec<usize>,
 }
 
@@ -52,7 +52,7 @@ impl Validation {
         ensures { OnOk result (validated_by self.new ≡ used_with at depth (validated_by self.old)) }
     {
         if self.depths.len() < depth {
-            self.fault = Some(TemplateError::StillRepeats(at));
+            self.fault = Some(TranscribeError::StillRepeats(at));
         }
         self.raise(depth)
     }
@@ -65,7 +65,7 @@ impl Validation {
             return Ok(());
         };
         if self.depths.len() >= deepest {
-            self.fault = Some(TemplateError::NothingRepeats(at));
+            self.fault = Some(TranscribeError::NothingRepeats(at));
         }
         self.raise(deepest)
     }
@@ -83,12 +83,12 @@ impl Validation {
     }
 }
 
-/// Returns what is wrong with the template of these parts, if anything is.
+/// Returns the first fault that the template of these parts shows, if there is one.
 pub(crate) fn fault_of(
     alloc: Global,
     binders: &[Binder],
     parts: &[Part],
-) -> Result<Option<TemplateError>, AllocError>
+) -> Result<Option<TranscribeError>, AllocError>
     ensures { IfOk result (λ fault. fault ≡ (validated_of (map where_of binders.now) (map bit_of parts.now)).fault) }
 {
     let mut validated = Validation {

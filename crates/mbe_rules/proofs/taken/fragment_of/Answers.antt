@@ -1,7 +1,7 @@
 use Rattle.std.proofs.Common.{rules, ◌≡◌, ◌<◌, ◌≤◌, length, get_or, Some, ap, sym, ◌∙◌}
 use Rattle.std.proofs.lemmas.Option.{slice_get_past, slice_get-get_or}
 use Rattle.std.specs.Prelude.{slice_get}
-use Rattle.mbe_rules.specs.Transcribing.{fragment_of}
+use Rattle.mbe_rules.specs.Rounds.{fragment_of}
 use Rattle.mbe_rules.proofs.Seeing.{taken_at, none_at}
 use Rattle.mbe_rules.proofs.taken.fragment_of.Goals as goal
 

@@ -11,11 +11,12 @@ returns-in_err-transcribe_variable-in-Use-clause-err c =
     let bits = map bit_of c.args.parts.now in
     let left = bits_from c.args.parts.now c.args.behind in
     let fault = c.in_err-transcribe_variable-in-Use.field-0.0 in
-    let part : c.args.part.now ≡ part.Use c.in-Use.field-0 c.in-Use.number c.in-Use.less_follows = search rules in
+    let part : c.args.part.now ≡ part.Use c.in-Use.at c.in-Use.number c.in-Use.less_follows = search rules in
     let failed : c.from_residual.result ≡ Err fault = search rules in
     rw failed
     (λ whole levels are is.
-    use_stops bits whole levels left old c.in-Use.field-0 c.in-Use.number c.in-Use.less_follows fault (subst (λ p. IsAt bits whole levels old (bit_of p ∷ left)) part is) (c.in_err-transcribe_variable-in-Use.ensures.err whole are))
+    use_stops bits whole levels left old c.in-Use.at c.in-Use.number c.in-Use.less_follows (subst (λ p. IsAt bits whole levels old (bit_of p ∷ left)) part is) fault
+    (c.in_err-transcribe_variable-in-Use.ensures.err whole are))
 
 pub returns-in_err-push-in-Token-clause-err : goal.returns-in_err-push-in-Token-clause-err
 returns-in_err-push-in-Token-clause-err c =
@@ -46,8 +47,8 @@ returns-in_ok-transcribe_variable-in-Use-clause-ok c whole levels are is =
     let old = c.args.self.now in
     let bits = map bit_of c.args.parts.now in
     let left = bits_from c.args.parts.now c.args.behind in
-    let part : c.args.part.now ≡ part.Use c.in-Use.field-0 c.in-Use.number c.in-Use.less_follows = search rules in
-    use_steps bits whole levels left old c.transcribe_variable.new.self c.in-Use.field-0 c.in-Use.number c.in-Use.less_follows (subst (λ p. IsAt bits whole levels old (bit_of p ∷ left)) part is)
+    let part : c.args.part.now ≡ part.Use c.in-Use.at c.in-Use.number c.in-Use.less_follows = search rules in
+    use_steps bits whole levels left old c.in-Use.at c.in-Use.number c.in-Use.less_follows (subst (λ p. IsAt bits whole levels old (bit_of p ∷ left)) part is) c.transcribe_variable.new.self
     (c.in_ok-transcribe_variable-in-Use.ensures.ok whole are)
 
 pub returns-in_ok-push-in-Token-clause-ok : goal.returns-in_ok-push-in-Token-clause-ok
