@@ -243,6 +243,8 @@ FOLLOWED = (
     ("$p:pat_param | $q:pat if $e:expr", []),
     ("$t:ty $(; $n:ident)? + $p:path { $b:block }", [(22, 1, "ty", TYPE)]),
     ("$v:vis fn [$t:ty]", []),
+    ("$v:vis $crate", []),
+    ("$v:vis $", [(8, 1, "vis", "`,`, an ident or a type")]),
     ("$v:vis + $(- $t:ty)*", [(8, 1, "vis", "`,`, an ident or a type")]),
     ("$($e:expr)+ $i:item", [(13, 3, "expr", EXPRESSION)]),
     ("$($e:expr)* $(a)*", [(15, 3, "expr", EXPRESSION)]),

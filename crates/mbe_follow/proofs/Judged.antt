@@ -6,7 +6,7 @@ use Rattle.mbe_follow.specs.declared.judge.FollowFault.{FollowFault}
 use Rattle.mbe_follow.specs.declared.layout.Piece.{Piece}
 use Rattle.mbe_follow.specs.declared.layout.Piece.TheVariants as piece
 use Rattle.mbe_follow.specs.declared.next.Next.{Next}
-use Rattle.mbe_follow.specs.Following.{token_next, separator_next, subtree_next, variable_next, after_pattern, after_separator, may_be_passed, firsts, first_refused, fault_with, faults_before, follow_faults_of}
+use Rattle.mbe_follow.specs.Following.{begins_with_crate, token_next, separator_next, subtree_next, variable_next, after_pattern, after_separator, may_be_passed, firsts, first_refused, fault_with, faults_before, follow_faults_of}
 use Rattle.mbe_follow.specs.Judging.{Reach, before, all_before, Judged, judged, required, judged_with, judged_of}
 use Rattle.mbe_follow.specs.Pieces.{pieces_of, all_pieces}
 
@@ -72,7 +72,7 @@ judged_pieces number (variable it others) behind =
     ∙ ap (λ nexts. judged (fault nexts ++ (more ++ was.faults)) level was.outer) (before_raised (number + 1) others was.level (all_before was.outer))
     ∙ ap (λ faults. judged faults level was.outer) (sym (append_assoc (fault (firsts (number + 1) others all)) more was.faults))
 judged_pieces number (token its others) behind =
-    ap (judged_with (piece.Token (token_next number its))) (judged_pieces (number + 1) others behind)
+    ap (judged_with (piece.Token (token_next number its (begins_with_crate others)))) (judged_pieces (number + 1) others behind)
 judged_pieces number (subtree kind inner others) behind =
     let was = judged_of behind in
     let after = after_pattern (number + 1) inner in

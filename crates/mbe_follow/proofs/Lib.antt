@@ -1,4 +1,5 @@
 -- Proofs of this crate.
+pub mod CrateFirst
 pub mod Cutting
 pub mod Judged
 pub mod Refusing

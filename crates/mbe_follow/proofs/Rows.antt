@@ -210,6 +210,19 @@ vis_life = refl
 vis_crate : faults (x (codes "vis") (alone 36 (word (codes "crate") end))) ≡ []
 vis_crate = refl
 
+-- A `$` that `crate` does not follow is a token like others, and so is one between rounds.
+vis_dollar : faults (x (codes "vis") (alone 36 end)) ≡ refused 0 fragment.Vis 1
+vis_dollar = refl
+
+vis_before_dollar : faults (rounds (x (codes "vis") end) (alone 36 (alone 42 end))) ≡ refused 1 fragment.Vis 2
+vis_before_dollar = refl
+
+expr_before_dollar : faults (rounds (x (codes "expr") end) (alone 36 (alone 42 end))) ≡ refused 1 (fragment.Grammar grammar.Expr) 2
+expr_before_dollar = refl
+
+ident_before_dollar : faults (rounds (x (codes "ident") end) (alone 36 (alone 42 end))) ≡ []
+ident_before_dollar = refl
+
 vis_ty : faults (x (codes "vis") (y (codes "ty") end)) ≡ []
 vis_ty = refl
 

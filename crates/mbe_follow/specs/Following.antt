@@ -9,24 +9,32 @@ use Rattle.mbe_pattern.specs.declared.pattern.GrammarFragment.TheVariants as gra
 use Rattle.mbe_pattern.specs.Patterns.{Pattern, nothing, variable, token, subtree, repetition, may_be_none}
 use Rattle.mbe_follow.specs.declared.judge.FollowFault.{FollowFault}
 use Rattle.mbe_follow.specs.declared.next.Next.{Next}
-use Rattle.mbe_follow.specs.Tokens.{is_spelled, ends_expr, ends_pat, ends_ty, ends_vis}
+use Rattle.mbe_follow.specs.Tokens.{is_spelled, is_plain, ends_expr, ends_pat, ends_ty, ends_vis}
 
--- a token with that number, and what it may come behind
-abbrev pub token_next : (number : ℕ) → List Leaf → Next
-token_next number its =
+-- the pattern begins with the ident `crate`
+abbrev pub begins_with_crate : Pattern → Bool
+begins_with_crate nothing = false
+begins_with_crate (variable it others) = false
+begins_with_crate (token its others) = is_plain (codes "crate") its
+begins_with_crate (subtree kind inner others) = false
+begins_with_crate (repetition inner separator op others) = false
+
+-- a token with that number, which `crate` follows or not, and what it may come behind; `$crate` begins a type
+abbrev pub token_next : (number : ℕ) → List Leaf → (before_crate : Bool) → Next
+token_next number its before_crate =
     record {
       number = number;
       ends_expr = ends_expr its;
       ends_pat = ends_pat its;
       ends_pat_param = ends_pat its || is_spelled (codes "|") its;
       ends_ty = ends_ty its;
-      ends_vis = ends_vis its;
+      ends_vis = ends_vis its || (before_crate && is_spelled (codes "$") its);
     }
 
 -- the separator of a repetition, if it has one
 abbrev pub separator_next : (number : ℕ) → List Leaf → Option Next
 separator_next number [] = None
-separator_next number (it ∷ others) = Some (token_next number (it ∷ others))
+separator_next number (it ∷ others) = Some (token_next number (it ∷ others) false)
 
 -- a part that is no token, and whether it may come behind a type and behind a visibility
 abbrev pub next_with : (number : ℕ) → (ty vis : Bool) → Next
@@ -101,7 +109,7 @@ may_be_passed (repetition inner separator op others) = (may_be_none op || may_be
 abbrev pub firsts : (number : ℕ) → Pattern → (behind : List Next) → List Next
 firsts number nothing behind = behind
 firsts number (variable it others) behind = variable_next number it.fragment ∷ []
-firsts number (token its others) behind = token_next number its ∷ []
+firsts number (token its others) behind = token_next number its (begins_with_crate others) ∷ []
 firsts number (subtree kind inner others) behind = subtree_next number kind ∷ []
 firsts number (repetition inner separator op others) behind =
     let after = after_pattern (number + 1) inner in

@@ -10,13 +10,13 @@ use Rattle.mbe_follow.specs.declared.layout.Layout.{Layout}
 use Rattle.mbe_follow.specs.declared.layout.Level.{Level}
 use Rattle.mbe_follow.specs.declared.layout.Piece.{Piece}
 use Rattle.mbe_follow.specs.declared.layout.Piece.TheVariants as piece
-use Rattle.mbe_follow.specs.Following.{separator_next, token_next, subtree_next, after_separator, after_pattern}
+use Rattle.mbe_follow.specs.Following.{begins_with_crate, separator_next, token_next, subtree_next, after_separator, after_pattern}
 
 -- the pieces of a pattern whose first part has that number, before others
 abbrev pub pieces_of : (number : ℕ) → Pattern → (behind : List Piece) → List Piece
 pieces_of number nothing behind = behind
 pieces_of number (variable it others) behind = piece.Variable number it.fragment ∷ pieces_of (number + 1) others behind
-pieces_of number (token its others) behind = piece.Token (token_next number its) ∷ pieces_of (number + 1) others behind
+pieces_of number (token its others) behind = piece.Token (token_next number its (begins_with_crate others)) ∷ pieces_of (number + 1) others behind
 pieces_of number (subtree kind inner others) behind =
     piece.Enter (subtree_next number kind) ∷ pieces_of (number + 1) inner (piece.Leave ∷ pieces_of (after_pattern (number + 1) inner) others behind)
 pieces_of number (repetition inner separator op others) behind =
@@ -77,7 +77,8 @@ ended number closing outer = record { piece = end_piece number closing; number =
 abbrev pub stepped : (number : ℕ) → Part → LevelLeft → (outer : List LevelLeft) → Step
 stepped number part.End level outer = ended number level.closing outer
 stepped number (part.Variable it) level outer = record { piece = piece.Variable number it.fragment; number = number + 1; levels = level ∷ outer }
-stepped number (part.Token leaves) level outer = record { piece = piece.Token (token_next number leaves.items); number = number + 1; levels = level ∷ outer }
+stepped number (part.Token leaves) level outer =
+    record { piece = piece.Token (token_next number leaves.items (begins_with_crate level.rest)); number = number + 1; levels = level ∷ outer }
 stepped number (part.Subtree kind inner) level outer =
     record { piece = piece.Enter (subtree_next number kind); number = number + 1; levels = level_of (pattern_of (rest_of inner)) None ∷ level ∷ outer }
 stepped number (part.Repetition inner tail) level outer =

@@ -36,12 +36,12 @@ is_lifetime (leaf_of.Literal it ∷ others) = false
 is_lifetime (leaf_of.Punct it ∷ others) = is_ident others && (it.char == quote)
 is_lifetime (leaf_of.Ident it ∷ others) = false
 
--- a type may begin with the token; `$` is that of `$crate`
+-- a type may begin with the token
 abbrev pub begins_type : List Leaf → Bool
 begins_type its =
     is_spelled (codes "!") its || is_spelled (codes "*") its || is_spelled (codes "&") its || is_spelled (codes "&&") its
     || is_spelled (codes "?") its || is_spelled (codes "<") its || is_spelled (codes "<<") its || is_spelled (codes "::") its
-    || is_spelled (codes "$") its || is_lifetime its
+    || is_lifetime its
 
 -- the token may come behind an expression or a statement
 abbrev pub ends_expr : List Leaf → Bool

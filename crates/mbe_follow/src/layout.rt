@@ -2,11 +2,11 @@
 ghost use Rattle.std.specs.Prelude.{◌≡◌, ◌∷◌, ◌++◌, [], length, IfOk, OnOk};
 ghost use Rattle.tt.specs.Iters.{rest_of};
 ghost use Rattle.mbe_pattern.specs.Placed.{pattern_of};
-ghost use Rattle.mbe_follow.specs.Following.{part_count};
+ghost use Rattle.mbe_follow.specs.Following.{begins_with_crate, part_count};
 ghost use Rattle.mbe_follow.specs.Pieces.{all_pieces, ended, level_left, levels_left, stepped, IsStepped};
 
 use crate::next::Next;
-use mbe_pattern::{Fragment, Part, RepeatKind, Tail, next_part};
+use mbe_pattern::{Fragment, Part, RepeatKind, Tail, is_crate_in, next_part};
 use std::alloc::{AllocError, Global};
 use tt::{Span, TtIter};
 
@@ -39,6 +39,13 @@ pub(crate) struct Layout<'p> {
     pub(crate) pieces: Vec<Piece>,
     pub(crate) spans: Vec<Span>,
     levels: Vec<Level<'p>>,
+}
+
+// Returns whether the pattern that these trees spell begins with `crate`.
+fn begins_with_crate(trees: TtIter<'_>) -> bool
+    ensures { result ≡ begins_with_crate (pattern_of (rest_of trees.entry)) }
+{
+    is_crate_in(trees)
 }
 
 impl<'p> Layout<'p> {
@@ -79,7 +86,9 @@ impl<'p> Layout<'p> {
                 self.add(span, Piece::Variable(number, variable.fragment), level)
             }
             Part::Token(leaves) => {
-                self.add(span, Piece::Token(Next::of_token(number, &leaves)), level)
+                let before_crate = begins_with_crate(level.rest.remaining().iter());
+                let next = Next::of_token(number, &leaves, before_crate);
+                self.add(span, Piece::Token(next), level)
             }
             Part::Subtree(kind, rest) => {
                 self.add(span, Piece::Enter(Next::of_subtree(number, kind)), level)?;

@@ -19,9 +19,9 @@ pub(crate) struct Next {
 }
 
 impl Next {
-    /// Returns the token of that number.
-    pub(crate) fn of_token(number: usize, leaves: &[Leaf]) -> Next
-        ensures { result ≡ token_next number leaves.now }
+    /// Returns the token of that number, given whether `crate` follows it.
+    pub(crate) fn of_token(number: usize, leaves: &[Leaf], before_crate: bool) -> Next
+        ensures { result ≡ token_next number leaves.now before_crate }
     {
         Next {
             number,
@@ -29,7 +29,7 @@ impl Next {
             ends_pat: ends_pat(leaves),
             ends_pat_param: ends_pat(leaves) | is_one(leaves, '|'),
             ends_ty: ends_ty(leaves),
-            ends_vis: ends_vis(leaves),
+            ends_vis: ends_vis(leaves) | (before_crate & is_one(leaves, '$')),
         }
     }
 
@@ -40,7 +40,7 @@ impl Next {
         if leaves.is_empty() {
             None
         } else {
-            Some(Next::of_token(number, leaves))
+            Some(Next::of_token(number, leaves, false))
         }
     }
 

@@ -79,7 +79,6 @@ fn begins_type(leaves: &[Leaf]) -> bool
         | is_one(leaves, '<')
         | is_two(leaves, '<', '<')
         | is_two(leaves, ':', ':')
-        | is_one(leaves, '$')
         | is_lifetime(leaves)
 }
 

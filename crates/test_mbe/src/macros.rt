@@ -335,7 +335,7 @@ const FAULTS: [(&str, usize, &str, usize); 17] = [
     ("() => {} () => {}", 0, "no semicolon", 4),
     ("() => {}, () => {}", 0, "no semicolon", 4),
     ("() => {};;", 1, "no pattern", 5),
-    ("() => {}; (a $) => {}", 1, "begins nothing", 1),
+    ("() => {}; (a $$) => {}", 1, "begins nothing", 1),
     ("() => {}; ($x:tt $x:tt) b", 1, "twice", 4),
     ("(a) => {}; ($x:exp) => {}", 1, "unknown", 0),
     ("($($x:tt)*) => {a $x} b", 0, "still repeats", 1),
