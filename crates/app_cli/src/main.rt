@@ -5,6 +5,7 @@
 mod arguments;
 mod cfg_options;
 mod counts;
+mod definitions;
 mod diagnostics;
 mod dropping;
 mod expanding;
@@ -15,7 +16,9 @@ mod options;
 mod packing;
 mod program;
 mod report;
+mod templates;
 mod trail;
+mod warnings;
 
 use std::process::ExitCode;
 
