@@ -20,7 +20,10 @@ import random_macros
 random_macros.FRAGMENTS = ["tt", "tt", "ident", "literal", "lifetime"]
 BATCH = 400
 # What rustc says if the program says that.
-SAME = [("no match", ["no rules expected", "unexpected end"]), ("lengths", ["repeats"]), ("no round", ["must repeat at least once"])]
+SAME = [
+    ("no match", ["no rules expected", "unexpected end"]), ("lengths", ["repeats"]), ("no round", ["must repeat at least once"]),
+    ("still repeats", ["still repeating"]), ("nothing repeats", ["containing no syntax variables"]),
+]
 AMBIGUITY = "rustc: local ambiguity, where the program goes on"
 LESS_FAR = "rustc: an arm that comes less far, where another takes a subtree by `tt`"
 NO_LITERAL = "rustc: an error of its own at a `-` without a literal"

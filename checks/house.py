@@ -42,6 +42,7 @@ NOT_SWEPT = {
     "syntax_unparse::is_writable": "rust_text does the same for each leaf",
     "mbe_rules::MacroRules::expand_within": "MacroRules::expand does the same without a limit",
     "mbe_rules::Template::new": "MacroRules::new calls it",
+    "mbe_rules::Template::fault": "MacroRules::faults calls it",
     "mbe_rules::Template::transcribe": "MacroRules::expand calls it",
 }
 

@@ -267,6 +267,34 @@ def try_followed(files):
         wants("what is expanded", files.run("expand", "-", given=text), (0, text, b""))
 
 
+# Rules whose templates show a fault at `§`, and the fault.
+STILL_REPEATS, NOTHING_REPEATS = "this variable is still repeating at this depth", "this repetition contains no variable that repeats"
+SHOWING = (
+    ("($($x:tt)*) => {f(§$x)}", STILL_REPEATS),
+    ("($($($x:tt)+),*) => {$($crate::f(§$x))*}", STILL_REPEATS),
+    ("($x:tt) => {§$($x)*}", NOTHING_REPEATS),
+    ("($($x:tt)+) => {$crate::g!(a $($x§$(b)*)*)}", NOTHING_REPEATS),
+)
+
+
+def try_shown(files):
+    """`check` warns of a fault that the template of a rule shows, unless a call comes to it: that is an error. `expand` does not."""
+    for marked, words in SHOWING:
+        text = f"macro_rules! m {{ (a) => {{1}}; {marked} }} const A: u8 = m!(a);"
+        column = text.index("§")
+        text = text.replace("§", "")
+        place = " --> <stdin>:1:{}\n  |\n1 | {}\n  | {}^\n"
+        message = f"rule 2 of `m`: {words}\n"
+        told = f"warning: {message}{place.format(column + 1, text, ' ' * column)}  = note: a call that comes to this is an error\n\n"
+        wants(marked, files.run("check", "-", given=text.encode()), (0, b"", told.encode() + count_line(0, 1)))
+        wants("another name", files.run("check", "--only", "n", "-", given=text.encode())[:2], (0, b""))
+        wants("what is expanded", files.run("expand", "-", given=text.encode()), (0, text.replace("m!(a)", "1").encode(), b""))
+        called = f"{text} const B: u8 = m!(b);"
+        call = called.index("m!(b)")
+        told = f"error: {message}{place.format(call + 1, called, ' ' * call)}note: `m` is defined here\n{place.format(14, called, ' ' * 13)}"
+        judge(files, None, f"{told}{ONE_ERROR}", "-", given=called.encode())
+
+
 def try_options(files):
     """Values that options have not."""
     for words in (("--limit", "0"), ("--limit", str(MOST_LIMIT + 1)), ("--limit", "x"), ("--limit=-1",), ("--limit",)):
@@ -369,7 +397,7 @@ def tried(files, examples):
     """Each thing that is tried, by its name."""
     yield from tried_cases(files, examples / "small.cases")
     for try_one in (
-        try_missing, try_several, try_empty, try_no_utf8, try_bytes_stay, try_first_line, try_cut_lines, try_controls, try_only, try_followed, try_options, try_keywords, try_seams, try_deep, try_forever,
+        try_missing, try_several, try_empty, try_no_utf8, try_bytes_stay, try_first_line, try_cut_lines, try_controls, try_only, try_followed, try_shown, try_options, try_keywords, try_seams, try_deep, try_forever,
         try_long,
         try_closed_pipe, try_colours,
     ):

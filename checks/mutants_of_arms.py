@@ -2,7 +2,6 @@
 FOUND = "if is_operator(trees[count:]) else None"
 FAULT = "fault = pattern_fault(pattern, set())\n    if fault:\n        raise ArmFault(number, fault)"
 ARROW = "if not is_arrow(trees[1:]):\n        raise ArmFault(number, NO_ARROW)"
-TEMPLATE = "fault = template_fault(template, nests)\n    if fault:\n        raise ArmFault(number, fault)"
 SEMICOLON = 'if left and not is_punct(left, ";"):\n        raise ArmFault(number, NO_SEMICOLON)'
 UNITS = [
     ("a lifetime is two units", "return 2 if is_ident(trees[1:]) else 1", "return 1"),
@@ -25,10 +24,9 @@ SPELLING = [
     ("a name is raw or not", '("var", behind[0].text, fragment)', '("var", word(behind[0]), fragment)'),
     ("a fragment is never raw", "fragment = behind[2].text", "fragment = word(behind[2])"),
     ("any punct precedes a fragment", 'not is_punct(behind[1:], ":")', "not behind[1:]"),
-    ("_ is no name", '        if part[0] == "var":\n            nests', '        if part[0] == "var" and part[1] != "_":\n            nests'),
-    ("a use is raw or not", "behind[0].text in nests:", "word(behind[0]) in nests:"),
+    ("a use is raw or not", "behind[0].text in names:", "word(behind[0]) in names:"),
     ("$crate uses a variable", "if is_ident(behind) and not is_crate(behind)", "if is_ident(behind)"),
-    ("a template's repetition holds no tokens", "template_of(held, nests), between", "[part for part in template_of(held, nests) if part[0] != 'unit'], between"),
+    ("a template's repetition holds no tokens", "template_of(held, names), between", "[part for part in template_of(held, names) if part[0] != 'unit'], between"),
 ]
 FAULTS = [
     ("an unknown fragment begins nothing", '("wrong", UNKNOWN_FRAGMENT), 1', '("wrong", BEGINS_NOTHING), 1'),
@@ -42,21 +40,13 @@ FAULTS = [
     ("a + with what may be empty takes a unit", 'return part[3] in "*?" or all(map(may_take_nothing, part[1]))', 'return part[3] in "*?"'),
     ("a ? takes a unit", 'return part[3] in "*?" or', 'return part[3] == "*" or'),
     ("vis takes a unit", 'return part[0] == "var" and part[2] == "vis"', "return False"),
-    ("a use may be too far out", "STILL_REPEATS if nests[part[1]] > depth else None", "None"),
-    ("a use is just as deep", "STILL_REPEATS if nests[part[1]] > depth else None", "STILL_REPEATS if nests[part[1]] != depth else None"),
-    ("nothing has to repeat", "fault = NOTHING_REPEATS if deepest <= depth else", "fault = NOTHING_REPEATS if False else"),
-    ("any variable repeats", "if deepest <= depth else", "if deepest <= 0 else"),
-    ("what is below is not judged", "fault = template_fault(part[2], nests, depth)", "fault = None"),
-    ("what is repeated is not judged", "else template_fault(part[1], nests, depth + 1)", "else None"),
 ]
 ARMS = [
     ("a pattern is not judged", FAULT, "pattern_fault(pattern, set())"),
     ("an arrow is missing last", ARROW, "pass"),
     ("= > is an arrow", 'return is_punct(trees, "=") and unit_size(trees) == 2 and', 'return is_punct(trees, "=") and is_punct(trees[1:], ">") and'),
     ("any two puncts of one token are an arrow", ' and trees[1].char == ">"', ""),
-    ("a template is not judged", TEMPLATE, "pass"),
     ("arms need no ;", SEMICOLON, "left = left if is_punct(left, ';') else (None, *left)"),
-    ("no ; comes before the template's faults", TEMPLATE, f"{SEMICOLON}\n    {TEMPLATE}"),
     ("no arm is a macro", "while trees or not arms:", "while trees:"),
     ("; behind the last arm begins one", "left[1:]\n\n\ndef arms_of", "left[1:] if left[1:] else left\n\n\ndef arms_of"),
     ("arms are counted from 1", "raise ArmFault(number, NO_PATTERN)", "raise ArmFault(number + 1, NO_PATTERN)"),
@@ -68,10 +58,13 @@ WRITING = [
     ("a separator stays as it is", "between = unit_of(alone(separator))", "between = unit_of(separator)"),
     ("a punct before a $ stays as it is", 'alone(trees[:1]) if is_punct(behind, "$") else trees[:1]', "trees[:1]"),
     ("a punct before a subtree is alone", 'alone(trees[:1]) if is_punct(behind, "$") else trees[:1]', 'alone(trees[:1]) if is_punct(behind, "$") or behind and isinstance(behind[0], Subtree) else trees[:1]'),
-    ("a $ that is a plain token is alone", '        return ("use", behind[0].text), 2\n    return ("unit", unit_of(trees[:1])), 1', '        return ("use", behind[0].text), 2\n    return ("unit", unit_of(alone(trees[:1]))), 1'),
+    ("a $ that is a plain token is alone", '        return ("use", behind[0].text, None), 2\n    return ("unit", unit_of(trees[:1])), 1', '        return ("use", behind[0].text, None), 2\n    return ("unit", unit_of(alone(trees[:1]))), 1'),
     ("what comes has the pattern's top", '[("sub", trees[3], template)]', '[("sub", trees[0], template)]'),
     ("ambiguous is no match", 'return "ambiguous" if', 'return "no match" if'),
     ("lengths are no match", 'else "lengths"', 'else "no match"'),
+    ("a use that still repeats is lengths", '(("still repeats", STILL_REPEATS), ', "("),
+    ("nothing that repeats is lengths", ', ("nothing repeats", NOTHING_REPEATS))', ",)"),
+    ("the first arm is not filled", 'raise ArmFault(int(made.split(" ")[2]), number)', "raise ArmFault(0, number)"),
 ]
 GROUPS = [
     ("an expression comes as its tokens", '("expr", "expr_2021", "ty"', '("ty"'),

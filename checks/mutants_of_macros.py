@@ -25,6 +25,8 @@ MUTANTS = [
     ("the first of two readings answers", "if len(found) == 2:", "if False:"),
     ("arms are tried from the last", "in enumerate(arms):", "in reversed(list(enumerate(arms))):"),
     ("an input may have more", "            if end == len(units):\n                found", "            if True:\n                found"),
+    ("a use that still repeats writes nothing", 'raise Stopped("still repeats", part[2])', "continue"),
+    ("a repetition in which nothing repeats writes nothing", 'raise Stopped("nothing repeats", place)', "return []"),
     ("lengths are not compared", "if len(counts) > 1:", "if False:"),
     ("no round is enough for +", 'if count == 0 and operator == "+":', "if False:"),
     ("a separator precedes the first round", "if number and separator is not None:", "if separator is not None:"),

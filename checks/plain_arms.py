@@ -15,13 +15,17 @@ RAW = "\n"
 FRAGMENTS = ("ident", "literal", "lifetime", "block", "vis", "tt", *plain_grammar.FRAGMENTS)
 # What these took comes as one opaque subtree, if it is more than one token or subtree.
 GROUPED = ("expr", "expr_2021", "ty", "pat", "pat_param", "literal")
-# The numbers of what may be wrong with an arm.
+# The numbers of what may be wrong with an arm, or with filling its template.
 NO_PATTERN, BEGINS_NOTHING, UNKNOWN_FRAGMENT, NAME_TWICE, NEEDLESS_SEPARATOR = 1, 2, 3, 5, 6
 EMPTY_REPETITION, NO_ARROW, NO_TEMPLATE, STILL_REPEATS, NOTHING_REPEATS, NO_SEMICOLON = range(7, 13)
 
 
+# Why a template is not filled that has a number, and that number.
+REPEATS = (("still repeats", STILL_REPEATS), ("nothing repeats", NOTHING_REPEATS))
+
+
 class ArmFault(Exception):
-    """What is wrong with a macro: the number of the arm, and that of its fault."""
+    """What is wrong with a macro, or with filling a template: the number of the arm, and that of the fault."""
 
 
 class TooManyUnits(Exception):
@@ -249,60 +253,31 @@ def repetition_fault(part):
     return EMPTY_REPETITION if all(map(may_take_nothing, part[1])) else None
 
 
-def nests_of(parts, depth=0):
-    """In how many repetitions each variable is, by its name."""
-    nests = {}
-    for part in parts:
-        if part[0] == "var":
-            nests[part[1]] = depth
-        elif part[0] == "sub":
-            nests.update(nests_of(part[2], depth))
-        elif part[0] == "rep":
-            nests.update(nests_of(part[1], depth + 1))
-    return nests
-
-
-def template_part(trees, nests):
+def template_part(trees, names):
     """The first part of a template, and how many trees it is. A subtree has itself as its bracket."""
     first, behind = trees[0], trees[1:]
     if isinstance(first, Subtree):
-        return ("sub", first, template_of(first.children, nests)), 1
+        return ("sub", first, template_of(first.children, names)), 1
     if not is_punct(trees, "$"):
         return ("unit", unit_of(alone(trees[:1]) if is_punct(behind, "$") else trees[:1])), 1
     found = repetition(behind)
     if found:
         held, separator, operator = found
         between = unit_of(alone(separator)) if separator else None
-        return ("rep", template_of(held, nests), between, operator, None), 3 + len(separator)
-    if is_ident(behind) and not is_crate(behind) and behind[0].text in nests:
-        return ("use", behind[0].text), 2
+        return ("rep", template_of(held, names), between, operator, None), 3 + len(separator)
+    if is_ident(behind) and not is_crate(behind) and behind[0].text in names:
+        return ("use", behind[0].text, None), 2
     return ("unit", unit_of(trees[:1])), 1
 
 
-def template_of(trees, nests):
-    """The parts of a template, if the pattern has those variables."""
+def template_of(trees, names):
+    """The parts of a template, if the pattern has variables of those names."""
     parts = []
     while trees:
-        part, count = template_part(trees, nests)
+        part, count = template_part(trees, names)
         parts.append(part)
         trees = trees[count:]
     return parts
-
-
-def template_fault(parts, nests, depth=0):
-    """The first fault of a template in reading order, if that many repetitions are around it."""
-    for part in parts:
-        fault = None
-        if part[0] == "use":
-            fault = STILL_REPEATS if nests[part[1]] > depth else None
-        elif part[0] == "sub":
-            fault = template_fault(part[2], nests, depth)
-        elif part[0] == "rep":
-            deepest = max((nests[name] for name in plain_macros.uses_of(part[1])), default=0)
-            fault = NOTHING_REPEATS if deepest <= depth else template_fault(part[1], nests, depth + 1)
-        if fault:
-            return fault
-    return None
 
 
 def is_arrow(trees):
@@ -322,11 +297,7 @@ def arm_at(trees, number):
         raise ArmFault(number, NO_ARROW)
     if len(trees) < 4 or not isinstance(trees[3], Subtree):
         raise ArmFault(number, NO_TEMPLATE)
-    nests = nests_of(pattern)
-    template, left = template_of(trees[3].children, nests), trees[4:]
-    fault = template_fault(template, nests)
-    if fault:
-        raise ArmFault(number, fault)
+    template, left = template_of(trees[3].children, set(plain_macros.names_of(pattern))), trees[4:]
     if left and not is_punct(left, ";"):
         raise ArmFault(number, NO_SEMICOLON)
     return pattern, [("sub", trees[3], template)], left[1:]
@@ -356,7 +327,7 @@ def trees_of(units):
 
 
 def made_by_arms(arms, trees):
-    """What the macro that trees spell makes of others: a tree, or the answer why there is none."""
+    """What the macro that trees spell makes of others: a tree, or the answer why there is none, unless that is a fault of an arm."""
     arms = arms_of(arms)
     if unit_count(units_of(trees)) > MOST_UNITS:
         raise TooManyUnits
@@ -364,6 +335,9 @@ def made_by_arms(arms, trees):
     if not isinstance(made, str):
         (tree,) = trees_of(made)
         return tree
+    for words, number in REPEATS:
+        if made.startswith(words):
+            raise ArmFault(int(made.split(" ")[2]), number)
     if made.startswith("no match"):
         return "no match"
     return "ambiguous" if made.startswith("ambiguous") else "lengths"

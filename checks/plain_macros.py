@@ -15,7 +15,8 @@ BRACKETS = {"(": ")", "[": "]", "{": "}"}
 
 
 class Stopped(Exception):
-    """Why a template is not filled: `lengths` or `no round`, and the place of its repetition."""
+    """Why a template is not filled: `still repeats` and the place of the use; or `nothing repeats`, `lengths` or `no round` and that of the
+    repetition."""
 
 
 # Where the unit ends that begins at a place. If the units answer that themselves, a part may end within another unit.
@@ -223,6 +224,8 @@ def filled(parts, bound):
     units = []
     for number, part in enumerate(parts):
         if part[0] == "use":
+            if is_list(bound[part[1]]):
+                raise Stopped("still repeats", part[2])
             units += used(bound[part[1]], parts[number + 1:])
         elif part[0] == "unit":
             units.append(part[1])
@@ -237,6 +240,8 @@ def filled_rounds(part, bound):
     _, body, separator, operator, place = part
     lists = [bound[name][1] for name in uses_of(body) if is_list(bound[name])]
     counts = {len(rounds) for rounds in lists}
+    if not counts:
+        raise Stopped("nothing repeats", place)
     if len(counts) > 1:
         raise Stopped("lengths", place)
     count = counts.pop()
@@ -258,8 +263,8 @@ def placed(bound, written):
     return written(bound)
 
 
-# What a macro makes of an input: `no match PLACE`, where the arm that comes farthest stops, `ambiguous ARM`, `lengths ARM PLACE`,
-# `no round ARM PLACE`, or units. What a variable took is written so.
+# What a macro makes of an input: `no match PLACE`, where the arm that comes farthest stops, `ambiguous ARM`, why the template of an arm is
+# not filled, as `lengths ARM PLACE`, or units. What a variable took is written so.
 def expanded(arms, units, written=list):
     for number, (pattern, template) in enumerate(arms):
         found = []

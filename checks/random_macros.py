@@ -18,7 +18,7 @@ BATCH = 250
 # Brute force takes inputs of so many units at most.
 MOST_UNITS = 12
 # What begins an answer that is no tree.
-STOPS = ("no", "ambiguous", "lengths")
+STOPS = ("no", "ambiguous", "still", "nothing", "lengths")
 OPERATORS = [",", ";", "=>", "+", "::", "-", "=="]
 UNITS = (
     [("ident", name) for name in ("a", "b", "pub", "in", "self", "true", "_")]
@@ -103,18 +103,22 @@ class Maker:
         return [self.unit(1)]
 
     # A template of these variables, each with how many repetitions it is in, if that many are around it, of fewer parts than
-    # `most` at a level.
+    # `most` at a level. Now and then a use still repeats, or a repetition may have nothing that repeats.
     def template(self, nests, depth, most=5):
         parts = []
         for _ in range(self.by.randrange(most) if most > 0 else 0):
             kind = self.by.random()
             flat = [name for name, nest in nests.items() if nest <= depth]
             deep = [name for name, nest in nests.items() if nest > depth]
-            if kind < 0.35 and flat:
+            if kind < 0.02 and deep:
+                parts.append(("use", self.by.choice(deep)))
+            elif kind < 0.04:
+                parts.append(("rep", self.template(nests, depth + 1, most - 2), None, "*"))
+            elif kind < 0.37 and flat:
                 parts.append(("use", self.by.choice(flat)))
-            elif kind < 0.7 and deep and depth < 3:
+            elif kind < 0.71 and deep and depth < 3:
                 parts.append(self.repetition(nests, depth, self.by.choice(deep), most - 2))
-            elif kind < 0.8:
+            elif kind < 0.81:
                 parts.append(("sub", self.by.choice("([{"), self.template(nests, depth, most - 2)))
             else:
                 parts.append(("unit", self.by.choice([("ident", "c"), ("op", ";"), ("op", "=>"), ("lit", "3")])))
@@ -168,12 +172,12 @@ def parts_text(parts):
     return " ".join(words)
 
 
-# The parts of a template, each repetition with its flat place; and the place behind them.
+# The parts of a template, each use and each repetition with its flat place; and the place behind them.
 def placed(parts, at):
     made = []
     for part in parts:
         if part[0] == "use":
-            made.append(part)
+            made.append((*part, at))
             at += 2
         elif part[0] == "unit":
             made.append(part)

@@ -42,7 +42,7 @@ TAKE_MEMORY = {
         "builds": ("build build_skip_top_subtree",),
         # of a rule, and of a macro of several arms
         "rules": ("Rule::new expand",),
-        "macros": ("MacroRules::new MacroRules::expand MacroRules::waiting",),
+        "macros": ("MacroRules::new MacroRules::expand MacroRules::waiting MacroRules::faults",),
     },
 }
 

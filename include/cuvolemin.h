@@ -74,8 +74,8 @@ struct cuvolemin_token {
  * nested, and a call and the calls in its result may write 4,000,000 tokens; 64 KiB of stack were enough when measured. $crate becomes crate. A call
  * under #[cfg(..)] stays only if the condition cannot apply to each part of its expansion. A call of a macro whose last definition is under
  * #[cfg(..)] stays if another definition of the name is in scope.
- * Faults: 1 to 44; 81 to 92 but for 84, of definitions; 100 to 108, of calls; and 5 to 9 of either. *at is a byte of the text; 0 for faults
- * 2 and 4, for 1 if no call is expanded then, and for 5 to 9 if the text itself exceeds the limit. */
+ * Faults: 1 to 44; 81 to 92, but for 84, 90 and 91, of definitions; 90, 91 and 100 to 108, of calls; and 5 to 9 of either. *at is a byte of
+ * the text; 0 for faults 2 and 4, for 1 if no call is expanded then, and for 5 to 9 if the text itself exceeds the limit. */
 uint32_t tt_expand_text(const uint8_t *text, size_t text_len, uint8_t *out, size_t out_len, size_t *written, size_t *at);
 
 /* The same with options, and with all findings: a definition or a call with a fault stays, and the function still returns CUVOLEMIN_OK.
@@ -250,7 +250,7 @@ enum cuvolemin_answer {
     CUVOLEMIN_NO_ARROW = 88,
     /* No template follows `=>`. */
     CUVOLEMIN_NO_TEMPLATE = 89,
-    /* A variable is used in fewer repetitions than it is declared in. */
+    /* A variable still repeats where it is used. */
     CUVOLEMIN_STILL_REPEATS = 90,
     /* Nothing repeats in a repetition of a template. */
     CUVOLEMIN_NOTHING_REPEATS = 91,

@@ -67,7 +67,7 @@ FAULTS = {
     87: ('EmptyRepetition', 'The body of a repetition may match zero trees.'),
     88: ('NoArrow', 'No `=>` follows a pattern.'),
     89: ('NoTemplate', 'No template follows `=>`.'),
-    90: ('StillRepeats', 'A variable is used in fewer repetitions than it is declared in.'),
+    90: ('StillRepeats', 'A variable still repeats where it is used.'),
     91: ('NothingRepeats', 'Nothing repeats in a repetition of a template.'),
     92: ('NoSemicolon', 'Neither the end nor `;` follows a template.'),
     93: ('BuiltIn', 'A warning: a call of a macro that is built into the compiler stays.'),

@@ -92,7 +92,7 @@ faults! {
     EmptyRepetition = 87, "The body of a repetition may match zero trees.";
     NoArrow = 88, "No `=>` follows a pattern.";
     NoTemplate = 89, "No template follows `=>`.";
-    StillRepeats = 90, "A variable is used in fewer repetitions than it is declared in.";
+    StillRepeats = 90, "A variable still repeats where it is used.";
     NothingRepeats = 91, "Nothing repeats in a repetition of a template.";
     NoSemicolon = 92, "Neither the end nor `;` follows a template.";
     BuiltIn = 93, "A warning: a call of a macro that is built into the compiler stays.";

@@ -17,8 +17,6 @@ use Rattle.mbe_rules.specs.declared.rules_error.ExpandError.{ExpandError}
 use Rattle.mbe_rules.specs.declared.rules_error.RulesError.{RulesError}
 use Rattle.mbe_pattern.specs.declared.error.PatternError.{PatternError}
 use Rattle.mbe_pattern.specs.declared.error.PatternError.TheVariants as pattern
-use Rattle.mbe_rules.specs.declared.error.TemplateError.{TemplateError}
-use Rattle.mbe_rules.specs.declared.error.TemplateError.TheVariants as template
 use Rattle.mbe_rules.specs.declared.transcribe_error.TranscribeError.{TranscribeError}
 use Rattle.mbe_rules.specs.declared.transcribe_error.TranscribeError.TheVariants as filling
 use Rattle.syntax_parse.specs.declared.fault.BadToken.{BadToken}
@@ -126,19 +124,12 @@ pattern_fault (pattern.NeedlessSeparator at) = answer.NeedlessSeparator
 pattern_fault (pattern.EmptyRepetition at) = answer.EmptyRepetition
 pattern_fault pattern.Memory = answer.Memory
 
--- the fault of a template
-abbrev pub template_fault : TemplateError → Fault
-template_fault (template.StillRepeats at) = answer.StillRepeats
-template_fault (template.NothingRepeats at) = answer.NothingRepeats
-template_fault template.Memory = answer.Memory
-
 -- the fault of an arm
 abbrev pub arm_fault : ArmFault → Fault
 arm_fault (arm.NoPattern at) = answer.NoPattern
 arm_fault (arm.Pattern error) = pattern_fault error
 arm_fault (arm.NoArrow at) = answer.NoArrow
 arm_fault (arm.NoTemplate at) = answer.NoTemplate
-arm_fault (arm.Template error) = template_fault error
 arm_fault (arm.NoSemicolon at) = answer.NoSemicolon
 arm_fault arm.Memory = answer.Memory
 
@@ -148,6 +139,8 @@ rules_failure error = at_place (arm_fault error.fault) error.arm
 
 -- a template that is not filled
 abbrev pub transcribe_fault : TranscribeError → Fault
+transcribe_fault (filling.StillRepeats at) = answer.StillRepeats
+transcribe_fault (filling.NothingRepeats at) = answer.NothingRepeats
 transcribe_fault (filling.LengthsDiffer at) = answer.LengthsDiffer
 transcribe_fault (filling.NoRound at) = answer.NoRound
 transcribe_fault filling.OverLimit = answer.OverMaxTokens

@@ -118,7 +118,7 @@ pub enum Fault {
     NoArrow = 88,
     /// No template follows `=>`.
     NoTemplate = 89,
-    /// A variable is used in fewer repetitions than it is declared in.
+    /// A variable still repeats where it is used.
     StillRepeats = 90,
     /// Nothing repeats in a repetition of a template.
     NothingRepeats = 91,

@@ -1,15 +1,15 @@
 //! The macros of texts: the expansions of calls, and the faults.
 use crate::counts::Counts;
+use crate::definitions::definition_warnings;
 use crate::diagnostics::diagnostics_text;
 use crate::dropping::{Drops, without_definitions};
-use crate::follow::follow_warnings;
 use crate::options::Options;
 use crate::report::{Report, report_on, summary};
 use app_files::{
     Failure, Input, Mentions, error_text_at, grammar_failure, shebang_of, style_of, syntax_failure,
     tree_of, without_shebang,
 };
-use expand_text::{ExpandOptions, ExpandTextError, expand_leniently};
+use expand_text::{ExpandOptions, ExpandTextError, Finding, expand_leniently};
 use mbe_grammar::{ParsedFile, is_file, parse_file};
 use std::io::{self, Write};
 use std::process::ExitCode;
@@ -77,27 +77,30 @@ fn syntax_counts(
     }
 }
 
-// Reports what the compiler refuses in a text, which has a tree without its first line: the first syntax error, and what follows variables in
-// rules. Returns the number of errors and warnings.
+// Reports what the compiler refuses in a text, which has a tree without its first line: the first syntax error, and what it does not allow in
+// rules. These findings were made in the text. Returns the number of errors and warnings.
 fn refusals(
     rt: &HostRuntime,
     name: &str,
     text: &str,
     source: &str,
     options: ExpandOptions<'_>,
+    findings: &[Finding],
 ) -> Result<Counts, Failure> {
     let tree = tree_of(rt, name, source)?;
     let syntax = syntax_counts(rt, name, text, tree.token_trees())?;
-    let (warnings, counts) = follow_warnings(
+    let warnings = definition_warnings(
         rt.alloc(),
         style_of(rt),
         name,
         text,
         options,
+        findings,
         tree.token_trees(),
     )?;
-    let _ = eprint!(rt; "{warnings}");
-    Ok(syntax.plus(counts))
+    let texts = warnings.texts.as_str();
+    let _ = eprint!(rt; "{texts}");
+    Ok(syntax.plus(warnings.counts()))
 }
 
 // Reports the findings in the text of an input, after what the compiler refuses if `checks`, and returns its expansion.
@@ -120,16 +123,16 @@ fn expanded(
         Ok(found) => found,
         Err(error) => return Err(refused(rt, name, text, options, error)),
     };
+    let refused = if checks {
+        refusals(rt, name, text, source, options, &found.findings)?
+    } else {
+        Counts::NONE
+    };
     let Report {
         output,
         diagnostics,
         counts,
     } = report_on(rt.alloc(), style_of(rt), name, text, options, found)?;
-    let refused = if checks {
-        refusals(rt, name, text, source, options)?
-    } else {
-        Counts::NONE
-    };
     let _ = eprint!(rt; "{diagnostics}");
     let has_mark = text.len() < bytes.len();
     let shebang = String::from_str(rt.alloc(), shebang_of(text))?;

@@ -6,6 +6,7 @@ mod arguments;
 mod cfg_options;
 mod changing;
 mod counts;
+mod definitions;
 mod diagnostics;
 mod dropping;
 mod expanding;
@@ -16,7 +17,9 @@ mod options;
 mod packing;
 mod program;
 mod report;
+mod templates;
 mod trail;
+mod warnings;
 
 use std::process::ExitCode;
 

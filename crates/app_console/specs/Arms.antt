@@ -14,8 +14,6 @@ use Rattle.mbe_pattern.specs.declared.error.PatternError.{PatternError}
 use Rattle.mbe_pattern.specs.declared.error.PatternError.TheVariants as pattern
 use Rattle.app_console.specs.Answer.{line, ok_line, empty_line, fault_line, no_match_line}
 use Rattle.app_console.specs.State.{State, with_tree}
-use Rattle.mbe_rules.specs.declared.error.TemplateError.{TemplateError}
-use Rattle.mbe_rules.specs.declared.error.TemplateError.TheVariants as template
 use Rattle.mbe_rules.specs.declared.transcribe_error.TranscribeError.{TranscribeError}
 use Rattle.mbe_rules.specs.declared.transcribe_error.TranscribeError.TheVariants as filling
 
@@ -28,19 +26,12 @@ pattern_number (pattern.NeedlessSeparator at) = Some 6
 pattern_number (pattern.EmptyRepetition at) = Some 7
 pattern_number pattern.Memory = None
 
--- the number of a template's fault
-abbrev pub template_number : TemplateError → Option ℕ
-template_number (template.StillRepeats at) = Some 10
-template_number (template.NothingRepeats at) = Some 11
-template_number template.Memory = None
-
 -- the number of an arm's fault
 abbrev pub arm_fault_number : ArmFault → Option ℕ
 arm_fault_number (fault.NoPattern at) = Some 1
 arm_fault_number (fault.Pattern error) = pattern_number error
 arm_fault_number (fault.NoArrow at) = Some 8
 arm_fault_number (fault.NoTemplate at) = Some 9
-arm_fault_number (fault.Template error) = template_number error
 arm_fault_number (fault.NoSemicolon at) = Some 12
 arm_fault_number fault.Memory = None
 
@@ -61,12 +52,18 @@ ambiguous_line = line (codes "ambiguous")
 abbrev pub lengths_line : List ℕ
 lengths_line = line (codes "lengths")
 
--- why a template is not filled
-abbrev pub unfilled_line : TranscribeError → List ℕ
-unfilled_line (filling.LengthsDiffer at) = lengths_line
-unfilled_line (filling.NoRound at) = lengths_line
-unfilled_line filling.OverLimit = fault_line TooManyTokens
-unfilled_line (filling.Tree fault) = fault_line fault
+-- why the template of that arm is not filled
+abbrev pub filling_line : (arm : ℕ) → TranscribeError → List ℕ
+filling_line arm (filling.StillRepeats at) = arm_line arm (Some 10)
+filling_line arm (filling.NothingRepeats at) = arm_line arm (Some 11)
+filling_line arm (filling.LengthsDiffer at) = lengths_line
+filling_line arm (filling.NoRound at) = lengths_line
+filling_line arm filling.OverLimit = fault_line TooManyTokens
+filling_line arm (filling.Tree fault) = fault_line fault
+
+-- why the template of an arm is not filled
+abbrev pub unfilled_line : ExpandError → List ℕ
+unfilled_line error = filling_line error.arm error.fault
 
 -- the tree is the expansion of the input by the macro of these arms
 abbrev pub IsMadeByArms : (arms input : Root) → Root → Type 0
@@ -78,7 +75,7 @@ abbrev pub TellsNoExpansion : List Arm → (input : Root) → (answer : List ℕ
 TellsNoExpansion spelled input answer =
     (((at : ℕ) × IsExpansion spelled 0 0 input.children (expansion.NoMatch at)) × (answer ≡ no_match_line))
     ⊎ ((arm : ℕ) × IsExpansion spelled 0 0 input.children (expansion.Ambiguous arm) × (answer ≡ ambiguous_line))
-    ⊎ ((error : ExpandError) × IsExpandError spelled 0 input.children error × (answer ≡ unfilled_line error.fault))
+    ⊎ ((error : ExpandError) × IsExpandError spelled 0 input.children error × (answer ≡ unfilled_line error))
 
 -- if the trees are no macro, the answer says why; otherwise it says why the macro does not expand the input
 abbrev pub TellsNoneByArms : (arms input : Root) → (answer : List ℕ) → Type 0

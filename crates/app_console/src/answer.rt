@@ -6,7 +6,7 @@ use crate::arm_number::arm_fault_number;
 use arrayvec::ArrayString;
 use itoa::Buffer;
 use mbe_rule::RuleFault;
-use mbe_rules::{RulesError, TranscribeError};
+use mbe_rules::{ExpandError, RulesError, TranscribeError};
 use std::alloc::AllocError;
 use std::marker::Model;
 use syntax_unparse::WriteFault;
@@ -223,11 +223,13 @@ impl Answer {
         }
     }
 
-    /// Returns why a template is not filled: `lengths`, or the fault.
-    pub(crate) fn unfilled(error: TranscribeError) -> Answer
+    /// Returns why the template of an arm is not filled: `rule` and two numbers, `lengths`, or the fault.
+    pub(crate) fn unfilled(error: ExpandError) -> Answer
         ensures { result ≡ unfilled_line error }
     {
-        match error {
+        match error.fault {
+            TranscribeError::StillRepeats(_) => Answer::arm(error.arm, 10),
+            TranscribeError::NothingRepeats(_) => Answer::arm(error.arm, 11),
             TranscribeError::LengthsDiffer(_) | TranscribeError::NoRound(_) => Answer::fixed(
                 b"lengths\n",
             ),

@@ -1,9 +1,9 @@
 //! The numbers of the faults of a macro's arms.
 ghost use Rattle.std.specs.Prelude.{◌≡◌};
-ghost use Rattle.app_console.specs.Arms.{pattern_number, template_number, arm_fault_number};
+ghost use Rattle.app_console.specs.Arms.{pattern_number, arm_fault_number};
 
 use mbe_pattern::PatternError;
-use mbe_rules::{ArmFault, TemplateError};
+use mbe_rules::ArmFault;
 
 // Returns the number of a pattern's fault; exhausted memory has none.
 fn pattern_number(error: PatternError) -> Option<usize>
@@ -19,17 +19,6 @@ fn pattern_number(error: PatternError) -> Option<usize>
     }
 }
 
-// Returns the number of a template's fault; exhausted memory has none.
-fn template_number(error: TemplateError) -> Option<usize>
-    ensures { result ≡ template_number error }
-{
-    match error {
-        TemplateError::StillRepeats(_) => Some(10),
-        TemplateError::NothingRepeats(_) => Some(11),
-        TemplateError::Memory => None,
-    }
-}
-
 /// Returns the number of an arm's fault, in reading order; exhausted memory has none.
 pub(crate) fn arm_fault_number(fault: ArmFault) -> Option<usize>
     ensures { result ≡ arm_fault_number fault }
@@ -39,7 +28,6 @@ pub(crate) fn arm_fault_number(fault: ArmFault) -> Option<usize>
         ArmFault::Pattern(error) => pattern_number(error),
         ArmFault::NoArrow(_) => Some(8),
         ArmFault::NoTemplate(_) => Some(9),
-        ArmFault::Template(error) => template_number(error),
         ArmFault::NoSemicolon(_) => Some(12),
         ArmFault::Memory => None,
     }

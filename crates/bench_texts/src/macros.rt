@@ -77,13 +77,23 @@ impl Macro {
     }
 
     // Writes the expansion of the input on one line: its tokens, with a bracket and the number of tokens in it for a subtree; or `no match
-    // PLACE`, `ambiguous ARM`, `lengths ARM PLACE` or `no round ARM PLACE`.
+    // PLACE`, `ambiguous ARM`, `still repeats ARM PLACE`, `nothing repeats ARM PLACE`, `lengths ARM PLACE` or `no round ARM PLACE`.
     fn show<W: Write>(&self, out: &mut W, alloc: Global) -> Result<(), BenchError> {
         match self.rules.expand(alloc, self.input.token_trees().iter()) {
             Ok(Expansion::Tree(tree)) => show_tree(out, &tree)?,
             Ok(Expansion::NoMatch(at)) => writeln!(out, "no match {at}")?,
             Ok(Expansion::Ambiguous(arm)) => writeln!(out, "ambiguous {arm}")?,
             Err(error) => match error.fault {
+                TranscribeError::StillRepeats(at) => writeln!(
+                    out,
+                    "still repeats {} {at}",
+                    error.arm
+                )?,
+                TranscribeError::NothingRepeats(at) => writeln!(
+                    out,
+                    "nothing repeats {} {at}",
+                    error.arm
+                )?,
                 TranscribeError::LengthsDiffer(at) => writeln!(out, "lengths {} {at}", error.arm)?,
                 TranscribeError::NoRound(at) => writeln!(out, "no round {} {at}", error.arm)?,
                 TranscribeError::OverLimit | TranscribeError::Tree(_) => {

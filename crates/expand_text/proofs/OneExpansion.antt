@@ -1,5 +1,5 @@
 -- Arms make one thing of an input: a tree, no match, an ambiguity, or an error that names no limit of trees.
-use Rattle.std.proofs.Common.{◌≡◌, ℕ, suc, false, List, [], ◌∷◌, Option, None, Some, inl, inr, max, refl, ap, ap₂, sym, subst, ◌∙◌, arith, true≢false}
+use Rattle.std.proofs.Common.{◌≡◌, ℕ, suc, ◌⊎◌, false, List, [], ◌∷◌, Option, None, Some, inl, inr, max, refl, ap, ap₂, sym, subst, ◌∙◌, arith, true≢false}
 use Rattle.tt.specs.Forest.{Forest, Root, size}
 use Rattle.tt.specs.TreeFault.{under}
 use Rattle.tt.specs.Types.Delimiter.{Delimiter}
@@ -15,8 +15,8 @@ use Rattle.mbe_rules.specs.declared.macro_rules.Expansion.TheVariants as expansi
 use Rattle.mbe_rules.specs.Arms.{Arm}
 use Rattle.mbe_rules.specs.Expansions.{written, IsRefusalWithin, IsExpansion, IsExpansionWithin, IsExpandErrorWithin}
 use Rattle.mbe_rules.specs.Limits.{IsOver, IsWithin}
-use Rattle.mbe_rules.specs.Results.{IsTranscribed, IsTranscribeError}
-use Rattle.mbe_rules.specs.Transcribing.{Transcribed, lengths_differ, no_round}
+use Rattle.mbe_rules.specs.Results.{IsFirstFault, IsTranscribed, IsTranscribeError, error_of}
+use Rattle.mbe_rules.specs.Transcribing.{Transcribed, TranscribeFault, still_repeats, nothing_repeats, lengths_differ, no_round}
 
 -- An input is read in one way.
 one_reading : (pattern : Pattern) (input : Forest) (a b : Reading) → IsReadBy pattern input a → IsReadBy pattern input b → a ≡ b
@@ -35,6 +35,8 @@ one_place pattern input a b x y = omega (arith, x.least y.left y.comes, y.least 
 -- An error that names no limit of trees is that of the one reading of the input.
 refused : (most : Option ℕ) (arm : Arm) (input : Forest) (why : TranscribeError) → is_limit why ≡ false → IsRefusalWithin most arm input why
     → (reading : Reading) × IsReadBy arm.pattern input reading × IsTranscribeError most arm.delimiter (written arm reading) why
+refused most arm input (error.StillRepeats at) free h = h
+refused most arm input (error.NothingRepeats at) free h = h
 refused most arm input (error.LengthsDiffer at) free h = h
 refused most arm input (error.NoRound at) free h = h
 refused most arm input error.OverLimit free h = h
@@ -45,34 +47,51 @@ not_over : (most : Option ℕ) (count : ℕ) → IsOver most count → IsWithin 
 not_over None count over within = over
 not_over (Some n) count over within = omega (arith, over, within)
 
+-- An error that names no limit of trees is that of a fault of the template, or the limit of tokens.
+fault_or_over : (why : TranscribeError) → is_limit why ≡ false → ((fault : TranscribeFault) × (why ≡ error_of fault)) ⊎ (why ≡ error.OverLimit)
+fault_or_over (error.StillRepeats at) free = inl (still_repeats at, refl)
+fault_or_over (error.NothingRepeats at) free = inl (nothing_repeats at, refl)
+fault_or_over (error.LengthsDiffer at) free = inl (lengths_differ at, refl)
+fault_or_over (error.NoRound at) free = inl (no_round at, refl)
+fault_or_over error.OverLimit free = inr refl
+fault_or_over (error.Tree why) free = absurd (true≢false free)
+
 module _ (most : Option ℕ) (delimiter : Delimiter) (it : Transcribed) where
+  -- It is the first fault, and the limit of tokens is kept; or that is exceeded.
+  first_fault : (why : TranscribeError) (fault : TranscribeFault) → why ≡ error_of fault → IsTranscribeError most delimiter it why
+      → IsFirstFault most it.fault (size it.trees) fault
+  first_fault why fault is wrong = by fault (subst (IsTranscribeError most delimiter it) is wrong)
+    where
+      by : (fault : TranscribeFault) → IsTranscribeError most delimiter it (error_of fault) → IsFirstFault most it.fault (size it.trees) fault
+      by (still_repeats at) first = first
+      by (nothing_repeats at) first = first
+      by (lengths_differ at) first = first
+      by (no_round at) first = first
+
+  over_most : (why : TranscribeError) → why ≡ error.OverLimit → IsTranscribeError most delimiter it why → IsOver most (size it.trees)
+  over_most why is over = subst (IsTranscribeError most delimiter it) is over
+
   -- A template that is filled within the limit has no error.
   filled_only : (tree : Root) (why : TranscribeError) → is_limit why ≡ false → IsTranscribed delimiter it tree → IsWithin most (size tree.children)
       → IsTranscribeError most delimiter it why → ⊥
-  filled_only tree (error.LengthsDiffer at) free is within wrong = cc (sym is.sound ∙ wrong.0)
-  filled_only tree (error.NoRound at) free is within wrong = cc (sym is.sound ∙ wrong.0)
-  filled_only tree error.OverLimit free is within over = not_over most (size it.trees) over (subst (IsWithin most) (ap (λ t. size t.children) is.is) within)
-  filled_only tree (error.Tree why) free is within wrong = true≢false free
+  filled_only tree why free is within wrong = by (fault_or_over why free)
+    where
+      by : ((fault : TranscribeFault) × (why ≡ error_of fault)) ⊎ (why ≡ error.OverLimit) → ⊥
+      by (inl (fault, same)) = cc (sym is.sound ∙ (first_fault why fault same wrong).0)
+      by (inr same) = not_over most (size it.trees) (over_most why same wrong) (subst (IsWithin most) (ap (λ t. size t.children) is.is) within)
 
   -- A template has one error.
   one_refusal : (a b : TranscribeError) → is_limit a ≡ false → is_limit b ≡ false → IsTranscribeError most delimiter it a → IsTranscribeError most delimiter it b → a ≡ b
-  one_refusal (error.Tree why) b free none h k = absurd (true≢false free)
-  one_refusal a (error.Tree why) free none h k = absurd (true≢false none)
-  one_refusal (error.LengthsDiffer at) (error.LengthsDiffer place) free none h k =
-      let both : Some (lengths_differ at) ≡ Some (lengths_differ place) = sym h.0 ∙ k.0 in
-      let same : at ≡ place = cc both in
-      ap error.LengthsDiffer same
-  one_refusal (error.LengthsDiffer at) (error.NoRound place) free none h k = absurd (cc (sym h.0 ∙ k.0))
-  one_refusal (error.LengthsDiffer at) error.OverLimit free none h k = absurd (not_over most (size it.trees) k h.2)
-  one_refusal (error.NoRound at) (error.LengthsDiffer place) free none h k = absurd (cc (sym h.0 ∙ k.0))
-  one_refusal (error.NoRound at) (error.NoRound place) free none h k =
-      let both : Some (no_round at) ≡ Some (no_round place) = sym h.0 ∙ k.0 in
-      let same : at ≡ place = cc both in
-      ap error.NoRound same
-  one_refusal (error.NoRound at) error.OverLimit free none h k = absurd (not_over most (size it.trees) k h.2)
-  one_refusal error.OverLimit (error.LengthsDiffer place) free none h k = absurd (not_over most (size it.trees) h k.2)
-  one_refusal error.OverLimit (error.NoRound place) free none h k = absurd (not_over most (size it.trees) h k.2)
-  one_refusal error.OverLimit error.OverLimit free none h k = refl
+  one_refusal a b free none h k = by (fault_or_over a free) (fault_or_over b none)
+    where
+      by : ((fault : TranscribeFault) × (a ≡ error_of fault)) ⊎ (a ≡ error.OverLimit) → ((fault : TranscribeFault) × (b ≡ error_of fault)) ⊎ (b ≡ error.OverLimit) → a ≡ b
+      by (inl (fault, is)) (inl (other, was)) =
+          let both : Some fault ≡ Some other = sym (first_fault a fault is h).0 ∙ (first_fault b other was k).0 in
+          let same : fault ≡ other = cc both in
+          is ∙ ap error_of same ∙ sym was
+      by (inl (fault, is)) (inr over) = absurd (not_over most (size it.trees) (over_most b over k) (first_fault a fault is h).2)
+      by (inr over) (inl (fault, is)) = absurd (not_over most (size it.trees) (over_most a over h) (first_fault b fault is k).2)
+      by (inr over) (inr again) = over ∙ sym again
 
 -- Arms expand an input to one thing.
 pub one_expansion : (arms : List Arm) (number farthest : ℕ) (input : Forest) (a b : Expansion) → IsExpansion arms number farthest input a → IsExpansion arms number farthest input b → a ≡ b

@@ -7,11 +7,12 @@ use Rattle.tt.specs.Types.IdentIsRaw.TheVariants.{No}
 use Rattle.tt.specs.Types.Leaf.TheVariants as leaf_of
 use Rattle.tt.specs.Types.Spacing.TheVariants.{Alone}
 use Rattle.tt_base.proofs.Samples.{span}
-use Rattle.expand_text.specs.Places.{byte_at, definition_byte}
+use Rattle.expand_text.specs.Places.{byte_at, definition_byte, template_byte}
 use Rattle.mbe_rules.specs.declared.rules_error.ArmFault.{ArmFault}
 use Rattle.mbe_rules.specs.declared.rules_error.ArmFault.TheVariants as fault
 use Rattle.mbe_pattern.specs.declared.error.PatternError.TheVariants as pattern
-use Rattle.mbe_rules.specs.declared.error.TemplateError.TheVariants as template
+use Rattle.mbe_rules.specs.declared.transcribe_error.TranscribeError.{TranscribeError}
+use Rattle.mbe_rules.specs.declared.transcribe_error.TranscribeError.TheVariants as filling
 
 -- a letter or a sign that begins at a byte, and parentheses that open and close at bytes, before others
 abbrev letter : (start : ℕ) → Forest → Forest
@@ -51,14 +52,18 @@ arms = held 0 2 (letter 1 end) (sign 61 4 (sign 62 5 (held 7 9 (letter 8 end) (s
 abbrev shown : ArmFault → ℕ
 shown why = definition_byte arms (record { arm = 1; fault = why }) 24
 
+-- where a fault of filling shows in the second template
+abbrev filled : TranscribeError → ℕ
+filled why = template_byte arms (record { arm = 1; fault = why }) 24
+
 -- The places in a pattern and in a template are counted in them; those of other faults among all arms.
 in_pattern : shown (fault.Pattern (pattern.BeginsNothing 0)) ≡ 13
 in_pattern = refl
 
-in_template : shown (fault.Template (template.StillRepeats 0)) ≡ 22
+in_template : filled (filling.StillRepeats 0) ≡ 22
 in_template = refl
 
-behind_template : shown (fault.Template (template.StillRepeats 1)) ≡ 23
+behind_template : filled (filling.NothingRepeats 1) ≡ 23
 behind_template = refl
 
 among_arms : shown (fault.NoArrow 10) ≡ 18

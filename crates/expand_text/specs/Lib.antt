@@ -25,6 +25,7 @@ pub mod Places
 pub mod Prepared
 pub mod Reading
 pub mod Scopes
+pub mod Shown
 pub mod Stops
 pub mod Waiting
 pub mod Walks

@@ -8,6 +8,8 @@ use Rattle.mbe_rules.specs.declared.transcribe_error.TranscribeError.TheVariants
 
 -- a filled template exceeds a limit of trees
 abbrev pub is_limit : TranscribeError → Bool
+is_limit (error.StillRepeats at) = false
+is_limit (error.NothingRepeats at) = false
 is_limit (error.LengthsDiffer at) = false
 is_limit (error.NoRound at) = false
 is_limit error.OverLimit = false

@@ -10,8 +10,9 @@ use Rattle.mbe_rules.specs.declared.rules_error.ArmFault.TheVariants as fault
 use Rattle.mbe_rules.specs.declared.rules_error.RulesError.{RulesError}
 use Rattle.mbe_pattern.specs.declared.error.PatternError.{PatternError}
 use Rattle.mbe_pattern.specs.declared.error.PatternError.TheVariants as pattern
-use Rattle.mbe_rules.specs.declared.error.TemplateError.{TemplateError}
-use Rattle.mbe_rules.specs.declared.error.TemplateError.TheVariants as template
+use Rattle.mbe_rules.specs.declared.rules_error.ExpandError.{ExpandError}
+use Rattle.mbe_rules.specs.declared.transcribe_error.TranscribeError.{TranscribeError}
+use Rattle.mbe_rules.specs.declared.transcribe_error.TranscribeError.TheVariants as filling
 
 -- the byte at which a token begins, or else that one
 abbrev pub token_byte : Option TokenTree → (behind : ℕ) → ℕ
@@ -37,11 +38,14 @@ pattern_place (pattern.NeedlessSeparator at) = at
 pattern_place (pattern.EmptyRepetition at) = at
 pattern_place pattern.Memory = 0
 
--- the flat place of a template's fault
-abbrev pub template_place : TemplateError → ℕ
-template_place (template.StillRepeats at) = at
-template_place (template.NothingRepeats at) = at
-template_place template.Memory = 0
+-- the flat place of a fault of filling, if it has one
+abbrev pub fault_place : TranscribeError → ℕ
+fault_place (filling.StillRepeats at) = at
+fault_place (filling.NothingRepeats at) = at
+fault_place (filling.LengthsDiffer at) = at
+fault_place (filling.NoRound at) = at
+fault_place filling.OverLimit = 0
+fault_place (filling.Tree why) = 0
 
 -- an arm is five trees with the `;` after it: a pattern, `=`, `>`, a template and `;`
 abbrev pub arm_len : ℕ
@@ -58,9 +62,12 @@ fault_byte (fault.NoArrow at) arms left behind = byte_at arms at behind
 fault_byte (fault.NoTemplate at) arms left behind = byte_at arms at behind
 fault_byte (fault.NoSemicolon at) arms left behind = byte_at arms at behind
 fault_byte (fault.Pattern why) arms left behind = byte_within left (pattern_place why) behind
-fault_byte (fault.Template why) arms left behind = byte_within (after_trees before_template left) (template_place why) behind
 fault_byte fault.Memory arms left behind = behind
 
 -- the byte at which the fault of a definition shows, which has these arms, and whose arms end at that byte
 abbrev pub definition_byte : (arms : Forest) → RulesError → (behind : ℕ) → ℕ
 definition_byte arms why behind = fault_byte why.fault arms (after_trees (why.arm * arm_len) arms) behind
+
+-- the byte of a fault of filling in the template of its arm, which is one of these arms; all arms end at that byte
+abbrev pub template_byte : (arms : Forest) → ExpandError → (behind : ℕ) → ℕ
+template_byte arms why behind = byte_within (after_trees before_template (after_trees (why.arm * arm_len) arms)) (fault_place why.fault) behind

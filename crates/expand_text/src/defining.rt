@@ -17,6 +17,7 @@ use crate::prepared::prepared;
 use crate::scope::{Macro, Scope};
 use expand_items::{Definition, Position};
 use mbe_rules::{ArmFault, MacroRules};
+use std::alloc::Global;
 use syntax_edit::start_of;
 use tt::{Symbol, TtFault};
 
@@ -27,13 +28,17 @@ pub(crate) enum Rules {
     Faulty(u32, MacroFault),
 }
 
-// Reads the rules of a definition, with the root's word for each `$crate`.
-fn rules_of(config: &Config<'_>, definition: &Definition<'_>) -> Result<Rules, OutOfMemory>
-    ensures { IfOk result (IsRules (definition_of definition.now) (prepared config.now.root (rest_of definition.now.arms))) }
+/// Reads the rules of a definition, with the root's word for each `$crate`.
+pub(crate) fn rules_of(
+    alloc: Global,
+    root: &Symbol,
+    definition: &Definition<'_>,
+) -> Result<Rules, OutOfMemory>
+    ensures { IfOk result (IsRules (definition_of definition.now) (prepared root.now (rest_of definition.now.arms))) }
 {
     let delimiter = definition.header.delimiter;
     let trees = definition.arms.remaining();
-    let arms = match prepared(config.alloc, delimiter, trees, &config.root) {
+    let arms = match prepared(alloc, delimiter, trees, root) {
         Ok(arms) => arms,
         Err(TtFault::Memory) => return Err(OutOfMemory),
         Err(fault) => {
@@ -41,7 +46,7 @@ fn rules_of(config: &Config<'_>, definition: &Definition<'_>) -> Result<Rules, O
             return Ok(Rules::Faulty(at, MacroFault::TooLarge(fault)));
         }
     };
-    match MacroRules::new(config.alloc, arms.iter()) {
+    match MacroRules::new(alloc, arms.iter()) {
         Ok(rules) => Ok(Rules::Context(rules)),
         Err(error) => match error.fault {
             ArmFault::Memory => Err(OutOfMemory),
@@ -98,7 +103,7 @@ fn define(
 {
     let name = definition.name.sym.clone()?;
     let mut left = MacroFault::Left;
-    let rules = match rules_of(config, definition)? {
+    let rules = match rules_of(config.alloc, &config.root, definition)? {
         Rules::Context(rules) => {
             let is_several = is_one_of_several(&context.scope, is_open, &name);
             left = left_by(is_several);

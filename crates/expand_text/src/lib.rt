@@ -9,7 +9,8 @@
 //!
 //! A definition or call with a fault stays in the text and yields a finding, with the calls that wrote it (`Caller`). A call one expansion
 //! too deep, or one for which too many tokens would be written, ends the expansion of its call of the text: a macro that calls itself twice
-//! would not end in any reasonable time. The walk goes on behind that call.
+//! would not end in any reasonable time. The walk goes on behind that call. `shown_faults` says which faults the rules of a definition show
+//! whatever the input of a call.
 //!
 //! The proofs go level by level (`Ends`, `Leads`), and `Weaving` places the expansions among the pieces of the text, so that the laws of
 //! `syntax_edit` say how the written text reads.
@@ -36,6 +37,7 @@ mod places;
 mod plain;
 mod prepared;
 mod scope;
+mod shown;
 mod source;
 mod text;
 mod walk;
@@ -43,4 +45,5 @@ mod walk;
 pub use caller::Caller;
 pub use fault::{ExpandTextError, Finding, MacroFault};
 pub use options::{ExpandOptions, USUAL_LIMIT, USUAL_MAX_TOKENS};
+pub use shown::{ShownFault, shown_faults};
 pub use text::{Expanded, expand_leniently, expand_text};

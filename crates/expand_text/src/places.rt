@@ -4,10 +4,10 @@ ghost use Rattle.tt.specs.Gluing.{after_trees};
 ghost use Rattle.tt.specs.Iters.{rest_of};
 ghost use Rattle.tt.specs.Span.{start_of};
 ghost use Rattle.tt.specs.Views.{trees_of};
-ghost use Rattle.expand_text.specs.Places.{byte_at, byte_within, pattern_place, template_place, arm_len, definition_byte};
+ghost use Rattle.expand_text.specs.Places.{byte_at, byte_within, pattern_place, fault_place, arm_len, definition_byte, template_byte};
 
 use mbe_pattern::{PatternError, pass};
-use mbe_rules::{ArmFault, RulesError, TemplateError};
+use mbe_rules::{ArmFault, ExpandError, RulesError, TranscribeError};
 use syntax_edit::start_of;
 use tt::{TokenTreesView, TtIter};
 
@@ -55,13 +55,16 @@ fn pattern_place(error: PatternError) -> usize
     }
 }
 
-// Returns the flat place of a template's fault.
-fn template_place(error: TemplateError) -> usize
-    ensures { result ≡ template_place error }
+// Returns the flat place of a fault of filling, if it has one.
+fn fault_place(error: TranscribeError) -> usize
+    ensures { result ≡ fault_place error }
 {
     match error {
-        TemplateError::StillRepeats(at) | TemplateError::NothingRepeats(at) => at,
-        TemplateError::Memory => 0,
+        TranscribeError::StillRepeats(at)
+        | TranscribeError::NothingRepeats(at)
+        | TranscribeError::LengthsDiffer(at)
+        | TranscribeError::NoRound(at) => at,
+        TranscribeError::OverLimit | TranscribeError::Tree(_) => 0,
     }
 }
 
@@ -86,10 +89,16 @@ pub(crate) fn definition_place(arms: TtIter<'_>, error: RulesError, behind: u32)
         | ArmFault::NoTemplate(at)
         | ArmFault::NoSemicolon(at) => start_at(arms.remaining(), at, behind),
         ArmFault::Pattern(error) => start_within(left, pattern_place(error), behind),
-        ArmFault::Template(error) => {
-            pass(&mut left, BEFORE_TEMPLATE);
-            start_within(left, template_place(error), behind)
-        }
         ArmFault::Memory => behind,
     }
+}
+
+/// Returns the byte at which a fault of filling shows in the template of its arm. It is one of these arms, which end at the byte `behind`.
+pub(crate) fn template_place(arms: TtIter<'_>, error: ExpandError, behind: u32) -> u32
+    ensures { result ≡ template_byte (rest_of arms.entry) error behind }
+{
+    let mut left = arms;
+    pass_arms(&mut left, error.arm);
+    pass(&mut left, BEFORE_TEMPLATE);
+    start_within(left, fault_place(error.fault), behind)
 }

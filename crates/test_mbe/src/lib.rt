@@ -20,6 +20,8 @@ mod reaches;
 #[cfg(test)]
 mod reaches_by_name;
 #[cfg(test)]
+mod shown;
+#[cfg(test)]
 mod templates;
 #[cfg(test)]
 mod texts;

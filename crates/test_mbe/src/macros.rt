@@ -2,7 +2,7 @@
 use crate::texts::{holds, tree_of};
 use crate::written::written;
 use mbe_pattern::PatternError;
-use mbe_rules::{ArmFault, ExpandError, Expansion, MacroRules, TemplateError, TranscribeError};
+use mbe_rules::{ArmFault, ExpandError, Expansion, MacroRules, TranscribeError};
 use std::alloc::Global;
 use std::test::Fail;
 
@@ -22,6 +22,8 @@ pub(crate) fn text_of(alloc: Global, answer: Result<Expansion, ExpandError>) -> 
         Ok(Expansion::NoMatch(at)) => numbered(alloc, "no match ", at),
         Ok(Expansion::Ambiguous(arm)) => numbered(alloc, "ambiguous ", arm),
         Err(error) => match error.fault {
+            TranscribeError::StillRepeats(_) => numbered(alloc, "still repeats ", error.arm),
+            TranscribeError::NothingRepeats(_) => numbered(alloc, "nothing repeats ", error.arm),
             TranscribeError::LengthsDiffer(_) => numbered(alloc, "lengths ", error.arm),
             TranscribeError::NoRound(_) => numbered(alloc, "no round ", error.arm),
             TranscribeError::OverLimit => numbered(alloc, "over limit ", error.arm),
@@ -71,6 +73,13 @@ const EXPANSIONS: [(&str, &str, &str); 28] = [
         "lengths 0",
     ),
     ("(b) => {}; ($($x:ident)*) => {$($x)+}", "", "no round 1"),
+    ("(b) => {1}; ($($x:ident)*) => {a $x}", "b", "{11 "),
+    (
+        "(b) => {1}; ($($x:ident)*) => {a $x}",
+        "c",
+        "still repeats 1",
+    ),
+    ("($x:tt) => {$(b)*}", "a", "nothing repeats 0"),
     (
         "($($k:ident => $v:tt),* $(,)?) => {$($k = $v;)*}",
         "a => 1, b => [c],",
@@ -301,10 +310,8 @@ fn kind_of(fault: ArmFault) -> (&'static str, usize) {
         ArmFault::Pattern(error) => pattern_kind(error),
         ArmFault::NoArrow(at) => ("no arrow", at),
         ArmFault::NoTemplate(at) => ("no template", at),
-        ArmFault::Template(TemplateError::StillRepeats(at)) => ("still repeats", at),
-        ArmFault::Template(TemplateError::NothingRepeats(at)) => ("nothing repeats", at),
         ArmFault::NoSemicolon(at) => ("no semicolon", at),
-        ArmFault::Template(TemplateError::Memory) | ArmFault::Memory => ("memory", 0),
+        ArmFault::Memory => ("memory", 0),
     }
 }
 
@@ -320,9 +327,9 @@ fn pattern_kind(error: PatternError) -> (&'static str, usize) {
     }
 }
 
-// Faults, with the number of the arm and the place: the place is among all trees for the form of an arm, and in a pattern or a template for
-// its own fault. A pattern's fault comes before that of the arrow after it.
-const FAULTS: [(&str, usize, &str, usize); 17] = [
+// Faults, with the number of the arm and the place: the place is among all trees for the form of an arm, and in a pattern for its own
+// fault. A pattern's fault comes before that of the arrow after it.
+const FAULTS: [(&str, usize, &str, usize); 16] = [
     ("", 0, "no pattern", 0),
     (";", 0, "no pattern", 0),
     ("a", 0, "no pattern", 0),
@@ -338,8 +345,7 @@ const FAULTS: [(&str, usize, &str, usize); 17] = [
     ("() => {}; (a $$) => {}", 1, "begins nothing", 1),
     ("() => {}; ($x:tt $x:tt) b", 1, "twice", 4),
     ("(a) => {}; ($x:exp) => {}", 1, "unknown", 0),
-    ("($($x:tt)*) => {a $x} b", 0, "still repeats", 1),
-    ("(a) => {$(b)*}", 0, "nothing repeats", 0),
+    ("($($x:tt)*) => {a $x} b", 0, "no semicolon", 14),
 ];
 
 // Returns whether the arms have that fault.

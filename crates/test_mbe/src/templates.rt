@@ -1,8 +1,8 @@
-//! Templates, each with a pattern and its parts, or with its fault and the place.
+//! Templates, each with a pattern and its parts, or with the fault that it shows and the place.
 use crate::texts::{holds, matcher_of, tree_of};
 use mbe_matcher::Binder;
 use mbe_pattern::{RepeatKind, Tail};
-use mbe_rules::{Part, Template, TemplateError};
+use mbe_rules::{Part, Template, TranscribeError};
 use std::alloc::Global;
 use std::test::Fail;
 
@@ -108,15 +108,18 @@ fn are_parts(alloc: Global) -> bool {
 
 // Returns the fault: whether a variable still repeats, and the flat place of its `$`; or of the `$`
 // of a repetition in which nothing repeats.
-fn fault_of(error: TemplateError) -> Option<(bool, usize)> {
+fn fault_of(error: TranscribeError) -> Option<(bool, usize)> {
     match error {
-        TemplateError::StillRepeats(at) => Some((true, at)),
-        TemplateError::NothingRepeats(at) => Some((false, at)),
-        TemplateError::Memory => None,
+        TranscribeError::StillRepeats(at) => Some((true, at)),
+        TranscribeError::NothingRepeats(at) => Some((false, at)),
+        TranscribeError::LengthsDiffer(_)
+        | TranscribeError::NoRound(_)
+        | TranscribeError::OverLimit
+        | TranscribeError::Tree(_) => None,
     }
 }
 
-// Returns whether a template has that fault, at that flat place.
+// Returns whether a template shows that fault, at that flat place.
 fn has_fault(
     alloc: Global,
     pattern: &str,
@@ -126,7 +129,8 @@ fn has_fault(
 ) -> Option<bool> {
     let matcher = matcher_of(alloc, pattern)?;
     let trees = tree_of(alloc, template)?;
-    let error = Template::new(alloc, matcher.binders(), trees.token_trees().iter()).err()?;
+    let template = Template::new(alloc, matcher.binders(), trees.token_trees().iter()).ok()?;
+    let error = template.fault(alloc, matcher.binders()).ok()??;
     let (is_still, at) = fault_of(error)?;
     Some((is_still == still_repeats) & (at == place))
 }
@@ -164,6 +168,6 @@ fn templates_have_these_parts(rt: HostRuntime) -> Result<(), Fail> {
 }
 
 #[test]
-fn the_first_fault_is_reported_with_its_place(rt: HostRuntime) -> Result<(), Fail> {
+fn the_first_fault_is_shown_with_its_place(rt: HostRuntime) -> Result<(), Fail> {
     holds(are_faults(rt.alloc()))
 }

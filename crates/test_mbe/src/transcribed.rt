@@ -129,59 +129,85 @@ fn all_are_transcribed(alloc: Global) -> bool {
     true
 }
 
-// Returns why the template is not filled: whether numbers of rounds differ, or there is no round, and the
-// flat place of the `$` of the repetition.
-fn fault_of(error: TranscribeError) -> Option<(bool, usize)> {
+/// Returns why the template is not filled, and the flat place of the `$`.
+pub(crate) fn fault_of(error: TranscribeError) -> Option<(&'static str, usize)> {
     match error {
-        TranscribeError::LengthsDiffer(at) => Some((true, at)),
-        TranscribeError::NoRound(at) => Some((false, at)),
+        TranscribeError::StillRepeats(at) => Some(("still repeats", at)),
+        TranscribeError::NothingRepeats(at) => Some(("nothing repeats", at)),
+        TranscribeError::LengthsDiffer(at) => Some(("lengths differ", at)),
+        TranscribeError::NoRound(at) => Some(("no round", at)),
         TranscribeError::OverLimit | TranscribeError::Tree(_) => None,
     }
 }
 
-// Different numbers of rounds, in the first round or in a later one, and no round although one is needed; the first of several.
-const REFUSED: [(&str, &str, &str, bool, usize); 7] = [
+// Uses that still repeat, also with no round, and repetitions in which nothing repeats; different numbers of rounds, in the first round or
+// in a later one; and no round although one is needed; the first of several.
+const REFUSED: [(&str, &str, &str, &str, usize); 13] = [
+    ("$($x:tt)*", "a b", "q $x", "still repeats", 1),
+    ("$($x:tt)*", "", "q $x", "still repeats", 1),
+    (
+        "$($x:ident [$($y:tt)*])*",
+        "a [b]",
+        "$($x $y)*",
+        "still repeats",
+        4,
+    ),
+    ("$x:tt", "a", "[$x] $($x)*", "nothing repeats", 3),
+    (
+        "$($x:tt)* ; $y:tt",
+        "a ; b",
+        "$($x $($y)*)*",
+        "nothing repeats",
+        4,
+    ),
+    (
+        "$($x:ident)* ; $($y:ident)*",
+        "a ;",
+        "$($y $()*)* $x",
+        "still repeats",
+        8,
+    ),
     (
         "$($x:ident)* ; $($y:ident)*",
         "a b ; c",
         "$($x $y)*",
-        true,
+        "lengths differ",
         0,
     ),
     (
         "$($x:ident)* ; $($y:ident)*",
         "a ; b c",
         "q $($x $y)*",
-        true,
+        "lengths differ",
         1,
     ),
-    ("$($x:tt)*", "", "$($x)+", false, 0),
+    ("$($x:tt)*", "", "$($x)+", "no round", 0),
     (
         "$($x:ident [$($y:tt)*])*",
         "a [b] c []",
         "$($x $($y)+)*",
-        false,
+        "no round",
         4,
     ),
     (
         "$($x:ident [$($y:tt)*])* ; $($z:ident)*",
         "a [b c] ; d e",
         "$($x $($y $z)*)* $($z)*",
-        true,
+        "lengths differ",
         0,
     ),
     (
         "$($x:ident)* ; $($y:ident)*",
         "a ;",
         "$($y)+ $($x $y)*",
-        false,
+        "no round",
         0,
     ),
     (
         "$($x:ident)* ; $($y:ident)*",
         "a ;",
         "$($x $y)* $($y)+",
-        true,
+        "lengths differ",
         0,
     ),
 ];
@@ -192,17 +218,17 @@ fn is_refused(
     pattern: &str,
     input: &str,
     template: &str,
-    differ: bool,
+    why: &str,
     place: usize,
 ) -> Option<bool> {
     let error = transcribed(alloc, pattern, input, template)?.err()?;
-    let (is_differ, at) = fault_of(error)?;
-    Some((is_differ == differ) & (at == place))
+    let (is, at) = fault_of(error)?;
+    Some((is == why) & (at == place))
 }
 
 fn all_are_refused(alloc: Global) -> bool {
-    for (pattern, input, template, differ, place) in &REFUSED {
-        if is_refused(alloc, pattern, input, template, *differ, *place) != Some(true) {
+    for (pattern, input, template, why, place) in &REFUSED {
+        if is_refused(alloc, pattern, input, template, why, *place) != Some(true) {
             return false;
         }
     }

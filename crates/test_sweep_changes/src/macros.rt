@@ -5,8 +5,9 @@ use syntax_parse::{TextFault, parse_to_token_tree};
 use test_sweep::{Call, When, judge};
 use tt::{ErasedFileAstId, FileId, SpanAnchor, SyntaxContext, TopSubtree, TtFault};
 
-// Two arms, of which the second takes the input: lists in lists, with separators, in subtrees, of expressions, which the grammar reads.
-const ARMS: &str = "(a) => {}; ($($k:ident => [$($v:expr),*]);* $(;)?) => {$($k { $($v)* })*}";
+// Two arms, of which the second takes the input: lists in lists, with separators, in subtrees, of expressions, which the grammar reads. The
+// template of the first shows a fault.
+const ARMS: &str = "(a) => {$()*}; ($($k:ident => [$($v:expr),*]);* $(;)?) => {$($k { $($v)* })*}";
 
 const INPUT: &str = "a => [1 + 2, 3]; b => []; c => [d(e).f];";
 
@@ -64,7 +65,9 @@ fn expanded(
         Ok(Expansion::NoMatch(_)) | Ok(Expansion::Ambiguous(_)) => Ok(None),
         Err(error) => match error.fault {
             TranscribeError::Tree(fault) => Err(fault),
-            TranscribeError::LengthsDiffer(_)
+            TranscribeError::StillRepeats(_)
+            | TranscribeError::NothingRepeats(_)
+            | TranscribeError::LengthsDiffer(_)
             | TranscribeError::NoRound(_)
             | TranscribeError::OverLimit => Err(TtFault::NotOneSubtree),
         },
@@ -88,6 +91,7 @@ impl Call for Macro<'_> {
             "MacroRules::new" => self.is_made(),
             "MacroRules::expand" => self.expands(),
             "MacroRules::waiting" => self.waits(),
+            "MacroRules::faults" => self.shows(),
             _ => Ok(false),
         }
     }
@@ -115,5 +119,9 @@ impl Macro<'_> {
     fn waits(&self) -> Result<bool, TtFault> {
         let input = self.input.token_trees().iter();
         Ok(self.rules.waiting(self.alloc, input, 0)?.len() == 2)
+    }
+
+    fn shows(&self) -> Result<bool, TtFault> {
+        Ok(self.rules.faults(self.alloc)?.len() == 1)
     }
 }

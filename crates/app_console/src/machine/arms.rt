@@ -20,7 +20,7 @@ fn made_by_arms(alloc: Global, arms: &TopSubtree, input: &TopSubtree) -> Result<
             Ok(Expansion::Tree(tree)) => Ok(tree),
             Ok(Expansion::NoMatch(_)) => Err(Answer::no_match()),
             Ok(Expansion::Ambiguous(_)) => Err(Answer::ambiguous()),
-            Err(error) => Err(Answer::unfilled(error.fault)),
+            Err(error) => Err(Answer::unfilled(error)),
         },
         Err(error) => Err(Answer::no_macro(error)),
     }
