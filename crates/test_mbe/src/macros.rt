@@ -45,7 +45,7 @@ fn numbered(alloc: Global, word: &str, number: usize) -> Option<String> {
 // template is not filled, no later arm answers.
 // A list, a tail, words that are not variables, and common forms of macros: a map, a count by recursion, an enum with a visibility and
 // values, lists in lists, a loop with its lifetime, a macro that is handed on; `$_`, a `$` between rounds and a last one.
-const EXPANSIONS: [(&str, &str, &str); 28] = [
+const EXPANSIONS: [(&str, &str, &str); 31] = [
     ("() => {}", "", "{0"),
     ("() => {a};", "", "{1a "),
     ("[] => (a b)", "", "(2a b "),
