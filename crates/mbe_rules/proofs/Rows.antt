@@ -160,7 +160,7 @@ behind_repetition = refl
 
 -- Of the arms `($x:tt) => { $x }`, `($($x:tt)*) => { $x $( )* }` and `($x:tt) => { $($x)* }` the last two show a fault.
 abbrev one_x : Pattern
-one_x = pattern.variable (record { name = Some x; fragment = fragment.Tt }) pattern.nothing
+one_x = pattern.variable (record { name = x; fragment = fragment.Tt }) pattern.nothing
 
 abbrev many_x : Pattern
 many_x = pattern.repetition one_x [] repeat.ZeroOrMore pattern.nothing
