@@ -23,6 +23,16 @@ pub struct ShownFault {
     pub at: u32,
 }
 
+// Returns the fault with its byte in the arms, which end at the byte `behind`.
+fn placed_at(error: &ExpandError, arms: TtIter<'_>, behind: u32) -> ShownFault
+    ensures { result ≡ shown_at (rest_of arms.entry) behind error.now }
+{
+    ShownFault {
+        error: *error,
+        at: template_place(arms, *error, behind),
+    }
+}
+
 // Returns these faults, each with its byte in the arms, which end at the byte `behind`.
 fn placed(
     alloc: Global,
@@ -34,8 +44,7 @@ fn placed(
 {
     let mut faults = Vec::new(alloc);
     for error in errors {
-        let at = template_place(arms.remaining().iter(), *error, behind);
-        faults.push(ShownFault { error: *error, at })?;
+        faults.push(placed_at(error, arms.remaining().iter(), behind))?;
     }
     Ok(faults)
 }
@@ -47,7 +56,7 @@ pub fn shown_faults(
     root: &Symbol,
     definition: &Definition<'_>,
 ) -> Result<Vec<ShownFault>, AllocError>
-    ensures { IfOk result (AreShown (definition_of definition.now) (prepared root.now (rest_of definition.now.arms))) }
+    ensures { IfOk result (λ faults. AreShown (definition_of definition.now) (prepared root.now (rest_of definition.now.arms)) faults.items) }
 {
     let rules = match rules_of(alloc, root, definition) {
         Ok(Rules::Context(rules)) => rules,

@@ -1,4 +1,5 @@
-use Rattle.std.proofs.Common.{rules, ◌≡◌, inl, inr, map, refl, ap, ap₂, subst, sym, ◌∙◌}
+use Rattle.std.proofs.Common.{rules, ◌≡◌, Ok, inl, map, ap, ap₂, subst, ◌∙◌}
+use Rattle.std.specs.Prelude.{IfOk}
 use Rattle.tt.specs.Forest.{Forest}
 use Rattle.tt.specs.Iters.{rest_of}
 use Rattle.tt.specs.Span.{start_of}
@@ -14,9 +15,10 @@ pub returns : goal.returns
 returns c =
     let it : Definition = definition_of c.args.definition.now in
     let trees : Forest = prepared c.args.root.now (rest_of c.args.definition.now.arms) in
-    let (arms, limits, spelled, made) = subst (IsRules it trees) c.in-Ok-Context.is c.rules_of.ensures in
+    let found : c.rules_of.result ≡ Ok (read.Context c.in-Ok-Context.rules) = search rules in
+    let (arms, limits, spelled, made) = subst (λ r. IfOk r (IsRules it trees)) found c.rules_of.ensures in
     let same : rest_of c.iter.result ≡ trees = search rules in
-    let until : c.start_of.result ≡ start_of it.delimiter.close.range = search rules in
+    let until : c.start_of-behind.result ≡ start_of it.delimiter.close.range = search rules in
     let here : c.deref.result.now ≡ c.in_ok-errors.errors.items = search rules in
     let shown : c.in_ok-errors.errors.items ≡ faults_of arms 0 = c.in_ok-errors.ensures arms made in
     inl
