@@ -214,7 +214,14 @@ pub fn write_output<W: Write>(
     options: Options<'_>,
     drops: Drops,
 ) -> Result<(), Failure> {
-    let Some(text) = outcome.output else {
+    let Outcome {
+        output,
+        has_mark,
+        shebang,
+        source: _source,
+        counts: _counts,
+    } = outcome;
+    let Some(text) = output else {
         return Ok(());
     };
     let only = options.only;
