@@ -47,9 +47,10 @@ fn changes_of<'a>(
     for name in names {
         let (change, found) = change_of(rt, Input::new(Some(name)), options, drops)?;
         counts = counts.plus(found);
-        if change.old != change.new {
-            changes.push(change)?;
+        if change.old == change.new {
+            continue;
         }
+        changes.push(change)?;
     }
     write_summary(rt, counts)?;
     Ok((changes, counts))
@@ -114,6 +115,19 @@ fn stage_all(rt: &HostRuntime, changes: &[Change<'_>]) -> Result<Vec<Staged>, Fa
     Ok(all)
 }
 
+// Puts new texts in the places of their files. After a failure it puts no other.
+fn put_all(rt: &HostRuntime, all: Vec<Staged>) -> Result<(), Failure> {
+    let mut put = Ok(());
+    for staged in all {
+        if put.is_ok() {
+            put = staged.put(rt);
+        } else {
+            staged.remove(rt);
+        }
+    }
+    put
+}
+
 /// Writes these files anew with their calls expanded, without the definitions that are to be dropped. If one of them has an error, cannot be
 /// written or changes meanwhile, all stay as they are.
 pub fn write_files(
@@ -129,9 +143,7 @@ pub fn write_files(
     }
     let (changes, counts) = changes_of(rt, names, options, drops)?;
     if !counts.has_errors() {
-        for staged in stage_all(rt, &changes)? {
-            staged.put(rt)?;
-        }
+        put_all(rt, stage_all(rt, &changes)?)?;
     }
     Ok(counts.status())
 }

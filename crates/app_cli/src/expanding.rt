@@ -233,12 +233,7 @@ pub fn write_output<W: Write>(
         Drops::Unexported => without_definitions(rt, name, text.as_str(), only, false)?,
         Drops::Unneeded => without_definitions(rt, name, text.as_str(), only, true)?,
     };
-    write(
-        out,
-        outcome.has_mark,
-        outcome.shebang.as_str(),
-        text.as_str(),
-    )?;
+    write(out, has_mark, shebang.as_str(), text.as_str())?;
     Ok(())
 }
 
