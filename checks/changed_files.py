@@ -5,6 +5,7 @@ import re
 import resource
 import signal
 import subprocess
+import time
 
 from program_files import SECONDS, Wrong, wants
 
@@ -114,8 +115,8 @@ def try_unwritten(files):
     """If one text has an error or cannot be read, none is written."""
     calls, faulty = files.made("good.rs", CALLS), files.made("faulty.rs", FAULTY)
     for other in (faulty, "/no/file", files.made("no_text.rs", b"\xff")):
-        status, written, _ = files.run("expand", "--write", calls, other)
-        wants("the run", (status, written), (1, b""))
+        status, written, told = files.run("expand", "--write", calls, other)
+        wants("the run", (status, written, told[:7]), (1, b"", b"error: "))
         holds(calls, CALLS)
     holds(faulty, FAULTY)
     wants("what is beside them", new_files(files), [])
@@ -133,6 +134,17 @@ def try_unwritten_whole(files):
     wants("what is beside them", new_files(files), [])
 
 
+def opened(pipe, started):
+    """The pipe, opened for writing as soon as the program reads it."""
+    until = time.monotonic() + SECONDS
+    while started.poll() is None and time.monotonic() < until:
+        try:
+            return os.fdopen(os.open(pipe, os.O_WRONLY | os.O_NONBLOCK), "wb")
+        except OSError:
+            time.sleep(0.01)
+    raise Wrong("the program does not read the pipe")
+
+
 def try_changed_meanwhile(files):
     """A file that changes while the program reads another one stays, and a pipe is not replaced."""
     name, pipe = files.made("meanwhile.rs", CALLS), str(files.room / "pipe.rs")
@@ -142,7 +154,7 @@ def try_changed_meanwhile(files):
         with subprocess.Popen([files.program, "expand", "--write", name, pipe], stdout=subprocess.PIPE,
                               stderr=subprocess.PIPE) as started:
             # The program opens the pipe when it has read the file.
-            with open(pipe, "wb") as writer:
+            with opened(pipe, started) as writer:
                 if given != CALLS:
                     pathlib.Path(name).write_bytes(CALLS + b"\n")
                 writer.write(given)
