@@ -20,9 +20,10 @@ TESTS = {"IDENT": "Name", "SEGMENT": "PathSegment", "BOOL": "TruthValue", "LITER
          "DELIM": "Delimited", "OPAQUE": "Opaque", "ANY": "Any", "BINARY": "BinaryOperator", "ASSIGN": "AssignmentOperator",
          "BEGINS": "BeginsExpression"}
 SUBTREES = {"PAREN": "Parenthesis", "BRACK": "Bracket", "BRACE": "Brace"}
-# The names whose places the code names: those of fragments, of files and blocks, and of what binds.
+# The names whose places the code names: those of fragments, of files and blocks, of what binds, and of what defines macros.
 NAMED = ["expression", "expression_2021_fragment", "type", "pattern_fragment", "pattern_param_fragment", "type_path", "statement",
-         "item", "meta", "items", "statements", "identifier_pattern", "field_pattern", "label"]
+         "item", "meta", "items", "statements", "identifier_pattern", "field_pattern", "label", "macro_rules_item",
+         "loose_macro_rules_item", "tokens"]
 # Parts that have no parts.
 LEAVES = ("unit", "front", "test", "holds", "name", "empty")
 

@@ -9,6 +9,7 @@ use Rattle.tt.specs.Types.Leaf.{Leaf}
 use Rattle.tt.specs.Types.Leaf.TheVariants as leaf_of
 use Rattle.expand_items.specs.Attributes.{attributes_len, is_at_attribute, is_attribute_sign}
 use Rattle.expand_items.specs.Items.{Call, calls, item_in}
+use Rattle.expand_items.specs.MacroRulesItems.{has_attribute}
 use Rattle.expand_items.specs.Positions.{begins_with_attribute, is_at_attribute_of, is_at_inner, is_attribute_of, is_bracket}
 use Rattle.expand_items.proofs.Shapes.{call_ends}
 use Rattle.mbe_pattern.specs.Units.{front_trees, is_at_punct}
@@ -143,3 +144,26 @@ no_inner word (leaf it (node delimiter children rest)) e = refl
 no_inner word (leaf it (leaf next end)) e = refl
 no_inner word (leaf it (leaf next (leaf third rest))) e = refl
 no_inner word (leaf it (leaf next (node delimiter children rest))) e = ap (λ b. cond b (is_attribute_of word delimiter.kind children || begins_with_attribute word rest) false) e
+
+-- One of the attributes that come first begins with a word: the first, or one of the others.
+pub one_named : (word : List ℕ) (trees : Forest) → is_at_attribute trees ≡ true
+    → has_attribute word trees ≡ is_at_attribute_of word (after_trees 1 trees) || has_attribute word (after_trees 2 trees)
+one_named word end e = absurd (false≢true e)
+one_named word (node delimiter children rest) e = absurd (false≢true e)
+one_named word (leaf (leaf_of.Literal it) rest) e = absurd (false≢true e)
+one_named word (leaf (leaf_of.Ident it) rest) e = absurd (false≢true e)
+one_named word (leaf (leaf_of.Punct it) end) e = absurd (no_brackets (it.char == 35) e)
+one_named word (leaf (leaf_of.Punct it) (leaf next rest)) e = absurd (no_brackets (it.char == 35) e)
+one_named word (leaf (leaf_of.Punct it) (node delimiter children rest)) e =
+    ap (λ b. cond b (is_attribute_of word delimiter.kind children || has_attribute word rest) false) e
+
+-- If no attribute comes first, none does.
+pub none_named : (word : List ℕ) (trees : Forest) → is_at_attribute trees ≡ false → has_attribute word trees ≡ false
+none_named word end e = refl
+none_named word (node delimiter children rest) e = refl
+none_named word (leaf it end) e = refl
+none_named word (leaf it (leaf next rest)) e = refl
+none_named word (leaf (leaf_of.Literal it) (node delimiter children rest)) e = refl
+none_named word (leaf (leaf_of.Ident it) (node delimiter children rest)) e = refl
+none_named word (leaf (leaf_of.Punct it) (node delimiter children rest)) e =
+    ap (λ b. cond b (is_attribute_of word delimiter.kind children || has_attribute word rest) false) e

@@ -11,6 +11,7 @@ pub mod Fronts
 pub mod Inactive
 pub mod Items
 pub mod Loosening
+pub mod MacroRulesItems
 pub mod Operands
 pub mod Parts
 pub mod Positions

@@ -1,9 +1,9 @@
 -- The cuts of a text fit into it.
-use Rattle.std.proofs.Common.{◌≡◌, ◌≤◌, ◌-◌, ◌++◌, ℕ, zero, suc, Bool, true, false, List, [], ◌∷◌, length, Option, None, Some, map, refl, ap, sym, subst, ◌∙◌, arith, cond, codes}
+use Rattle.std.proofs.Common.{◌≡◌, ◌≤◌, ◌+◌, ◌-◌, ◌++◌, ℕ, zero, suc, Bool, true, false, List, [], ◌∷◌, length, Option, None, Some, map, option_map, refl, ap, sym, subst, ◌∙◌, arith, cond, codes}
 use Rattle.std.proofs.lemmas.List.{append_assoc}
-use Rattle.std.specs.Prelude.{◌&&◌, ◌||◌, ◌==◌, is_some}
+use Rattle.std.specs.Prelude.{◌||◌, ◌==◌}
 use Rattle.std.specs.Str.{IsCharBoundary, IsUtf8}
-use Rattle.tt.specs.Forest.{Forest, Root, end, leaf, node}
+use Rattle.tt.specs.Forest.{Forest, Root, end, leaf, node, size}
 use Rattle.tt.specs.Gluing.{after_trees}
 use Rattle.tt.specs.Moves.{after_tree}
 use Rattle.tt.specs.Span.{start_of, end_of}
@@ -15,21 +15,18 @@ use Rattle.tt.specs.Types.Leaf.TheVariants as leaf_of
 use Rattle.tt.specs.Types.Span.{Span}
 use Rattle.tt.specs.Types.SpanPart.{SpanPart}
 use Rattle.expand_unused.specs.declared.choice.Choice.{Choice}
-use Rattle.expand_unused.specs.declared.place.Attributes.{Attributes}
-use Rattle.expand_unused.specs.declared.place.Place.{Place}
-use Rattle.expand_unused.specs.declared.place.Place.TheVariants as at
-use Rattle.expand_unused.specs.Parts.{Part, word, rules, leaf_words, words_in, last_span, byte_or, exported_words, first_parts, parts_in, held, rules_from}
+use Rattle.expand_unused.specs.Parts.{Part, word, rules, leaf_words, last_span, exported_words, first_at, first_in, first_parts, if_may_go, may_go, parts_in, parts_of, passed_by, rules_from}
 use Rattle.syntax_edit.specs.Places.{begin_at}
-use Rattle.expand_unused.specs.Places.{First, drops, takes, others as plain, first_in, first_from, may_go, begun, no_attributes, passing, taking, is_attribute, since_without, exports, behind_sign, signed, attributes_behind_leaf, attributes_behind_subtree, behind_first}
 use Rattle.expand_unused.specs.Without.{cut_of, cuts}
 use Rattle.syntax_edit.specs.Laid.{Lies, Laid, byte_behind, lies_leaf, lies_node}
-use Rattle.syntax_edit.specs.Texts.{begun as begun_text, FitAll}
+use Rattle.syntax_edit.specs.Texts.{begun, FitAll}
 use Rattle.syntax_edit.proofs.Following.{Follow, none, next, follow_from, follow_both, follow_fit}
 use Rattle.syntax_edit.proofs.LaidFacts.{laid_behind, laid_order, starts_before}
 use Rattle.syntax_edit.proofs.ParsedOrder.{parsed_laid}
-use Rattle.expand_items.specs.Attributes.{is_attribute_sign}
-use Rattle.expand_items.specs.Items.{Definition, Call, definition_from, definition_in, definition_len, defined_as, item_from, call_in, name_in}
-use Rattle.expand_items.specs.Positions.{is_bracket}
+use Rattle.expand_items.specs.Attributes.{attributes_len}
+use Rattle.expand_items.specs.Items.{Definition, definition_from, definition_in, definition_len, defined_as, name_in}
+use Rattle.expand_items.specs.MacroRulesItems.{MacroRulesItem, behind_attributes}
+use Rattle.expand_items.proofs.ManyTrees.{after_both}
 use Rattle.mbe_pattern.specs.Units.{is_at_word, is_brace, is_at_punct}
 use Rattle.syntax_parse.specs.Parsed.{IsParse}
 
@@ -73,18 +70,22 @@ definition_ends trees = by (is_at_word (codes "macro_rules") trees) (is_at_punct
     by true false name = tt
     by false b name = tt
 
--- The definition that comes first and may go ends with its subtree, or with a `;` after it.
-first_ends : (choice : Choice) (trees : Forest) (it : Definition) → first_in choice trees ≡ drops it → EndsWithSubtree trees it
-first_ends choice trees it is = by (definition_in trees) (call_in (codes "crate") trees) (definition_ends trees) is
+-- The definition that comes first behind attributes, and may go, ends with its subtree, or with a `;` after it.
+first_ends : (choice : Choice) (trees : Forest) (it : MacroRulesItem) → first_in choice trees ≡ Some it → EndsWithSubtree (after_trees it.attributes trees) it.definition
+first_ends choice trees it is = by (definition_in (after_trees len trees)) (definition_ends (after_trees len trees)) is
   where
-    dropped : (d : Definition) (may : Bool) → cond may (drops d) (takes d.len) ≡ drops it → d ≡ it
-    dropped d true e = cc e
-    dropped d false e = absurd (cc e)
+    len : ℕ
+    len = attributes_len trees
 
-    by : (found : Option Definition) (call : Option Call) → EndsWith trees found → first_from choice (item_from found call) ≡ drops it → EndsWithSubtree trees it
-    by None None there e = absurd (cc e)
-    by None (Some call) there e = absurd (cc e)
-    by (Some d) call there e = subst (EndsWithSubtree trees) (dropped d (may_go choice.only d.name.sym) e) there
+    kept : (item : MacroRulesItem) (may : Bool) → cond may (Some item) None ≡ Some it → item ≡ it
+    kept item true e = cc e
+    kept item false e = absurd (cc e)
+
+    by : (found : Option Definition) → EndsWith (after_trees len trees) found → if_may_go choice (option_map (behind_attributes len) found) ≡ Some it
+        → EndsWithSubtree (after_trees it.attributes trees) it.definition
+    by None there e = absurd (cc e)
+    by (Some d) there e =
+        subst (λ i. EndsWithSubtree (after_trees i.attributes trees) i.definition) (kept (behind_attributes len d) (may_go choice.only d.name.sym) e) there
 
 -- where a definition ends
 pub record EndsAt (text : List ℕ) (from : ℕ) (trees : Forest) (it : Definition) (to : ℕ) : Type 0 where
@@ -116,13 +117,9 @@ module _ {text : List ℕ} {to : ℕ} where
       there true is = refl
       there false is = is
 
-  definition_ends_at : {from : ℕ} (choice : Choice) (trees : Forest) (it : Definition) → first_in choice trees ≡ drops it → Laid text from trees to
-      → EndsAt text from trees it to
-  definition_ends_at {from} choice trees it is laid = by (is_brace it.delimiter.kind) (is_at_punct (codes ";") ends.rest) refl refl
+  definition_ends_at : {from : ℕ} (trees : Forest) (it : Definition) → EndsWithSubtree trees it → Laid text from trees to → EndsAt text from trees it to
+  definition_ends_at {from} trees it ends laid = by (is_brace it.delimiter.kind) (is_at_punct (codes ";") ends.rest) refl refl
     where
-      ends : EndsWithSubtree trees it
-      ends = first_ends choice trees it is
-
       close : Span
       close = it.delimiter.close
 
@@ -167,204 +164,99 @@ module _ {text : List ℕ} {to : ℕ} where
       by false true a b = at_semicolon b (ends.len ∙ ap (λ x. cond x 4 (cond (is_at_punct (codes ";") ends.rest) 5 4)) a ∙ ap (λ x. cond x 5 4) b)
       by false false a b = at_close (ends.len ∙ ap (λ x. cond x 4 (cond (is_at_punct (codes ";") ends.rest) 5 4)) a ∙ ap (λ x. cond x 5 4) b)
 
--- it is a byte of a text between two, if it is there
-abbrev IsSince : (text : List ℕ) → (base from : ℕ) → Option ℕ → Type 0
-IsSince text base from None = Unit {0}
-IsSince text base from (Some start) = (base ≤ start) × (start ≤ from) × IsCharBoundary text start
+-- trees lie in a text, and so many of the first of them are part of a definition that ends before the others
+abbrev IsReady : (text : List ℕ) → (from to : ℕ) → (passed : ℕ) → Forest → Type 0
+IsReady text from to passed trees = Laid text from (after_trees passed trees) to
 
--- trees lie in a text after a byte, and attributes and passed trees lie between that and a byte before
-record IsFree (text : List ℕ) (base from to : ℕ) (attributes : Attributes) (trees : Forest) : Type 0 where
-  order : base ≤ from
-  laid : Laid text from trees to
-  since : IsSince text base from attributes.since
-  sign : IsSince text base from attributes.sign
-
-abbrev IsReady : (text : List ℕ) → (base from to : ℕ) → Place → Forest → Type 0
-IsReady text base from to (at.Passed left) trees = (base ≤ from) × Laid text from (after_trees (suc left) trees) to
-IsReady text base from to (at.Taken left) trees = (base ≤ from) × Laid text from trees to
-IsReady text base from to (at.Free attributes) trees = IsFree text base from to attributes trees
-
-since_later : (text : List ℕ) (base from place : ℕ) → from ≤ place → (since : Option ℕ) → IsSince text base from since → IsSince text base place since
-since_later text base from place order None is = tt
-since_later text base from place order (Some start) (after, before, boundary) = (after, omega (arith, before, order), boundary)
-
--- If brackets are not those of an attribute, no attribute is after them.
-shut : (bracket : Bool) (sign since : Option ℕ) (is_exported : Bool) → (bracket && is_some sign) ≡ false → cond bracket (signed sign since is_exported) no_attributes ≡ no_attributes
-shut false sign since is_exported is = refl
-shut true None since is_exported is = refl
-shut true (Some start) since is_exported is = absurd (cc is)
-
-module _ (text : List ℕ) (choice : Choice) (goes : List ℕ → Bool) where
-  ready_begun : {base from to : ℕ} {trees : Forest} → base ≤ from → Laid text from trees to → IsFree text base from to no_attributes trees
-  ready_begun order laid = record { order = order; laid = laid; since = tt; sign = tt }
-
-  ready_passing : {base from to : ℕ} (left : ℕ) (trees : Forest) → base ≤ from → Laid text from (after_trees left trees) to → IsReady text base from to (passing left) trees
-  ready_passing zero trees order laid = ready_begun order laid
-  ready_passing (suc left) trees order laid = (order, laid)
-
-  ready_taking : {base from to : ℕ} (left : ℕ) (trees : Forest) → base ≤ from → Laid text from trees to → IsReady text base from to (taking left) trees
-  ready_taking zero trees order laid = ready_begun order laid
-  ready_taking (suc left) trees order laid = (order, laid)
-
-  -- After a leaf.
-  ready_leaf : {base from to : ℕ} (it : Leaf) (rest : Forest) (attributes : Attributes) → IsFree text base from to attributes (leaf it rest)
-      → IsFree text base (byte_behind it) to (attributes_behind_leaf it attributes) rest
-  ready_leaf {base} {from} {to} it rest attributes ready = by ready.laid
-    where
-      by : Laid text from (leaf it rest) to → IsFree text base (byte_behind it) to (attributes_behind_leaf it attributes) rest
-      by (lies_leaf lies behind) = behind_it (is_attribute_sign it)
-        where
-          after : from ≤ byte_behind it
-          after = omega (arith, lies.after, starts_before it lies.range.order)
-
-          order : base ≤ byte_behind it
-          order = omega (arith, ready.order, after)
-
-          without : (sign : Option ℕ) → IsSince text base (byte_behind it) (since_without sign attributes.since)
-          without None = since_later text base from (byte_behind it) after attributes.since ready.since
-          without (Some start) = tt
-
-          behind_it : (sign : Bool) → IsFree text base (byte_behind it) to (cond sign (behind_sign (start_of (leaf_span it).range) attributes) no_attributes) rest
-          behind_it false = ready_begun order behind
-          behind_it true =
-              record {
-                order = order;
-                laid = behind;
-                since = without attributes.sign;
-                sign = (omega (arith, ready.order, lies.after), starts_before it lies.range.order, lies.range.begins);
-              }
-
-  -- After brackets of an attribute.
-  ready_signed : {base from place to : ℕ} (rest : Forest) (sign since : Option ℕ) (is_exported : Bool) → from ≤ place → base ≤ from → Laid text place rest to → IsSince text base from sign
-      → IsSince text base from since → IsFree text base place to (signed sign since is_exported) rest
-  ready_signed rest None since is_exported after order laid signs is = ready_begun (omega (arith, order, after)) laid
-  ready_signed {base} {from} {place} rest (Some start) None is_exported after order laid signs is =
-      record { order = omega (arith, order, after); laid = laid; since = since_later text base from place after (Some start) signs; sign = tt }
-  ready_signed {base} {from} {place} rest (Some start) (Some first) is_exported after order laid signs is =
-      record { order = omega (arith, order, after); laid = laid; since = since_later text base from place after (Some first) is; sign = tt }
-
-  -- The definition that comes first is cut, or not, and then other definitions follow.
-  rules_follow : {base from to : ℕ} (attributes : Attributes) (it : Definition) (first : Leaf) (rest : Forest) (more : List Part)
-      → first_in choice (leaf first rest) ≡ drops it → IsFree text base from to attributes (leaf first rest)
-      → Follow text (end_of (last_span it (leaf first rest)).range) (cuts goes more) to
-      → Follow text base (cuts goes (rules (rules_from attributes it first (leaf first rest)) ∷ more)) to
-  rules_follow {base} {from} {to} attributes it first rest more is ready others = by (goes it.name.sym)
-    where
-      ends : EndsAt text from (leaf first rest) it to
-      ends = definition_ends_at choice (leaf first rest) it is ready.laid
-
-      stop : ℕ
-      stop = end_of (last_span it (leaf first rest)).range
-
-      begins : Laid text from (leaf first rest) to → (since : Option ℕ) → IsSince text base from since → Lies text base (byte_or since (start_of (leaf_span first).range)) stop
-      begins (lies_leaf lies behind) None since =
-          let same : EndsAt text (start_of (leaf_span first).range) (leaf first rest) it to = definition_ends_at choice (leaf first rest) it is (lies_leaf (record { after = omega arith; range = lies.range }) behind) in
-          record { after = omega (arith, ready.order, lies.after); range = record { order = same.order; begins = lies.range.begins; ends = ends.boundary } }
-      begins (lies_leaf lies behind) (Some start) (after, before, boundary) =
-          record { after = after; range = record { order = omega (arith, before, ends.order); begins = boundary; ends = ends.boundary } }
-
-      by : (b : Bool) → Follow text base
-          (cond b (cut_of (rules_from attributes it first (leaf first rest)) ∷ cuts goes more) (cuts goes more)) to
-      by true = next (begins ready.laid attributes.since ready.since) others
-      by false = follow_from (omega (arith, ready.order, ends.order)) others
-
+module _ (text : List ℕ) (choice : Choice) (defined : ℕ → Bool) (goes : List ℕ → Bool) where
   -- the cuts of trees follow one another, wherever the trees lie
   abbrev AllFollow : Forest → Type 0
-  AllFollow trees = (base from to : ℕ) (place : Place) → IsReady text base from to place trees → Follow text base (cuts goes (parts_in choice place trees)) to
+  AllFollow trees = (passed left from to : ℕ) → IsReady text from to passed trees → Follow text from (cuts goes (parts_in choice defined passed left trees)) to
 
-  words_follow : {base to : ℕ} (words : List (List ℕ)) (parts : List Part) → Follow text base (cuts goes parts) to → Follow text base (cuts goes (map word words ++ parts)) to
-  words_follow {base} {to} words parts follow = subst (λ its. Follow text base its to) (sym (cuts_words goes words parts)) follow
+  words_follow : {from to : ℕ} (words : List (List ℕ)) (parts : List Part) → Follow text from (cuts goes parts) to → Follow text from (cuts goes (map word words ++ parts)) to
+  words_follow {from} {to} words parts follow = subst (λ its. Follow text from its to) (sym (cuts_words goes words parts)) follow
 
-  leaf_follow : (base from to : ℕ) (it : Leaf) (rest : Forest) (attributes : Attributes) → AllFollow rest → IsFree text base from to attributes (leaf it rest)
-      → Follow text base (cuts goes (parts_in choice (at.Free attributes) (leaf it rest))) to
-  leaf_follow base from to it rest attributes follow ready = by (first_in choice (leaf it rest)) refl
+  -- The definition that comes first is cut, or not, and then other definitions follow.
+  rules_follow : {from to : ℕ} (it : MacroRulesItem) (first : Leaf) (rest : Forest) (left : ℕ) → AllFollow rest → first_in choice (leaf first rest) ≡ Some it
+      → Laid text from (leaf first rest) to
+      → Follow text from (cuts goes (rules (rules_from it first (leaf first rest)) ∷ parts_in choice defined (passed_by (Some it)) left rest)) to
+  rules_follow {from} {to} it first rest left follow is (lies_leaf lies behind) = by (goes it.definition.name.sym)
     where
-      laid_rest : Laid text from (leaf it rest) to → (base ≤ byte_behind it) × Laid text (byte_behind it) rest to
-      laid_rest (lies_leaf lies behind) = (omega (arith, ready.order, lies.after, starts_before it lies.range.order), behind)
+      start : ℕ
+      start = start_of (leaf_span first).range
 
-      by : (first : First) → first_in choice (leaf it rest) ≡ first
-          → Follow text base (cuts goes (first_parts choice first it attributes (leaf it rest) ++ parts_in choice (behind_first first it attributes) rest)) to
-      by (takes len) is =
-          let (order, behind) = laid_rest ready.laid in
-          words_follow (leaf_words it) (parts_in choice (taking (len - 1)) rest)
-          (follow base (byte_behind it) to (taking (len - 1)) (ready_taking (len - 1) rest order behind))
-      by plain is =
-          words_follow (leaf_words it) (parts_in choice (at.Free (attributes_behind_leaf it attributes)) rest)
-          (follow base (byte_behind it) to (at.Free (attributes_behind_leaf it attributes)) (ready_leaf it rest attributes ready))
-      by (drops d) is =
-          let ends = definition_ends_at choice (leaf it rest) d is ready.laid in
-          let stop = end_of (last_span d (leaf it rest)).range in
-          let names = map word (exported_words choice attributes d) in
-          let goer = rules (rules_from attributes d it (leaf it rest)) in
-          let more = parts_in choice (passing (d.len - 1)) rest in
-          subst (λ parts. Follow text base (cuts goes parts) to) (sym (append_assoc names (goer ∷ []) more))
-          (words_follow (exported_words choice attributes d) (goer ∷ more)
-          (rules_follow attributes d it rest more is ready
-          (follow stop stop to (passing (d.len - 1))
-          (ready_passing (d.len - 1) rest (omega arith) (subst (λ n. Laid text stop (after_trees n (leaf it rest)) to) (sym ends.some) ends.behind)))))
+      trees : Forest
+      trees = leaf first rest
 
-  node_follow : (base from to : ℕ) (delimiter : Delimiter) (inside rest : Forest) (attributes : Attributes) → AllFollow inside → AllFollow rest
-      → IsFree text base from to attributes (node delimiter inside rest)
-      → Follow text base (cuts goes (parts_in choice (at.Free attributes) (node delimiter inside rest))) to
-  node_follow base from to delimiter inside rest attributes held_follow follow ready = all ready.laid
-    where
-      next_place : Place
-      next_place = at.Free (attributes_behind_subtree delimiter.kind inside attributes)
+      definition : Forest
+      definition = after_trees it.attributes trees
 
-      is_exported : Bool
-      is_exported = attributes.is_exported || exports inside
+      laid : Laid text start trees to
+      laid = lies_leaf (record { after = omega arith; range = lies.range }) behind
 
-      all : Laid text from (node delimiter inside rest) to → Follow text base
-          (cuts goes (held (is_attribute delimiter.kind attributes) (words_in inside) (parts_in choice begun inside) ++ parts_in choice next_place rest)) to
-      all (lies_node opens within closes behind) = by (is_attribute delimiter.kind attributes) refl
+      ends : EndsAt text start definition it.definition to
+      ends = definition_ends_at definition it.definition (first_ends choice trees it is) (laid_behind it.attributes laid)
+
+      stop : ℕ
+      stop = end_of (last_span it.definition definition).range
+
+      passed : after_trees it.definition.len definition ≡ after_trees (passed_by (Some it)) rest
+      passed = sym (after_both it.attributes it.definition.len trees) ∙ ap (λ n. after_trees n trees) more
         where
-          start : ℕ
-          start = start_of delimiter.open_span.range
+          more : it.attributes + it.definition.len ≡ suc (it.attributes + it.definition.len - 1)
+          more = omega (arith, ends.some)
 
-          stop : ℕ
-          stop = end_of delimiter.close.range
+      others : Follow text stop (cuts goes (parts_in choice defined (passed_by (Some it)) left rest)) to
+      others = follow (passed_by (Some it)) left stop to (subst (λ f. Laid text stop f to) passed ends.behind)
 
-          after : from ≤ stop
-          after = omega (arith, opens.after, laid_order within, closes.order)
+      by : (b : Bool) → Follow text from
+          (cond b (cut_of (rules_from it first trees) ∷ cuts goes (parts_in choice defined (passed_by (Some it)) left rest)) (cuts goes (parts_in choice defined (passed_by (Some it)) left rest))) to
+      by true = next (record { after = lies.after; range = record { order = ends.order; begins = lies.range.begins; ends = ends.boundary } }) others
+      by false = follow_from (omega (arith, lies.after, ends.order)) others
 
-          signed_or : (bracket : Bool) → IsFree text base stop to (cond bracket (signed attributes.sign attributes.since is_exported) no_attributes) rest
-          signed_or true = ready_signed rest attributes.sign attributes.since is_exported after ready.order behind ready.sign ready.since
-          signed_or false = ready_begun (omega (arith, ready.order, after)) behind
+  leaf_follow : (left from to : ℕ) (it : Leaf) (rest : Forest) → AllFollow rest → Laid text from (leaf it rest) to
+      → Follow text from (cuts goes (parts_in choice defined 0 left (leaf it rest))) to
+  leaf_follow left from to it rest follow laid = by (first_at choice (defined left) (leaf it rest)) (found (defined left)) laid
+    where
+      found : (b : Bool) (item : MacroRulesItem) → first_at choice b (leaf it rest) ≡ Some item → first_in choice (leaf it rest) ≡ Some item
+      found true item is = is
+      found false item is = absurd (cc is)
 
-          by : (b : Bool) → is_attribute delimiter.kind attributes ≡ b
-              → Follow text base (cuts goes (held b (words_in inside) (parts_in choice begun inside) ++ parts_in choice next_place rest)) to
-          by true is = words_follow (words_in inside) (parts_in choice next_place rest) (follow base stop to next_place (signed_or (is_bracket delimiter.kind)))
-          by false is =
-              let same = shut (is_bracket delimiter.kind) attributes.sign attributes.since is_exported is in
-              let inner = held_follow start start (start_of delimiter.close.range) begun (ready_begun (omega arith) within) in
-              let outer = follow stop stop to next_place (subst (λ a. IsFree text stop stop to a rest) (sym same) (ready_begun (omega arith) behind)) in
-              subst (λ its. Follow text base its to) (sym (cuts_both goes (parts_in choice begun inside) (parts_in choice next_place rest)))
-              (follow_both (follow_from (omega (arith, ready.order, opens.after)) inner) closes.order outer)
+      by : (first : Option MacroRulesItem) → ((item : MacroRulesItem) → first ≡ Some item → first_in choice (leaf it rest) ≡ Some item) → Laid text from (leaf it rest) to
+          → Follow text from (cuts goes (first_parts choice first it (leaf it rest) ++ parts_in choice defined (passed_by first) (left - 1) rest)) to
+      by None is (lies_leaf lies behind) =
+          words_follow (leaf_words it) (parts_in choice defined 0 (left - 1) rest)
+          (follow_from (omega (arith, lies.after, starts_before it lies.range.order)) (follow 0 (left - 1) (byte_behind it) to behind))
+      by (Some item) is laid =
+          let names = map word (exported_words choice item (leaf it rest)) in
+          let goer = rules (rules_from item it (leaf it rest)) in
+          let more = parts_in choice defined (passed_by (Some item)) (left - 1) rest in
+          subst (λ parts. Follow text from (cuts goes parts) to) (sym (append_assoc names (goer ∷ []) more))
+          (words_follow (exported_words choice item (leaf it rest)) (goer ∷ more) (rules_follow item it rest (left - 1) follow (is item refl) laid))
+
+  node_follow : (left from to : ℕ) (delimiter : Delimiter) (inside rest : Forest) → AllFollow inside → AllFollow rest → Laid text from (node delimiter inside rest) to
+      → Follow text from (cuts goes (parts_in choice defined 0 left (node delimiter inside rest))) to
+  node_follow left from to delimiter inside rest held_follow follow (lies_node opens within closes behind) =
+      let start = start_of delimiter.open_span.range in
+      let stop = end_of delimiter.close.range in
+      let inner = held_follow 0 (left - 1) start (start_of delimiter.close.range) within in
+      let outer = follow 0 (left - 1 - size inside) stop to behind in
+      subst (λ its. Follow text from its to) (sym (cuts_both goes (parts_in choice defined 0 (left - 1) inside) (parts_in choice defined 0 (left - 1 - size inside) rest)))
+      (follow_both (follow_from opens.after inner) closes.order outer)
 
   -- The cuts of trees that lie in a text follow one another.
   parts_follow : (trees : Forest) → AllFollow trees
-  parts_follow end base from to (at.Passed left) (order, laid) = none (omega (arith, order, laid_order laid))
-  parts_follow end base from to (at.Taken left) (order, laid) = none (omega (arith, order, laid_order laid))
-  parts_follow end base from to (at.Free attributes) ready = none (omega (arith, ready.order, laid_order ready.laid))
-  parts_follow (leaf it rest) base from to (at.Passed left) (order, laid) = parts_follow rest base from to (passing left) (ready_passing left rest order laid)
-  parts_follow (leaf it rest) base from to (at.Taken left) (order, lies_leaf lies behind) =
-      words_follow (leaf_words it) (parts_in choice (taking left) rest)
-      (parts_follow rest base (byte_behind it) to (taking left)
-      (ready_taking left rest (omega (arith, order, lies.after, starts_before it lies.range.order)) behind))
-  parts_follow (leaf it rest) base from to (at.Free attributes) ready = leaf_follow base from to it rest attributes (parts_follow rest) ready
-  parts_follow (node delimiter inside rest) base from to (at.Passed left) (order, laid) =
-      parts_follow rest base from to (passing left) (ready_passing left rest order laid)
-  parts_follow (node delimiter inside rest) base from to (at.Taken left) (order, lies_node opens within closes behind) =
-      words_follow (words_in inside) (parts_in choice (taking left) rest)
-      (parts_follow rest base (end_of delimiter.close.range) to (taking left)
-      (ready_taking left rest (omega (arith, order, opens.after, laid_order within, closes.order)) behind))
-  parts_follow (node delimiter inside rest) base from to (at.Free attributes) ready =
-      node_follow base from to delimiter inside rest attributes (parts_follow inside) (parts_follow rest) ready
+  parts_follow end zero left from to laid = none (laid_order laid)
+  parts_follow end (suc passed) left from to laid = none (laid_order laid)
+  parts_follow (leaf it rest) (suc passed) left from to laid = parts_follow rest passed (left - 1) from to laid
+  parts_follow (node delimiter inside rest) (suc passed) left from to laid = parts_follow rest passed (left - 1 - size inside) from to laid
+  parts_follow (leaf it rest) zero left from to laid = leaf_follow left from to it rest (parts_follow rest) laid
+  parts_follow (node delimiter inside rest) zero left from to laid = node_follow left from to delimiter inside rest (parts_follow inside) (parts_follow rest) laid
 
 -- The cuts of the trees of a text fit into it.
-pub cuts_fit : (choice : Choice) (goes : List ℕ → Bool) (part : SpanPart) (text : List ℕ) (root : Root) → IsUtf8 text → IsParse part text root
-    → FitAll (cuts goes (parts_in choice begun root.children)) (begun_text text)
-cuts_fit choice goes part text root utf8 parse =
-    let ready : IsFree text 0 0 (length text) no_attributes root.children = record { order = omega arith; laid = parsed_laid part text root utf8 parse; since = tt; sign = tt } in
+pub cuts_fit : (choice : Choice) (defined : ℕ → Bool) (goes : List ℕ → Bool) (part : SpanPart) (text : List ℕ) (root : Root) → IsUtf8 text → IsParse part text root
+    → FitAll (cuts goes (parts_of choice defined root.children)) (begun text)
+cuts_fit choice defined goes part text root utf8 parse =
     let start : 0 ≤ 0 = omega arith in
-    follow_fit (begun_text text) refl start (parts_follow text choice goes root.children 0 0 (length text) begun ready)
+    follow_fit (begun text) refl start
+    (parts_follow text choice defined goes root.children 0 (size root.children) 0 (length text) (parsed_laid part text root utf8 parse))

@@ -1,14 +1,13 @@
 -- Worked parts and cuts. Each holds by computation.
 use Rattle.std.proofs.Common.{◌≡◌, ℕ, List, [], ◌∷◌, None, Some, true, false, codes, refl}
-use Rattle.std.specs.Prelude.{bytes_eq}
+use Rattle.std.specs.Prelude.{bytes_eq, ◌==◌, Bool}
 use Rattle.tt.specs.Forest.{Forest, end, leaf, join}
-use Rattle.tt.specs.Types.DelimiterKind.TheVariants.{Parenthesis, Brace, Bracket}
+use Rattle.tt.specs.Types.DelimiterKind.TheVariants.{Brace, Bracket}
 use Rattle.tt.specs.Types.Leaf.TheVariants as leaf_of
 use Rattle.tt.specs.Types.Spacing.TheVariants.{Alone}
 use Rattle.tt_base.proofs.Samples.{span, subtree}
 use Rattle.expand_unused.specs.declared.choice.Choice.{Choice}
-use Rattle.expand_unused.specs.Parts.{Part, word, rules, parts_in}
-use Rattle.expand_unused.specs.Places.{begun}
+use Rattle.expand_unused.specs.Parts.{Part, word, rules, parts_of}
 use Rattle.expand_unused.specs.Without.{cuts}
 use Rattle.mbe_pattern.proofs.Rows.{word as ident, alone}
 
@@ -29,48 +28,54 @@ all_may_go = record { only = None; drops_exported = false }
 abbrev m_rules : (start stop : ℕ) → Part
 m_rules start stop = rules (record { name = codes "m"; start = start; end = stop; inside = codes "x" ∷ [] })
 
--- `macro_rules! m { x } y`: the definition, and a word.
-definition_first : parts_in all_may_go begun (definition (codes "m") (ident (codes "x") end) (ident (codes "y") end)) ≡ m_rules 0 2 ∷ word (codes "y") ∷ []
+-- The definition of `m`, which is 5 tokens.
+abbrev m_definition : (rest : Forest) → Forest
+m_definition rest = definition (codes "m") (ident (codes "x") end) rest
+
+-- definitions are at the places with so many tokens left
+abbrev at_place : (place : ℕ) → ℕ → Bool
+at_place place left = left == place
+
+-- the parts of trees with a definition at one place
+abbrev parts : Choice → (place : ℕ) → Forest → List Part
+parts choice place trees = parts_of choice (at_place place) trees
+
+-- `macro_rules! m { x } y`: the definition, and a word. If no definition is there, all are words.
+definition_first : parts all_may_go 6 (m_definition (ident (codes "y") end)) ≡ m_rules 0 2 ∷ word (codes "y") ∷ []
 definition_first = refl
 
+no_definition : parts all_may_go 9 (m_definition (ident (codes "y") end))
+    ≡ word (codes "macro_rules") ∷ word (codes "m") ∷ word (codes "x") ∷ word (codes "y") ∷ []
+no_definition = refl
+
 -- The same in braces, and after other words.
-definition_below : parts_in all_may_go begun (ident (codes "mod") (join (subtree Brace (definition (codes "m") (ident (codes "x") end) end)) end))
-    ≡ word (codes "mod") ∷ m_rules 0 2 ∷ []
+definition_below : parts all_may_go 5 (ident (codes "mod") (join (subtree Brace (m_definition end)) end)) ≡ word (codes "mod") ∷ m_rules 0 2 ∷ []
 definition_below = refl
 
--- After `#[a]` and `#[a] #[a]` it begins where the first of them does; what comes between ends the attributes.
-behind_attribute : parts_in all_may_go begun (attribute 7 (definition (codes "m") (ident (codes "x") end) end)) ≡ word (codes "a") ∷ m_rules 7 2 ∷ []
+-- Behind a subtree of two tokens with a definition behind it.
+definition_behind : parts all_may_go 5 (join (subtree Brace (ident (codes "y") end)) (m_definition end)) ≡ word (codes "y") ∷ m_rules 0 2 ∷ []
+definition_behind = refl
+
+-- The attributes go with it: it begins where the first of them does.
+behind_attribute : parts all_may_go 8 (attribute 7 (m_definition end)) ≡ m_rules 7 2 ∷ []
 behind_attribute = refl
 
-behind_attributes : parts_in all_may_go begun (attribute 7 (attribute 9 (definition (codes "m") (ident (codes "x") end) end)))
-    ≡ word (codes "a") ∷ word (codes "a") ∷ m_rules 7 2 ∷ []
+behind_attributes : parts all_may_go 11 (attribute 7 (attribute 9 (m_definition end))) ≡ m_rules 7 2 ∷ []
 behind_attributes = refl
 
-not_behind_attribute : parts_in all_may_go begun (attribute 7 (alone 59 (definition (codes "m") (ident (codes "x") end) end))) ≡ word (codes "a") ∷ m_rules 0 2 ∷ []
-not_behind_attribute = refl
-
--- After `#[macro_export]`, also with another attribute after that, its name is a word outside; not after a tree between, or if exported ones may go.
+-- Behind `#[macro_export]`, also with another attribute between, its name is a word outside; not if exported ones may go.
 abbrev export : Forest → Forest
 export rest = alone 35 (join (subtree Bracket (ident (codes "macro_export") end)) rest)
 
-abbrev m_definition : Forest
-m_definition = definition (codes "m") (ident (codes "x") end) end
-
-exported : parts_in all_may_go begun (export (attribute 7 m_definition)) ≡ word (codes "macro_export") ∷ word (codes "a") ∷ word (codes "m") ∷ m_rules 0 2 ∷ []
+exported : parts all_may_go 11 (export (attribute 7 (m_definition end))) ≡ word (codes "m") ∷ m_rules 0 2 ∷ []
 exported = refl
 
-not_exported : parts_in all_may_go begun (export (alone 59 m_definition)) ≡ word (codes "macro_export") ∷ m_rules 0 2 ∷ []
-not_exported = refl
-
-exported_may_go : parts_in (record { only = None; drops_exported = true }) begun (export m_definition) ≡ word (codes "macro_export") ∷ m_rules 0 2 ∷ []
+exported_may_go : parts (record { only = None; drops_exported = true }) 8 (export (m_definition end)) ≡ m_rules 0 2 ∷ []
 exported_may_go = refl
 
--- The contents of a call, and a definition that may not go, are words.
-called : parts_in all_may_go begun (ident (codes "n") (alone 33 (join (subtree Parenthesis (definition (codes "m") (ident (codes "x") end) end)) end)))
-    ≡ word (codes "n") ∷ word (codes "macro_rules") ∷ word (codes "m") ∷ word (codes "x") ∷ []
-called = refl
-
-may_not_go : parts_in (record { only = Some (codes "n"); drops_exported = false }) begun (definition (codes "m") (ident (codes "x") end) end) ≡ word (codes "macro_rules") ∷ word (codes "m") ∷ word (codes "x") ∷ []
+-- A definition that may not go is words, as its attributes are.
+may_not_go : parts (record { only = Some (codes "n"); drops_exported = false }) 8 (attribute 7 (m_definition end))
+    ≡ word (codes "a") ∷ word (codes "macro_rules") ∷ word (codes "m") ∷ word (codes "x") ∷ []
 may_not_go = refl
 
 -- Two definitions of `m` go, and one of `n` stays.

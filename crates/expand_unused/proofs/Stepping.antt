@@ -1,125 +1,105 @@
 -- A step that passes the first tree of a level.
-use Rattle.std.proofs.Common.{◌≡◌, ◌<◌, ◌+◌, ◌++◌, Bool, true, false, List, [], map, Some, ap, ap₂, sym, subst, ◌∙◌, arith}
+use Rattle.std.proofs.Common.{◌≡◌, ◌-◌, ◌<◌, ◌+◌, ◌++◌, ℕ, zero, suc, Bool, List, [], map, Option, None, Some, ap, ap₂, sym, subst, ◌∙◌, arith}
 use Rattle.std.proofs.lemmas.List.{append_assoc, append-nil}
 use Rattle.tt.specs.Forest.{Forest, end, leaf, node, size}
 use Rattle.tt.specs.Iters.{rest_of, IsFirstElement}
 use Rattle.tt.specs.Moves.{after_tree}
-use Rattle.tt.specs.Types.Delimiter.{Delimiter}
 use Rattle.tt.specs.Types.Leaf.{Leaf}
 use Rattle.tt.specs.Types.Subtree.{Subtree}
 use Rattle.tt.specs.Types.TtElement.TheVariants as element
 use Rattle.tt.specs.Types.TtIter.{TtIter}
 use Rattle.expand_unused.specs.declared.choice.Choice.{Choice}
 use Rattle.expand_unused.specs.declared.part.Part as part_in_code
-use Rattle.expand_unused.specs.declared.place.Place.{Place}
-use Rattle.expand_unused.specs.declared.place.Place.TheVariants as at
 use Rattle.expand_unused.specs.declared.walk.Level.{Level}
-use Rattle.expand_unused.specs.declared.walk.Step.{Step}
 use Rattle.expand_unused.specs.declared.walk.Step.TheVariants as step
-use Rattle.expand_unused.specs.Parts.{Part, word, words_in, held, leaf_parts, part_of, parts_in}
-use Rattle.expand_unused.specs.Places.{begun, first_in, passing, taking, is_attribute, behind_leaf, behind_subtree}
-use Rattle.expand_unused.specs.Steps.{to_come, IsLess, IsStep, IsTaken, IsHeld, IsEntered}
+use Rattle.expand_unused.specs.Parts.{Part, first_at, first_parts, part_of, parts_in, passed_by}
+use Rattle.expand_unused.specs.Steps.{left_in, AreFirstNoted, IsBehind, IsInside, IsLeafPassed, IsStep, IsSubtreePassed}
 
--- less is left after a step than before, with what is to be walked
-abbrev IsLessBy : Step → (behind trees : Forest) → Type 0
-IsLessBy step.Over behind trees = ⊥
-IsLessBy step.Past behind trees = size behind < size trees
-IsLessBy (step.Into children) behind trees = size (rest_of children) + size behind < size trees
-
-module _ (choice : Choice) (before after : List part_in_code.Part) where
-  -- what is noted, with what is to be walked and what is left after, is what was noted and left
-  abbrev Notes : (place : Place) → (trees : Forest) → Step → (next : Place) → (behind : Forest) → Type 0
-  Notes place trees it next behind = (map part_of after ++ to_come choice it) ++ parts_in choice next behind ≡ map part_of before ++ parts_in choice place trees
-
-  -- A leaf is passed.
-  leaf_noted : (trees : Forest) (it : Leaf) (place : Place) → IsFirstElement trees (Some (element.Leaf it))
-      → map part_of after ≡ map part_of before ++ leaf_parts choice (first_in choice trees) it place trees
-      → (size (after_tree trees) < size trees) × Notes place trees step.Past (behind_leaf (first_in choice trees) it place) (after_tree trees)
-  leaf_noted end it place first is = absurd first
-  leaf_noted (node delimiter children rest) it place first is = absurd first
-  leaf_noted (leaf other rest) it place first is = (omega arith, by other (sym first) is)
-    where
-      by : (l : Leaf) → l ≡ it → map part_of after ≡ map part_of before ++ leaf_parts choice (first_in choice (leaf l rest)) it place (leaf l rest)
-          → Notes place (leaf l rest) step.Past (behind_leaf (first_in choice (leaf l rest)) it place) rest
-      by l same is = subst (λ x. map part_of after ≡ map part_of before ++ leaf_parts choice (first_in choice (leaf l rest)) x place (leaf l rest)
-          → Notes place (leaf l rest) step.Past (behind_leaf (first_in choice (leaf l rest)) x place) rest) same here is
-        where
-          here : map part_of after ≡ map part_of before ++ leaf_parts choice (first_in choice (leaf l rest)) l place (leaf l rest)
-              → Notes place (leaf l rest) step.Past (behind_leaf (first_in choice (leaf l rest)) l place) rest
-          here is =
-              let more = parts_in choice (behind_leaf (first_in choice (leaf l rest)) l place) rest in
-              ap (λ parts. parts ++ more) (append-nil (map part_of after) ∙ is) ∙ append_assoc (map part_of before) (leaf_parts choice (first_in choice (leaf l rest)) l place (leaf l rest)) more
-
-  pub leaf_step : (old : Level) (it : Leaf) (behind : TtIter) (next : Place) → IsFirstElement (rest_of old.rest) (Some (element.Leaf it))
-      → rest_of behind ≡ after_tree (rest_of old.rest) → next ≡ behind_leaf (first_in choice (rest_of old.rest)) it old.place
-      → map part_of after ≡ map part_of before ++ leaf_parts choice (first_in choice (rest_of old.rest)) it old.place (rest_of old.rest)
-      → IsStep choice old before step.Past (record { rest = behind; place = next }) after
-  leaf_step old it behind next first passed place is =
-      let noted = leaf_noted (rest_of old.rest) it old.place first is in
-      record {
-        less = subst (λ f. size f < size (rest_of old.rest)) (sym passed) noted.0;
-        noted = ap₂ (λ p f. (map part_of after ++ []) ++ parts_in choice p f) place passed ∙ noted.1;
-      }
-
-  -- A subtree is passed whose trees are noted,
-  taken_noted : (held rest : Forest) (delimiter : Delimiter) (children : TtIter) (it : Step) (behind : List Part) → rest_of children ≡ held → IsTaken children before it after
-      → IsLessBy it rest (node delimiter held rest)
-      × ((map part_of after ++ to_come choice it) ++ behind ≡ map part_of before ++ (map word (words_in held) ++ behind))
-  taken_noted held rest delimiter children it behind holds is = (
-    subst (λ s. IsLessBy s rest (node delimiter held rest)) (sym is.0) (omega arith),
-    ap₂ (λ parts s. (parts ++ to_come choice s) ++ behind) is.1 is.0
-        ∙ ap (λ parts. parts ++ behind) (append-nil (map part_of before ++ map word (words_in (rest_of children))))
-        ∙ append_assoc (map part_of before) (map word (words_in (rest_of children))) behind
-        ∙ ap (λ f. map part_of before ++ (map word (words_in f) ++ behind)) holds,
+module _ (choice : Choice) (defined : ℕ → Bool) (before after : List part_in_code.Part) (old new : Level) where
+  -- The parts that are left at a leaf are those that it begins, and those behind it.
+  leaf_left : (passed : ℕ) (trees : Forest) (it : Leaf) → IsFirstElement trees (Some (element.Leaf it)) → rest_of old.rest ≡ trees → new.left ≡ old.left - 1
+      → AreFirstNoted choice (defined old.left) it passed old before new.passed after
+      → (size (after_tree trees) < size trees)
+      × (map part_of after ++ parts_in choice defined new.passed new.left (after_tree trees) ≡ map part_of before ++ parts_in choice defined passed old.left trees)
+  leaf_left passed end it first is left noted = absurd first
+  leaf_left passed (node delimiter children rest) it first is left noted = absurd first
+  leaf_left (suc passed) (leaf other rest) it first is left noted = (
+    omega arith,
+    ap₂ (λ parts n. parts ++ parts_in choice defined n new.left rest) noted.1 noted.0 ∙ ap (λ n. map part_of before ++ parts_in choice defined passed n rest) left,
   )
-
-  -- or are still to be walked.
-  held_noted : (holds_attribute : Bool) (inside rest : Forest) (delimiter : Delimiter) (children : TtIter) (it : Step) (behind : List Part) → rest_of children ≡ inside
-      → IsHeld holds_attribute children before it after
-      → IsLessBy it rest (node delimiter inside rest)
-      × ((map part_of after ++ to_come choice it) ++ behind ≡ map part_of before ++ (held holds_attribute (words_in inside) (parts_in choice begun inside) ++ behind))
-  held_noted true inside rest delimiter children it behind holds is = taken_noted inside rest delimiter children it behind holds is
-  held_noted false inside rest delimiter children it behind holds is = (
-    subst (λ s. IsLessBy s rest (node delimiter inside rest)) (sym is.0) (omega (arith, ap size holds)),
-    ap₂ (λ parts s. (parts ++ to_come choice s) ++ behind) is.1 is.0
-        ∙ append_assoc (map part_of before) (parts_in choice begun (rest_of children)) behind
-        ∙ ap (λ f. map part_of before ++ (parts_in choice begun f ++ behind)) holds,
-  )
-
-  -- A subtree is passed.
-  node_noted : (trees : Forest) (header : Subtree) (children : TtIter) (place : Place) (it : Step) → IsFirstElement trees (Some (element.Subtree header children))
-      → IsEntered header.delimiter.kind place children before it after
-      → IsLessBy it (after_tree trees) trees × Notes place trees it (behind_subtree header.delimiter.kind (rest_of children) place) (after_tree trees)
-  node_noted end header children place it first is = absurd first
-  node_noted (leaf other rest) header children place it first is = absurd first
-  node_noted (node delimiter inside rest) header children (at.Passed left) it first is = (
-    subst (λ s. IsLessBy s rest (node delimiter inside rest)) (sym is.0) (omega arith),
-    ap₂ (λ parts s. (parts ++ to_come choice s) ++ parts_in choice (passing left) rest) is.1 is.0
-        ∙ ap (λ parts. parts ++ parts_in choice (passing left) rest) (append-nil (map part_of before)),
-  )
-  node_noted (node delimiter inside rest) header children (at.Taken left) it first is =
-      taken_noted inside rest delimiter children it (parts_in choice (taking left) rest) first.2 is
-  node_noted (node delimiter inside rest) header children (at.Free attributes) it first is =
-      let kind = header.delimiter.kind in
-      let (less, noted) = held_noted (is_attribute kind attributes) inside rest delimiter children it (parts_in choice (behind_subtree kind (rest_of children) (at.Free attributes)) rest) first.2 is in (
-        less,
-        noted
-            ∙ ap₂ (λ d held_there. map part_of before
-            ++ (held (is_attribute d.kind attributes) (words_in inside) (parts_in choice begun inside) ++ parts_in choice (behind_subtree d.kind held_there (at.Free attributes)) rest)) first.0 first.2,
+  leaf_left zero (leaf other rest) it first is left noted =
+      let found = first_at choice (defined old.left) (leaf other rest) in
+      let same : first_at choice (defined old.left) (rest_of old.rest) ≡ found = ap (first_at choice (defined old.left)) is in
+      let parts : map part_of after ≡ map part_of before ++ first_parts choice found other (leaf other rest) =
+          noted.1 ∙ ap₂ (λ f t. map part_of before ++ first_parts choice f it t) same is ∙ ap (λ l. map part_of before ++ first_parts choice found l (leaf other rest)) first in
+      let next : new.passed ≡ passed_by found = noted.0 ∙ ap passed_by same in (
+        omega arith,
+        ap₂ (λ these n. these ++ parts_in choice defined n new.left rest) parts next
+            ∙ ap (λ n. (map part_of before ++ first_parts choice found other (leaf other rest)) ++ parts_in choice defined (passed_by found) n rest) left
+            ∙ append_assoc (map part_of before) (first_parts choice found other (leaf other rest)) (parts_in choice defined (passed_by found) (old.left - 1) rest),
       )
 
-  pub node_step : (old : Level) (header : Subtree) (children behind : TtIter) (next : Place) (it : Step)
-      → IsFirstElement (rest_of old.rest) (Some (element.Subtree header children)) → rest_of behind ≡ after_tree (rest_of old.rest)
-      → next ≡ behind_subtree header.delimiter.kind (rest_of children) old.place → IsEntered header.delimiter.kind old.place children before it after
-      → IsStep choice old before it (record { rest = behind; place = next }) after
-  node_step old header children behind next it first passed place is =
-      let noted = node_noted (rest_of old.rest) header children old.place it first is in
+  pub leaf_step : (it : Leaf) → IsFirstElement (rest_of old.rest) (Some (element.Leaf it)) → IsLeafPassed choice defined it old before new after
+      → IsStep choice defined old before step.Past new after
+  leaf_step it first is =
+      let behind : rest_of new.rest ≡ after_tree (rest_of old.rest) = is.behind in
+      let (less, parts) = leaf_left old.passed (rest_of old.rest) it first refl is.left is.noted in
       record {
-        less = less it noted.0;
-        noted = ap₂ (λ p f. (map part_of after ++ to_come choice it) ++ parts_in choice p f) place passed ∙ noted.1;
+        less = subst (λ f. size f < size (rest_of old.rest)) (sym behind) less;
+        noted = ap₂ (λ these f. these ++ parts_in choice defined new.passed new.left f) (append-nil (map part_of after)) behind ∙ parts;
       }
-    where
-      less : (it : Step) → IsLessBy it (after_tree (rest_of old.rest)) (rest_of old.rest) → IsLess old it (record { rest = behind; place = next })
-      less step.Over is = absurd is
-      less step.Past is = omega (arith, is, ap size passed)
-      less (step.Into held) is = omega (arith, is, ap size passed)
+
+module _ (choice : Choice) (defined : ℕ → Bool) (before : List part_in_code.Part) (old new : Level) (header : Subtree) (children : TtIter) where
+  -- A subtree of a definition is passed.
+  past_left : (passed : ℕ) (trees : Forest) → IsFirstElement trees (Some (element.Subtree header children)) → new.left ≡ old.left - 1 - header.len → new.passed ≡ passed - 1
+      → IsInside children passed old.left None
+      → (size (after_tree trees) < size trees) × (parts_in choice defined new.passed new.left (after_tree trees) ≡ parts_in choice defined passed old.left trees)
+  past_left passed end first left next inside = absurd first
+  past_left passed (leaf other rest) first left next inside = absurd first
+  past_left zero (node delimiter held rest) first left next inside = absurd (cc inside)
+  past_left (suc passed) (node delimiter held rest) first left next inside =
+      let here : new.passed ≡ passed = omega (arith, next) in
+      let there : new.left ≡ old.left - 1 - size held = left ∙ ap (λ n. old.left - 1 - n) first.1 in
+      (omega arith, ap₂ (λ n m. parts_in choice defined n m rest) here there)
+
+  pub past_step : IsFirstElement (rest_of old.rest) (Some (element.Subtree header children)) → IsSubtreePassed header.len children old None new
+      → IsStep choice defined old before step.Past new before
+  past_step first is =
+      let behind : rest_of new.rest ≡ after_tree (rest_of old.rest) = is.behind in
+      let (less, parts) = past_left old.passed (rest_of old.rest) first is.left is.passed is.into in
+      record {
+        less = subst (λ f. size f < size (rest_of old.rest)) (sym behind) less;
+        noted = ap (λ these. these ++ left_in choice defined new) (append-nil (map part_of before))
+            ∙ ap (λ f. map part_of before ++ parts_in choice defined new.passed new.left f) behind ∙ ap (λ these. map part_of before ++ these) parts;
+      }
+
+  -- The trees of another subtree are still to be walked.
+  into_left : (inside : Level) (passed : ℕ) (trees : Forest) → IsFirstElement trees (Some (element.Subtree header children)) → new.left ≡ old.left - 1 - header.len
+      → new.passed ≡ passed - 1 → IsInside children passed old.left (Some inside)
+      → (size (rest_of inside.rest) + size (after_tree trees) < size trees)
+      × (left_in choice defined inside ++ parts_in choice defined new.passed new.left (after_tree trees) ≡ parts_in choice defined passed old.left trees)
+  into_left inside passed end first left next is = absurd first
+  into_left inside passed (leaf other rest) first left next is = absurd first
+  into_left inside (suc passed) (node delimiter held rest) first left next is = absurd (cc is)
+  into_left inside zero (node delimiter held rest) first left next is =
+      let same : inside ≡ record { rest = children; passed = 0; left = old.left - 1 } = cc is in
+      let here : new.passed ≡ 0 = omega (arith, next) in
+      let there : new.left ≡ old.left - 1 - size held = left ∙ ap (λ n. old.left - 1 - n) first.1 in
+      let holds : rest_of inside.rest ≡ held = ap (λ l. rest_of l.rest) same ∙ first.2 in (
+        omega (arith, ap size holds),
+        ap₂ (λ these those. these ++ those)
+            (ap (left_in choice defined) same ∙ ap (parts_in choice defined 0 (old.left - 1)) first.2)
+            (ap₂ (λ n m. parts_in choice defined n m rest) here there),
+      )
+
+  pub into_step : (inside : Level) → IsFirstElement (rest_of old.rest) (Some (element.Subtree header children)) → IsSubtreePassed header.len children old (Some inside) new
+      → IsStep choice defined old before (step.Into inside) new before
+  into_step inside first is =
+      let behind : rest_of new.rest ≡ after_tree (rest_of old.rest) = is.behind in
+      let (less, parts) = into_left inside old.passed (rest_of old.rest) first is.left is.passed is.into in
+      record {
+        less = subst (λ f. size (rest_of inside.rest) + size f < size (rest_of old.rest)) (sym behind) less;
+        noted = append_assoc (map part_of before) (left_in choice defined inside) (left_in choice defined new)
+            ∙ ap (λ f. map part_of before ++ (left_in choice defined inside ++ parts_in choice defined new.passed new.left f)) behind
+            ∙ ap (λ these. map part_of before ++ these) parts;
+      }

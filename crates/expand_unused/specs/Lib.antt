@@ -1,5 +1,4 @@
 -- What a text needs of the macros that it defines, and the text without the others.
-pub mod Firsts
 pub mod Needing
 pub mod Parts
 pub mod Places

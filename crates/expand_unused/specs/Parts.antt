@@ -1,6 +1,6 @@
 -- The parts of a text, as far as they matter to what is needed: words, and definitions that may go.
-use Rattle.std.specs.Prelude.{◌==◌, ◌++◌, ◌&&◌, not, ℕ, Bool, true, false, List, [], ◌∷◌, map, Option, None, Some, if◌then◌else◌}
-use Rattle.tt.specs.Forest.{Forest, end, leaf, node, flat}
+use Rattle.std.specs.Prelude.{◌-◌, ◌+◌, ◌==◌, ◌++◌, ◌&&◌, not, ℕ, zero, suc, Bool, true, false, List, [], ◌∷◌, map, Option, None, Some, codes, bytes_eq, if◌then◌else◌}
+use Rattle.tt.specs.Forest.{Forest, end, leaf, node, flat, size}
 use Rattle.tt.specs.Gluing.{after_trees}
 use Rattle.tt.specs.Span.{start_of, end_of}
 use Rattle.tt.specs.Token.{leaf_span}
@@ -13,12 +13,9 @@ use Rattle.expand_unused.specs.declared.part.Part as part_in_code
 use Rattle.expand_unused.specs.declared.part.Part.TheVariants as rust
 use Rattle.expand_unused.specs.declared.part.Rules as rules_in_code
 use Rattle.expand_unused.specs.declared.choice.Choice.{Choice}
-use Rattle.expand_unused.specs.declared.place.Attributes.{Attributes}
-use Rattle.expand_unused.specs.declared.place.Place.{Place}
-use Rattle.expand_unused.specs.declared.place.Place.TheVariants as at
-use Rattle.expand_unused.specs.Places.{First, drops, takes, others, first_in, begun, passing, taking, is_attribute, behind_leaf, behind_subtree}
 use Rattle.syntax_edit.specs.Places.{begin_at}
 use Rattle.expand_items.specs.Items.{Definition}
+use Rattle.expand_items.specs.MacroRulesItems.{MacroRulesItem, has_attribute, macro_rules_item_in}
 
 -- the definition of a macro that may go: its name, the bytes at which its attributes or it
 -- begin and at which it ends, and the words in its arms
@@ -60,51 +57,63 @@ before_semicolon = 4
 abbrev pub last_span : Definition → Forest → Span
 last_span it trees = if it.len == 5 then begin_at (after_trees before_semicolon trees) it.delimiter.close else it.delimiter.close
 
--- where the attributes begin, or else that byte
-abbrev pub byte_or : (since : Option ℕ) → (start : ℕ) → ℕ
-byte_or None start = start
-byte_or (Some first) start = first
+-- a definition of that name may go: only those of one name may, or all
+abbrev pub may_go : (only : Option (List ℕ)) → (name : List ℕ) → Bool
+may_go None name = true
+may_go (Some it) name = bytes_eq it name
 
--- the definition that comes first, after such attributes
-abbrev pub rules_from : Attributes → Definition → Leaf → Forest → Rules
-rules_from attributes it first trees =
+-- the definition that comes first, with the attributes before it, if it may go
+abbrev pub if_may_go : Choice → Option MacroRulesItem → Option MacroRulesItem
+if_may_go choice None = None
+if_may_go choice (Some it) = if may_go choice.only it.definition.name.sym then Some it else None
+
+abbrev pub first_in : Choice → Forest → Option MacroRulesItem
+first_in choice trees = if_may_go choice (macro_rules_item_in trees)
+
+-- the same, if a definition is there
+abbrev pub first_at : Choice → (is_defined : Bool) → Forest → Option MacroRulesItem
+first_at choice is_defined trees = if is_defined then first_in choice trees else None
+
+-- the definition of these trees, which begin with that leaf
+abbrev pub rules_from : MacroRulesItem → Leaf → Forest → Rules
+rules_from it first trees =
     record {
-      name = it.name.sym;
-      start = byte_or attributes.since (start_of (leaf_span first).range);
-      end = end_of (last_span it trees).range;
-      inside = words_in it.arms;
+      name = it.definition.name.sym;
+      start = start_of (leaf_span first).range;
+      end = end_of (last_span it.definition (after_trees it.attributes trees)).range;
+      inside = words_in it.definition.arms;
     }
 
--- other crates may use the name of a definition after these attributes: it is exported, and exported definitions may not go
-abbrev pub exported_words : Choice → Attributes → Definition → List (List ℕ)
-exported_words choice attributes it = if attributes.is_exported && not choice.drops_exported then it.name.sym ∷ [] else []
+-- other crates may use the name of a definition of these trees: it is exported, and exported definitions may not go
+abbrev pub exported_words : Choice → MacroRulesItem → Forest → List (List ℕ)
+exported_words choice it trees =
+    if not choice.drops_exported && has_attribute (codes "macro_export") trees then it.definition.name.sym ∷ [] else []
 
--- the parts that a leaf begins: the name of an exported definition counts as a word outside
-abbrev pub first_parts : Choice → First → Leaf → Attributes → Forest → List Part
-first_parts choice (drops it) first attributes trees = map word (exported_words choice attributes it) ++ rules (rules_from attributes it first trees) ∷ []
-first_parts choice (takes len) first attributes trees = map word (leaf_words first)
-first_parts choice others first attributes trees = map word (leaf_words first)
+-- the parts that begin with a leaf: the name of an exported definition counts as a word outside
+abbrev pub first_parts : Choice → Option MacroRulesItem → Leaf → Forest → List Part
+first_parts choice None first trees = map word (leaf_words first)
+first_parts choice (Some it) first trees = map word (exported_words choice it trees) ++ rules (rules_from it first trees) ∷ []
 
-abbrev pub leaf_parts : Choice → First → Leaf → Place → Forest → List Part
-leaf_parts choice first it (at.Passed left) trees = []
-leaf_parts choice first it (at.Taken left) trees = map word (leaf_words it)
-leaf_parts choice first it (at.Free attributes) trees = first_parts choice first it attributes trees
+-- how many trees behind the leaf are part of the definition
+abbrev pub passed_by : Option MacroRulesItem → ℕ
+passed_by None = 0
+passed_by (Some it) = it.attributes + it.definition.len - 1
 
--- the contents of a subtree: those of an attribute are taken as they are
-abbrev pub held : (is_attribute : Bool) → (words : List (List ℕ)) → List Part → List Part
-held true words parts = map word words
-held false words parts = parts
+-- all parts of trees, in order. So many of the first trees are part of a definition, and so many tokens are left from here to the end of the
+-- text; `defined` are the places of the definitions
+abbrev pub parts_in : Choice → (defined : ℕ → Bool) → (passed left : ℕ) → Forest → List Part
+parts_in choice defined passed left end = []
+parts_in choice defined (suc passed) left (leaf it rest) = parts_in choice defined passed (left - 1) rest
+parts_in choice defined (suc passed) left (node delimiter children rest) = parts_in choice defined passed (left - 1 - size children) rest
+parts_in choice defined zero left (leaf it rest) =
+    first_parts choice (first_at choice (defined left) (leaf it rest)) it (leaf it rest)
+    ++ parts_in choice defined (passed_by (first_at choice (defined left) (leaf it rest))) (left - 1) rest
+parts_in choice defined zero left (node delimiter children rest) =
+    parts_in choice defined 0 (left - 1) children ++ parts_in choice defined 0 (left - 1 - size children) rest
 
--- all parts of trees at a place, in order
-abbrev pub parts_in : (choice : Choice) → Place → Forest → List Part
-parts_in choice place end = []
-parts_in choice place (leaf it rest) =
-    leaf_parts choice (first_in choice (leaf it rest)) it place (leaf it rest) ++ parts_in choice (behind_leaf (first_in choice (leaf it rest)) it place) rest
-parts_in choice (at.Passed left) (node delimiter children rest) = parts_in choice (passing left) rest
-parts_in choice (at.Taken left) (node delimiter children rest) = map word (words_in children) ++ parts_in choice (taking left) rest
-parts_in choice (at.Free attributes) (node delimiter children rest) =
-    held (is_attribute delimiter.kind attributes) (words_in children) (parts_in choice begun children)
-    ++ parts_in choice (behind_subtree delimiter.kind children (at.Free attributes)) rest
+-- all parts of a text
+abbrev pub parts_of : Choice → (defined : ℕ → Bool) → Forest → List Part
+parts_of choice defined trees = parts_in choice defined 0 (size trees) trees
 
 -- what the values of the code mean
 abbrev pub rules_of : rules_in_code.Rules → Rules

@@ -5,10 +5,10 @@ use Rattle.expand_unused.specs.declared.choice.Choice.{Choice}
 use Rattle.expand_unused.specs.declared.fault.DropRulesError.{DropRulesError}
 use Rattle.expand_unused.specs.declared.fault.DropRulesError.TheVariants as error
 use Rattle.expand_unused.specs.Needing.{AreRight}
-use Rattle.expand_unused.specs.Parts.{Part, word, rules, Rules, parts_in}
-use Rattle.expand_unused.specs.Places.{begun}
+use Rattle.expand_unused.specs.Parts.{Part, word, rules, Rules, parts_of}
+use Rattle.expand_unused.specs.Places.{AreDefined}
 use Rattle.syntax_edit.specs.Places.{text_part}
-use Rattle.syntax_edit.specs.Texts.{Replacement, Writing, begun as begun_text, replaced, with_all, FitAll}
+use Rattle.syntax_edit.specs.Texts.{Replacement, Writing, begun, replaced, with_all, FitAll}
 use Rattle.syntax_parse.specs.Parsed.{IsParse}
 use Rattle.syntax_parse.specs.Refusal.{IsRefusal}
 
@@ -31,10 +31,12 @@ cut_behind goes (rules it) writing = if goes it.name then replaced (cut_of it) w
 pub record IsWithout (choice : Choice) (source result : List ℕ) : Type 0 where
   pub tree : Root
   pub read : IsParse text_part source tree
+  pub defined : ℕ → Bool
+  pub are_defined : AreDefined tree.children defined
   pub goes : List ℕ → Bool
-  pub right : AreRight goes (parts_in choice begun tree.children)
-  pub fits : FitAll (cuts goes (parts_in choice begun tree.children)) (begun_text source)
-  pub text : result ≡ with_all (cuts goes (parts_in choice begun tree.children)) (begun_text source)
+  pub right : AreRight goes (parts_of choice defined tree.children)
+  pub fits : FitAll (cuts goes (parts_of choice defined tree.children)) (begun source)
+  pub text : result ≡ with_all (cuts goes (parts_of choice defined tree.children)) (begun source)
 
 -- why no text results: it is not read, or memory runs out
 abbrev pub IsDropRulesError : (text : List ℕ) → DropRulesError → Type 0

@@ -1,17 +1,14 @@
-//! What comes first among trees, as far as definitions may go.
-ghost use Rattle.std.specs.Prelude.{◌≡◌, IfOk};
+//! The definition that comes first among trees, if it may go.
+ghost use Rattle.std.specs.Prelude.{◌≡◌, IfOk, option_map};
 ghost use Rattle.tt.specs.Iters.{rest_of};
-ghost use Rattle.tt.specs.Token.{leaf_span};
-ghost use Rattle.expand_unused.specs.Firsts.{first_of};
-ghost use Rattle.expand_unused.specs.Parts.{last_span, rules_from, rules_of};
-ghost use Rattle.expand_unused.specs.Places.{may_go, first_in};
 ghost use Rattle.expand_items.specs.Items.{definition_of};
+ghost use Rattle.expand_items.specs.MacroRulesItems.{macro_rules_item_of};
+ghost use Rattle.expand_unused.specs.Parts.{first_in, last_span, may_go, rules_from, rules_of};
 
 use crate::choice::Choice;
 use crate::part::Rules;
-use crate::place::Attributes;
 use crate::words::words_in;
-use expand_items::{Definition, Item, item_in};
+use expand_items::{Definition, MacroRulesItem, macro_rules_item_in};
 use mbe_pattern::pass;
 use std::alloc::{AllocError, Global};
 use syntax_edit::{begin_at, end_of, start_of};
@@ -19,17 +16,6 @@ use tt::{Leaf, Span, Symbol, TtIter};
 
 /// The number of trees of a definition before the `;` that may be the last.
 const BEFORE_SEMICOLON: usize = 4;
-
-/// What comes first among trees.
-#[derive(Drop)]
-pub(crate) enum First<'a> {
-    /// A definition that may go.
-    Drops(Definition<'a>),
-    /// A number of trees that are taken as they are: a call, or a definition that stays.
-    Takes(usize),
-    /// Something else.
-    Others,
-}
 
 // Returns whether a definition of that name may go.
 fn may_go(only: &Option<Symbol>, name: &Symbol) -> bool
@@ -41,20 +27,15 @@ fn may_go(only: &Option<Symbol>, name: &Symbol) -> bool
     }
 }
 
-/// Returns what comes first.
-pub(crate) fn first_in<'a>(trees: TtIter<'a>, choice: &Choice) -> First<'a>
-    ensures { first_of result ≡ first_in choice.now (rest_of trees.entry) }
+/// Returns the definition that comes first, with the attributes before it, if it may go.
+pub(crate) fn first_in<'a>(trees: TtIter<'a>, choice: &Choice) -> Option<MacroRulesItem<'a>>
+    ensures { option_map macro_rules_item_of result ≡ first_in choice.now (rest_of trees.entry) }
 {
-    match item_in(trees, "crate") {
-        Item::Definition(definition) => {
-            if may_go(&choice.only, &definition.name.sym) {
-                First::Drops(definition)
-            } else {
-                First::Takes(definition.len)
-            }
-        }
-        Item::Call(call) => First::Takes(call.len),
-        Item::Inactive(_) | Item::Other => First::Others,
+    let item = macro_rules_item_in(trees)?;
+    if may_go(&choice.only, &item.definition.name.sym) {
+        Some(item)
+    } else {
+        None
     }
 }
 
@@ -70,25 +51,21 @@ fn last_span(definition: &Definition<'_>, mut trees: TtIter<'_>) -> Span
     begin_at(&trees, close)
 }
 
-/// Returns the definition that comes first, after such attributes.
+/// Returns the definition of these trees, which begin with that leaf.
 pub(crate) fn rules_from(
     alloc: Global,
-    attributes: Attributes,
-    definition: Definition<'_>,
+    item: MacroRulesItem<'_>,
     first: &Leaf,
-    trees: TtIter<'_>,
+    mut trees: TtIter<'_>,
 ) -> Result<Rules, AllocError>
-    ensures { IfOk result (λ it. rules_of it ≡ rules_from attributes (definition_of definition.entry) first.now (rest_of trees.entry)) }
+    ensures { IfOk result (λ it. rules_of it ≡ rules_from (macro_rules_item_of item.entry) first.now (rest_of trees.entry)) }
 {
-    let start = match attributes.since {
-        None => start_of(*first.span()),
-        Some(since) => since,
-    };
-    let end = end_of(last_span(&definition, trees));
-    let inside = words_in(alloc, definition.arms.remaining())?;
+    pass(&mut trees, item.attributes);
+    let end = end_of(last_span(&item.definition, trees));
+    let inside = words_in(alloc, item.definition.arms.remaining())?;
     Ok(Rules {
-        name: definition.name.sym,
-        start,
+        name: item.definition.name.sym,
+        start: start_of(*first.span()),
         end,
         inside,
     })

@@ -10,7 +10,7 @@ mod fault;
 mod first;
 mod needing;
 mod part;
-mod place;
+mod places;
 mod text;
 mod walk;
 mod words;

@@ -6,6 +6,7 @@ use crate::choice::Choice;
 use crate::cutting::without;
 use crate::fault::DropRulesError;
 use crate::needing::unneeded;
+use crate::places::places_in;
 use crate::walk::parts_in;
 use std::alloc::{AllocError, Global};
 use syntax_edit::parse;
@@ -43,7 +44,9 @@ pub fn without_rules(
         only: name_of(alloc, only)?,
         drops_exported,
     };
-    let parts = parts_in(alloc, tree.iter(), &choice)?;
+    let trees = tree.token_trees();
+    let defined = places_in(alloc, trees)?;
+    let parts = parts_in(alloc, trees, &choice, &defined)?;
     let unneeded = unneeded(alloc, parts.as_slice())?;
     Ok(without(alloc, text, parts.as_slice(), &unneeded)?)
 }

@@ -2,26 +2,28 @@
 ghost use Rattle.std.specs.Prelude.{◌≡◌, ◌++◌, IfOk, OnOk, map};
 ghost use Rattle.tt.specs.Iters.{rest_of};
 ghost use Rattle.tt.specs.Views.{trees_of};
-ghost use Rattle.expand_unused.specs.Firsts.{first_of};
-ghost use Rattle.expand_items.specs.Items.{definition_of};
-ghost use Rattle.expand_unused.specs.Parts.{exported_words, first_parts, leaf_parts, leaf_words, word, words_in, part_of, parts_in};
-ghost use Rattle.expand_unused.specs.Places.{begun, behind_first, first_in, behind_leaf};
-ghost use Rattle.expand_unused.specs.Steps.{IsStep, IsTaken, IsEntered};
+ghost use Rattle.expand_items.specs.MacroRulesItems.{macro_rules_item_of};
+ghost use Rattle.expand_unused.specs.Parts.{exported_words, first_at, first_parts, leaf_words, part_of, parts_of, passed_by, word};
+ghost use Rattle.expand_unused.specs.Places.{defined_in};
+ghost use Rattle.expand_unused.specs.Steps.{IsLeafPassed, IsStep, IsSubtreePassed};
 
 use crate::choice::Choice;
-use crate::first::{First, first_in, rules_from};
+use crate::first::{first_in, rules_from};
 use crate::part::Part;
-use crate::place::{Attributes, Place};
-use crate::words::{leaf_word, words_in};
-use expand_items::Definition;
+use crate::words::leaf_word;
+use expand_items::{MacroRulesItem, has_attribute};
+use indexmap::IndexSet;
 use std::alloc::{AllocError, Global};
-use tt::{DelimiterKind, Leaf, TokenTreesView, TtElement, TtIter};
+use tt::{Leaf, TokenTreesView, TtElement, TtIter};
 
-// The trees of a subtree that are left, and the place before them.
+// The trees of a subtree that are left.
 #[derive(Drop)]
 struct Level<'a> {
     rest: TtIter<'a>,
-    place: Place,
+    // the number of first trees that are part of a definition that is noted
+    passed: usize,
+    // the number of tokens from here to the end of all trees
+    left: usize,
 }
 
 // The result of a step through a level.
@@ -31,8 +33,8 @@ enum Step<'a> {
     Over,
     // The first tree was passed.
     Past,
-    // A subtree was passed that contains these trees, which are still to be walked.
-    Into(TtIter<'a>),
+    // A subtree was passed, and its trees are still to be walked.
+    Into(Level<'a>),
 }
 
 // Notes the text of an ident.
@@ -45,136 +47,95 @@ fn note_leaf(parts: &mut Vec<Part>, leaf: Leaf) -> Result<(), AllocError>
     Ok(())
 }
 
-// Notes the texts of all idents in trees.
-fn note_words(
-    alloc: Global,
-    parts: &mut Vec<Part>,
-    trees: TokenTreesView<'_>,
-) -> Result<(), AllocError>
-    ensures { OnOk result (map part_of parts.new.items ≡ map part_of parts.old.items ++ map word (words_in (trees_of trees.entry))) }
-{
-    for it in words_in(alloc, trees)? {
-        parts.push(Part::Word(it))?;
-    }
-    Ok(())
-}
-
-// Passes a subtree that contains these trees, and notes the texts of all their idents.
-fn take_held<'a>(
-    alloc: Global,
-    parts: &mut Vec<Part>,
-    children: TtIter<'a>,
-) -> Result<Step<'a>, AllocError>
-    ensures { IfOk result (λ step. IsTaken children.entry parts.old.items step parts.new.items) }
-{
-    note_words(alloc, parts, children.remaining())?;
-    Ok(Step::Past)
-}
-
 // Notes the name of a definition that is exported, unless exported ones may go too.
 fn note_exported(
     parts: &mut Vec<Part>,
     choice: &Choice,
-    attributes: Attributes,
-    definition: &Definition<'_>,
+    item: &MacroRulesItem<'_>,
+    trees: TtIter<'_>,
 ) -> Result<(), AllocError>
-    ensures { OnOk result (map part_of parts.new.items ≡ map part_of parts.old.items ++ map word (exported_words choice.now attributes (definition_of definition.now))) }
+    ensures { OnOk result (map part_of parts.new.items ≡ map part_of parts.old.items ++ map word (exported_words choice.now (macro_rules_item_of item.now) (rest_of trees.entry))) }
 {
-    if attributes.is_exported && !choice.drops_exported {
-        parts.push(Part::Word(definition.name.sym.clone()?))?;
+    if !choice.drops_exported && has_attribute("macro_export", trees) {
+        parts.push(Part::Word(item.definition.name.sym.clone()?))?;
     }
     Ok(())
 }
 
-// Notes what begins with the leaf that comes first among trees, and returns the place after that leaf.
+// Notes what begins with the leaf that comes first among trees: a definition that may go if `is_defined`, or a word. Returns the number of
+// trees behind the leaf that are part of the definition.
 fn note_first(
     alloc: Global,
     parts: &mut Vec<Part>,
-    attributes: Attributes,
+    choice: &Choice,
+    is_defined: bool,
     leaf: Leaf,
     trees: TtIter<'_>,
-    choice: &Choice,
-) -> Result<Place, AllocError>
-    ensures parts { OnOk result (map part_of parts.new.items ≡ map part_of parts.old.items ++ first_parts choice.now (first_in choice.now (rest_of trees.entry)) leaf attributes (rest_of trees.entry)) }
-    ensures place { IfOk result (λ place. place ≡ behind_first (first_in choice.now (rest_of trees.entry)) leaf attributes) }
+) -> Result<usize, AllocError>
+    ensures parts { OnOk result (map part_of parts.new.items ≡ map part_of parts.old.items ++ first_parts choice.now (first_at choice.now is_defined (rest_of trees.entry)) leaf (rest_of trees.entry)) }
+    ensures passed { IfOk result (λ passed. passed ≡ passed_by (first_at choice.now is_defined (rest_of trees.entry))) }
 {
-    match first_in(trees.remaining().iter(), choice) {
-        First::Drops(definition) => {
-            let len = definition.len;
-            note_exported(parts, choice, attributes, &definition)?;
-            let rules = rules_from(alloc, attributes, definition, &leaf, trees)?;
-            parts.push(Part::Rules(rules))?;
-            Ok(Place::passing(len.saturating_sub(1)))
-        }
-        First::Takes(len) => {
-            note_leaf(parts, leaf)?;
-            Ok(Place::taking(len.saturating_sub(1)))
-        }
-        First::Others => {
-            let behind = attributes.behind_leaf(&leaf);
-            note_leaf(parts, leaf)?;
-            Ok(Place::Free(behind))
-        }
-    }
+    let item = if is_defined {
+        first_in(trees.remaining().iter(), choice)
+    } else {
+        None
+    };
+    let Some(item) = item else {
+        note_leaf(parts, leaf)?;
+        return Ok(0);
+    };
+    let passed = item
+        .attributes
+        .saturating_add(item.definition.len)
+        .saturating_sub(1);
+    note_exported(parts, choice, &item, trees.remaining().iter())?;
+    let rules = rules_from(alloc, item, &leaf, trees)?;
+    parts.push(Part::Rules(rules))?;
+    Ok(passed)
 }
 
 impl<'a> Level<'a> {
-    // Returns the level before the first of some trees.
-    fn begun(trees: TtIter<'a>) -> Level<'a>
-        ensures rest { result.rest ≡ trees.entry }
-        ensures place { result.place ≡ begun }
-    {
-        Level {
-            rest: trees,
-            place: Place::begun(),
-        }
-    }
-
-    // Notes what the first tree, a leaf, begins; returns the place after it.
-    fn behind_leaf(
-        &self,
+    // Passes the first tree, a leaf, and notes what begins with it.
+    fn pass_leaf(
+        &mut self,
         alloc: Global,
         parts: &mut Vec<Part>,
-        leaf: Leaf,
         choice: &Choice,
-    ) -> Result<Place, AllocError>
-        ensures parts { OnOk result (map part_of parts.new.items ≡ map part_of parts.old.items ++ leaf_parts choice.now (first_in choice.now (rest_of self.now.rest)) leaf self.now.place (rest_of self.now.rest)) }
-        ensures place { IfOk result (λ place. place ≡ behind_leaf (first_in choice.now (rest_of self.now.rest)) leaf self.now.place) }
+        defined: &IndexSet<usize>,
+        leaf: Leaf,
+    ) -> Result<(), AllocError>
+        ensures { OnOk result (IsLeafPassed choice.now (defined_in defined.now) leaf self.old parts.old.items self.new parts.new.items) }
     {
-        match self.place {
-            Place::Passed(left) => Ok(Place::passing(left)),
-            Place::Taken(left) => {
-                note_leaf(parts, leaf)?;
-                Ok(Place::taking(left))
-            }
-            Place::Free(attributes) => {
-                let trees = self.rest.remaining().iter();
-                note_first(alloc, parts, attributes, leaf, trees, choice)
-            }
+        if self.passed > 0 {
+            self.passed -= 1;
+        } else {
+            let trees = self.rest.remaining().iter();
+            let is_defined = defined.contains(&self.left);
+            self.passed = note_first(alloc, parts, choice, is_defined, leaf, trees)?;
         }
+        self.left = self.left.saturating_sub(1);
+        self.rest.next();
+        Ok(())
     }
 
-    // Notes the contents of the first tree, a subtree of a kind, or returns them to be walked.
-    fn enter(
-        &self,
-        alloc: Global,
-        parts: &mut Vec<Part>,
-        kind: DelimiterKind,
-        children: TtIter<'a>,
-    ) -> Result<Step<'a>, AllocError>
-        ensures { IfOk result (λ step. IsEntered kind self.now.place children.entry parts.old.items step parts.new.items) }
+    // Passes the first tree, a subtree of so many tokens with these trees. Returns the level of these trees, unless they are part of a
+    // definition.
+    fn pass_subtree(&mut self, len: usize, children: TtIter<'a>) -> Option<Level<'a>>
+        ensures { IsSubtreePassed len children.entry self.old result self.new }
     {
-        match self.place {
-            Place::Passed(_) => Ok(Step::Past),
-            Place::Taken(_) => take_held(alloc, parts, children),
-            Place::Free(attributes) => {
-                if attributes.is_attribute(kind) {
-                    take_held(alloc, parts, children)
-                } else {
-                    Ok(Step::Into(children))
-                }
-            }
-        }
+        let inside = if self.passed > 0 {
+            None
+        } else {
+            Some(Level {
+                rest: children,
+                passed: 0,
+                left: self.left.saturating_sub(1),
+            })
+        };
+        self.passed = self.passed.saturating_sub(1);
+        self.left = self.left.saturating_sub(1).saturating_sub(len);
+        self.rest.next();
+        inside
     }
 
     // Passes the first tree, and notes what it is.
@@ -183,49 +144,52 @@ impl<'a> Level<'a> {
         alloc: Global,
         parts: &mut Vec<Part>,
         choice: &Choice,
+        defined: &IndexSet<usize>,
     ) -> Result<Step<'a>, AllocError>
-        ensures { IfOk result (λ step. IsStep choice.now self.old parts.old.items step self.new parts.new.items) }
+        ensures { IfOk result (λ step. IsStep choice.now (defined_in defined.now) self.old parts.old.items step self.new parts.new.items) }
     {
         match self.rest.peek() {
             None => Ok(Step::Over),
             Some(TtElement::Leaf(leaf)) => {
-                self.place = self.behind_leaf(alloc, parts, leaf, choice)?;
-                self.rest.next();
+                self.pass_leaf(alloc, parts, choice, defined, leaf)?;
                 Ok(Step::Past)
             }
             Some(TtElement::Subtree(header, children)) => {
-                let kind = header.delimiter.kind;
-                let inside = children.remaining().iter();
-                let step = self.enter(alloc, parts, kind, children)?;
-                self.place = self.place.behind_subtree(kind, inside);
-                self.rest.next();
-                Ok(step)
+                match self.pass_subtree(header.usize_len(), children) {
+                    Some(inside) => Ok(Step::Into(inside)),
+                    None => Ok(Step::Past),
+                }
             }
         }
     }
 }
 
-/// Returns all parts of trees, in order.
+/// Returns all parts of trees, in order. The set has the places of the definitions.
 pub(crate) fn parts_in(
     alloc: Global,
-    trees: TtIter<'_>,
+    trees: TokenTreesView<'_>,
     choice: &Choice,
+    defined: &IndexSet<usize>,
 ) -> Result<Vec<Part>, AllocError>
-    ensures { IfOk result (λ parts. map part_of parts.items ≡ parts_in choice.now begun (rest_of trees.entry)) }
+    ensures { IfOk result (λ parts. map part_of parts.items ≡ parts_of choice.now (defined_in defined.now) (trees_of trees.entry)) }
 {
     let mut parts = Vec::new(alloc);
     let mut levels = Vec::new(alloc);
-    levels.push(Level::begun(trees))?;
+    levels.push(Level {
+        rest: trees.iter(),
+        passed: 0,
+        left: trees.len(),
+    })?;
     // The innermost level comes last.
     'levels: while let Some(mut level) = levels.pop() {
-        match level.step(alloc, &mut parts, choice)? {
+        match level.step(alloc, &mut parts, choice, defined)? {
             Step::Over => {}
             Step::Past => {
                 levels.push(level)?;
             }
-            Step::Into(children) => {
+            Step::Into(inside) => {
                 levels.push(level)?;
-                levels.push(Level::begun(children))?;
+                levels.push(inside)?;
             }
         }
     }

@@ -14,6 +14,7 @@ use Rattle.mbe_grammar.specs.declared.event.Event.{Event}
 use Rattle.mbe_grammar.specs.declared.event.Event.TheVariants as event
 use Rattle.mbe_grammar.specs.declared.event.Level.{Level}
 use Rattle.mbe_grammar.specs.declared.rule.Rule.{Rule}
+use Rattle.mbe_grammar.specs.Beginnings.{Beginning, Cursor, beginnings}
 use Rattle.mbe_grammar.specs.Derivations.{Place, place}
 use Rattle.mbe_grammar.specs.Deriving.{Gives, Stops, StopsBehind, GivesFrom, StopsFrom, steps_of, IsRead, IsNext, IsEntered, left_by, behind_level, plain_event}
 use Rattle.mbe_grammar.specs.Left.{Left, ahead_in, around, inside, stopped}
@@ -201,4 +202,9 @@ pub record Adds (before after : List Event) (Brought : (passed : List Event) →
 -- the same if the events so far are dropped
 pub record Drops (Ahead : (events : List Event) → Type 0) (Stopped : Place → Type 0) (Whole : (events : List Event) → Type 0) (Refused : Place → Type 0) : Type 0 where
   pub gives : (more : List Event) → Ahead more → (events : List Event) × Whole events
+  pub stops : (at : Place) → Stopped at → Refused at
+
+-- the same if only the places are kept at which expressions of the wanted names begin
+pub record Finds (wanted : List ℕ) (Ahead : (events : List Event) → Type 0) (Stopped : Place → Type 0) (Whole : (events : List Event) → Type 0) (Refused : Place → Type 0) (first here : Cursor) (found : List Beginning) : Type 0 where
+  pub gives : (more : List Event) → Ahead more → (events : List Event) × Whole events × (beginnings wanted events first ≡ found ++ beginnings wanted more here)
   pub stops : (at : Place) → Stopped at → Refused at

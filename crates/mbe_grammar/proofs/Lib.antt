@@ -8,6 +8,7 @@ pub mod Decoding
 pub mod DeepReading
 pub mod Deriving
 pub mod EachWord
+pub mod Entering
 pub mod Floor
 pub mod FragmentAnswers
 pub mod KindsOfTests

@@ -2,7 +2,7 @@
 use Rattle.std.proofs.Common.{ℕ, refl}
 use Rattle.mbe_grammar.specs.declared.rust.TheConstants.{RULES}
 use Rattle.mbe_grammar.specs.Layout.{AreLaid}
-use Rattle.mbe_grammar.specs.Names.{start, type_path, type_path_segments, more_type_path_segments, type_path_segment, inputs, less, generic_arguments, generic_argument, generic_argument_end, generic_argument_value, const_argument, qualified_self, expression_path, expression_path_segments, expression_path_segment, simple_path, any_type, type, behind_type_path, type_no_bounds, types, more_bounds, bare_bound, modified_path, plain_type, pointer_type, array_type, reference_type, binder_type, function_type, generator_type, maybe_named_parameters, maybe_named_parameter, bounds, some_bounds, bound, trait_bound, use_bound, maybe_const, begins_bound, for_lifetimes, lifetime_parameter, use_argument, pattern_fragment, pattern_param_fragment, pattern, pattern_no_top_alt, pattern_without_range, patterns, range_tail, old_range_tail, range_operator, range_end, fields, struct_pattern_elements, struct_pattern_field, field_pattern, field_name, reference_pattern, identifier_pattern, binding, expression_2021_fragment, expression, expression_before_block, behind_operation, behind_operation_before_block, range, range_before_block, operation, operation_before_block, operand, operand_before_block, unary, unary_before_block, unary_operator, postfix, bad_postfix, closure, closure_before_block, closure_head, closure_parameter, jump, jump_before_block, primary, primary_before_block, variable, variable_before_block, expressions, some_expressions, array_elements, struct_expression_fields, struct_expression_field, field_value, basic, block_like, label, loop, conditions, let_chain, let_condition, let_value, match_arms, match_arm, arm_body, guard, guard_chain, guard_condition, guard_value, expression_with_block, lazy_operator, begins, inner_attribute, attribute, meta, plain_meta, visibility, visibility_place, block, statements, statement, let_statement, closed_statement, items, item, declaration, item_kind, macro_item, macro_rules, macro_definition, use_declaration, use_trees, use_tree, extern_crate, rename, static_item, constant_item, function, function_parameters, self_parameter, function_parameter, function_qualifiers, module_item, extern_block, external_items, external_item, type_alias, structure, struct_fields, struct_field, tuple_fields, tuple_field, types_behind_pub, enumeration, enum_variants, enum_variant, union, trait, implementation, trait_implementation, associated_items, associated_item, generic_parameters, generic_parameter, where_clause, where_predicate}
+use Rattle.mbe_grammar.specs.Names.{start, type_path, type_path_segments, more_type_path_segments, type_path_segment, inputs, less, generic_arguments, generic_argument, generic_argument_end, generic_argument_value, const_argument, qualified_self, expression_path, expression_path_segments, expression_path_segment, simple_path, any_type, type, behind_type_path, type_no_bounds, types, more_bounds, bare_bound, modified_path, plain_type, pointer_type, array_type, reference_type, binder_type, function_type, generator_type, maybe_named_parameters, maybe_named_parameter, bounds, some_bounds, bound, trait_bound, use_bound, maybe_const, begins_bound, for_lifetimes, lifetime_parameter, use_argument, pattern_fragment, pattern_param_fragment, pattern, pattern_no_top_alt, pattern_without_range, patterns, range_tail, old_range_tail, range_operator, range_end, fields, struct_pattern_elements, struct_pattern_field, field_pattern, field_name, reference_pattern, identifier_pattern, binding, expression_2021_fragment, expression, expression_before_block, behind_operation, behind_operation_before_block, range, range_before_block, operation, operation_before_block, operand, operand_before_block, unary, unary_before_block, unary_operator, postfix, bad_postfix, closure, closure_before_block, closure_head, closure_parameter, jump, jump_before_block, primary, primary_before_block, variable, variable_before_block, expressions, some_expressions, array_elements, struct_expression_fields, struct_expression_field, field_value, basic, block_like, label, loop, conditions, let_chain, let_condition, let_value, match_arms, match_arm, arm_body, guard, guard_chain, guard_condition, guard_value, expression_with_block, lazy_operator, begins, inner_attribute, attribute, meta, plain_meta, visibility, visibility_place, block, statements, statement, let_statement, closed_statement, items, item, declaration, item_kind, macro_item, macro_rules_item, macro_rules, macro_definition, use_declaration, use_trees, use_tree, extern_crate, rename, static_item, constant_item, function, function_parameters, self_parameter, function_parameter, function_qualifiers, module_item, extern_block, external_items, external_item, type_alias, structure, struct_fields, struct_field, tuple_fields, tuple_field, types_behind_pub, enumeration, enum_variants, enum_variant, union, trait, implementation, trait_implementation, associated_items, associated_item, generic_parameters, generic_parameter, where_clause, where_predicate, tokens, loose_macro_rules_item}
 use Rattle.mbe_grammar.specs.Rust.{stands}
 
 -- Two parts at their places.
@@ -78,16 +78,16 @@ are_laid pointer_type = one 234 refl (both 16 235 refl refl (both 236 172 refl (
 are_laid array_type = one 239 refl (both 124 240 refl refl (both 241 4 refl (both 242 531 refl refl refl) refl))
 are_laid reference_type =
     one 244 refl (both 245 246 refl refl (both 247 248 refl (both 58 4 refl refl refl) (both 249 172 refl (both 237 4 refl refl refl) refl)))
-are_laid binder_type = one 251 refl (both 252 253 refl refl (both 1306 124 refl refl refl))
+are_laid binder_type = one 251 refl (both 252 253 refl refl (both 1310 124 refl refl refl))
 are_laid function_type =
     one 255 refl (both 256 257 refl (both 252 4 refl refl refl) (both 258 263 refl (both 259 4 refl (both 260 261 refl refl (both 262 4 refl refl refl))
     refl) (both 264 265 refl refl (both 266 267 refl refl (both 27 4 refl (both 28 172 refl refl refl) refl)))))
 are_laid generator_type = one 269 refl (both 220 270 refl (both 221 4 refl refl refl) (both 271 254 refl refl refl))
 are_laid maybe_named_parameters =
-    one 273 refl (both 274 278 refl (both 275 4 refl (both 276 277 refl (one 960 refl refl) (both 1139 197 refl refl (both 52 198 refl refl (one 199 refl
+    one 273 refl (both 274 278 refl (both 275 4 refl (both 276 277 refl (one 960 refl refl) (both 1143 197 refl refl (both 52 198 refl refl (one 199 refl
     refl)))) refl) (one 279 refl (both 280 197 refl refl (both 52 198 refl refl (one 199 refl refl)))))
 are_laid maybe_named_parameter =
-    one 281 refl (both 276 282 refl (one 960 refl refl) (both 283 284 refl (one 1139 refl refl) (both 285 297 refl (both 286 4 refl (both 287 69 refl (both
+    one 281 refl (both 276 282 refl (one 960 refl refl) (both 283 284 refl (one 1143 refl refl) (both 285 297 refl (both 286 4 refl (both 287 69 refl (both
     288 290 refl (both 237 289 refl refl refl) (both 291 295 refl (both 292 4 refl (both 293 294 refl refl refl) refl) (both 19 296 refl refl (both 93 229
     refl refl refl)))) refl) refl) (both 298 124 refl refl refl))))
 are_laid bounds = one 300 refl (both 301 4 refl refl refl)
@@ -107,7 +107,7 @@ are_laid begins_bound =
     one 333 refl (both 58 334 refl refl (both 335 336 refl refl (both 337 338 refl refl (both 323 339 refl refl (both 340 341 refl refl (both 218 342 refl
     refl (both 85 343 refl refl (both 221 344 refl refl (both 154 345 refl refl (both 167 346 refl refl (both 19 347 refl refl (both 3 348 refl refl (both
     36 41 refl refl refl)))))))))))))
-are_laid for_lifetimes = one 350 refl (both 340 1306 refl refl refl)
+are_laid for_lifetimes = one 350 refl (both 340 1310 refl refl refl)
 are_laid lifetime_parameter =
     one 352 refl (both 58 353 refl refl (both 354 4 refl (both 69 355 refl refl (both 356 247 refl (one 357 refl (both 58 131 refl refl refl)) (both 58 4
     refl refl refl))) refl))
@@ -303,130 +303,137 @@ are_laid visibility = one 972 refl (both 973 4 refl (both 974 975 refl refl (bot
 are_laid visibility_place = one 978 refl (both 979 980 refl refl (both 981 982 refl refl (both 983 984 refl refl (both 842 119 refl refl refl))))
 are_laid block = one 986 refl (both 890 987 refl (one 955 refl refl) refl)
 are_laid statements =
-    one 988 refl (one 989 refl (both 242 990 refl refl (both 991 994 refl (both 276 992 refl (one 960 refl refl) (both 993 1013 refl (both 1001 242 refl
-    refl refl) refl)) (both 531 995 refl refl (both 242 198 refl refl (one 199 refl refl))))))
-are_laid statement = one 997 refl (both 242 998 refl refl (both 999 531 refl (both 276 1000 refl (one 960 refl refl) (both 1001 1013 refl refl refl)) refl))
+    one 988 refl (one 989 refl (both 242 990 refl refl (both 1063 991 refl refl (both 992 995 refl (both 276 993 refl (one 960 refl refl) (both 994 1015
+    refl (both 1003 242 refl refl refl) refl)) (both 531 996 refl refl (both 242 198 refl refl (one 199 refl refl)))))))
+are_laid statement =
+    one 998 refl (both 242 999 refl refl (both 1063 1000 refl refl (both 1001 531 refl (both 276 1002 refl (one 960 refl refl) (both 1003 1015 refl refl
+    refl)) refl)))
 are_laid let_statement =
-    one 1002 refl (both 1003 1004 refl (both 983 4 refl refl refl) (both 857 1005 refl refl (both 385 1006 refl refl (both 379 1007 refl (one 380 refl (both
-    381 382 refl refl (both 383 384 refl refl refl))) (both 703 1008 refl (both 704 4 refl (both 69 124 refl refl refl) refl) (both 1009 4 refl (both 66
-    1010 refl refl (both 531 1011 refl refl (both 1012 4 refl (both 806 668 refl refl refl) refl))) refl))))))
+    one 1004 refl (both 1005 1006 refl (both 983 4 refl refl refl) (both 857 1007 refl refl (both 385 1008 refl refl (both 379 1009 refl (one 380 refl (both
+    381 382 refl refl (both 383 384 refl refl refl))) (both 703 1010 refl (both 704 4 refl (both 69 124 refl refl refl) refl) (both 1011 4 refl (both 66
+    1012 refl refl (both 531 1013 refl refl (both 1014 4 refl (both 806 668 refl refl refl) refl))) refl))))))
 are_laid closed_statement =
-    one 1014 refl (both 1015 1020 refl (both 1016 1034 refl (one 1017 refl (both 1018 1019 refl refl refl)) refl) (both 943 1021 refl refl (both 2 1022 refl
-    (both 3 4 refl refl refl) (both 107 1023 refl refl (both 167 1024 refl refl (both 15 949 refl refl (one 950 refl (both 640 154 refl refl refl))))))))
-are_laid items = one 1026 refl (both 890 1027 refl (one 955 refl refl) (one 1028 refl refl))
+    one 1016 refl (both 1017 1022 refl (both 1018 1037 refl (one 1019 refl (both 1020 1021 refl refl refl)) refl) (both 943 1023 refl refl (both 2 1024 refl
+    (both 3 4 refl refl refl) (both 107 1025 refl refl (both 167 1026 refl refl (both 15 949 refl refl (one 950 refl (both 640 154 refl refl refl))))))))
+are_laid items = one 1028 refl (both 890 1029 refl (one 955 refl refl) (one 1030 refl refl))
 are_laid item =
-    one 1029 refl (both 276 1030 refl (one 960 refl refl) (both 1034 1031 refl refl (both 1056 1032 refl refl (both 971 1033 refl refl (both 85 668 refl
-    refl refl)))))
+    one 1031 refl (both 1063 1032 refl refl (both 276 1033 refl (one 960 refl refl) (both 1037 1034 refl refl (both 1058 1035 refl refl (both 971 1036 refl
+    refl (both 85 668 refl refl refl))))))
 are_laid declaration =
-    one 1035 refl (both 1061 1036 refl refl (both 971 1037 refl refl (both 1038 1042 refl (both 1018 1039 refl refl (both 1123 1040 refl refl (both 1110
-    1041 refl refl (both 1180 1282 refl refl refl)))) refl)))
+    one 1038 refl (both 971 1039 refl refl (both 1040 1044 refl (both 1020 1041 refl refl (both 1127 1042 refl refl (both 1114 1043 refl refl (both 1184
+    1286 refl refl refl)))) refl))
 are_laid item_kind =
-    one 1043 refl (both 1123 1044 refl refl (both 1072 1045 refl refl (both 1089 1046 refl refl (both 1099 1047 refl refl (both 1110 1048 refl refl (both
-    1159 1049 refl refl (both 1166 1050 refl refl (both 1180 1051 refl refl (both 1191 1052 refl refl (both 1236 1053 refl refl (both 1253 1054 refl refl
-    (both 1259 1055 refl refl (both 1275 1066 refl refl refl)))))))))))))
-are_laid macro_item = one 1057 refl (both 119 1058 refl refl (both 167 1059 refl refl (both 15 1060 refl refl (both 169 242 refl refl refl))))
+    one 1045 refl (both 1127 1046 refl refl (both 1076 1047 refl refl (both 1093 1048 refl refl (both 1103 1049 refl refl (both 1114 1050 refl refl (both
+    1163 1051 refl refl (both 1170 1052 refl refl (both 1184 1053 refl refl (both 1195 1054 refl refl (both 1240 1055 refl refl (both 1257 1056 refl refl
+    (both 1263 1057 refl refl (both 1279 1070 refl refl refl)))))))))))))
+are_laid macro_item = one 1059 refl (both 119 1060 refl refl (both 167 1061 refl refl (both 15 1062 refl refl (both 169 242 refl refl refl))))
+are_laid macro_rules_item = one 1064 refl (both 276 1065 refl (one 960 refl refl) refl)
 are_laid macro_rules =
-    one 1062 refl (both 1063 1064 refl refl (both 167 1065 refl refl (both 289 1059 refl refl (both 15 1060 refl refl (both 169 242 refl refl refl)))))
-are_laid macro_definition = one 1067 refl (both 1068 1069 refl refl (both 289 1070 refl refl (both 1071 15 refl (both 335 4 refl refl refl) refl)))
-are_laid use_declaration = one 1073 refl (both 323 1074 refl refl (both 1078 242 refl refl refl))
-are_laid use_trees = one 1076 refl (one 1077 refl (both 1078 197 refl refl (both 52 198 refl refl (one 199 refl refl))))
+    one 1066 refl (both 1067 1068 refl refl (both 167 1069 refl refl (both 289 1061 refl refl (both 15 1062 refl refl (both 169 242 refl refl refl)))))
+are_laid macro_definition = one 1071 refl (both 1072 1073 refl refl (both 289 1074 refl refl (both 1075 15 refl (both 335 4 refl refl refl) refl)))
+are_laid use_declaration = one 1077 refl (both 323 1078 refl refl (both 1082 242 refl refl refl))
+are_laid use_trees = one 1080 refl (one 1081 refl (both 1082 197 refl refl (both 52 198 refl refl (one 199 refl refl))))
 are_laid use_tree =
-    one 1079 refl (both 2 1080 refl (both 3 4 refl refl refl) (both 1081 1082 refl refl (both 16 1083 refl refl (both 19 1084 refl refl (both 122 1085 refl
-    (one 123 refl (both 3 19 refl refl refl)) (both 1086 4 refl (both 1087 1096 refl (both 3 1088 refl refl (both 1081 16 refl refl refl)) refl) refl))))))
+    one 1083 refl (both 2 1084 refl (both 3 4 refl refl refl) (both 1085 1086 refl refl (both 16 1087 refl refl (both 19 1088 refl refl (both 122 1089 refl
+    (one 123 refl (both 3 19 refl refl refl)) (both 1090 4 refl (both 1091 1100 refl (both 3 1092 refl refl (both 1085 16 refl refl refl)) refl) refl))))))
 are_laid extern_crate =
-    one 1090 refl (both 260 1091 refl refl (both 979 1092 refl refl (both 1093 1094 refl (both 289 981 refl refl refl) (both 1095 242 refl (both 1096 4 refl
+    one 1094 refl (both 260 1095 refl refl (both 979 1096 refl refl (both 1097 1098 refl (both 289 981 refl refl refl) (both 1099 242 refl (both 1100 4 refl
     refl refl) refl))))
-are_laid rename = one 1097 refl (both 101 1098 refl refl (both 289 229 refl refl refl))
+are_laid rename = one 1101 refl (both 101 1102 refl refl (both 289 229 refl refl refl))
 are_laid static_item =
-    one 1100 refl (both 1101 1103 refl (both 1102 4 refl (both 252 1019 refl refl refl) refl) (both 683 1104 refl refl (both 249 1105 refl (both 237 4 refl
-    refl refl) (both 289 1106 refl refl (both 69 1107 refl refl (both 124 1108 refl refl (both 1109 242 refl (both 970 4 refl (both 66 531 refl refl refl)
+    one 1104 refl (both 1105 1107 refl (both 1106 4 refl (both 252 1021 refl refl refl) refl) (both 683 1108 refl refl (both 249 1109 refl (both 237 4 refl
+    refl refl) (both 289 1110 refl refl (both 69 1111 refl refl (both 124 1112 refl refl (both 1113 242 refl (both 970 4 refl (both 66 531 refl refl refl)
     refl) refl)))))))
 are_laid constant_item =
-    one 1111 refl (both 1112 1114 refl (both 1113 4 refl refl refl) (both 85 1115 refl refl (both 1098 1116 refl (both 289 229 refl refl refl) (both 1117
-    1118 refl (both 1306 4 refl refl refl) (both 69 1119 refl refl (both 124 1120 refl refl (both 1109 1121 refl (both 970 4 refl (both 66 531 refl refl
-    refl) refl) (both 1122 242 refl (both 1329 4 refl refl refl) refl))))))))
+    one 1115 refl (both 1116 1118 refl (both 1117 4 refl refl refl) (both 85 1119 refl refl (both 1102 1120 refl (both 289 229 refl refl refl) (both 1121
+    1122 refl (both 1310 4 refl refl refl) (both 69 1123 refl refl (both 124 1124 refl refl (both 1113 1125 refl (both 970 4 refl (both 66 531 refl refl
+    refl) refl) (both 1126 242 refl (both 1333 4 refl refl refl) refl))))))))
 are_laid function =
-    one 1124 refl (both 1153 1125 refl refl (both 264 1126 refl refl (both 289 1127 refl refl (both 1117 1128 refl (both 1306 4 refl refl refl) (both 1129
-    1130 refl refl (both 1131 1133 refl (both 1132 4 refl (both 28 124 refl refl refl) refl) (both 1122 1134 refl (both 1329 4 refl refl refl) (both 86 242
+    one 1128 refl (both 1157 1129 refl refl (both 264 1130 refl refl (both 289 1131 refl refl (both 1121 1132 refl (both 1310 4 refl refl refl) (both 1133
+    1134 refl refl (both 1135 1137 refl (both 1136 4 refl (both 28 124 refl refl refl) refl) (both 1126 1138 refl (both 1333 4 refl refl refl) (both 86 242
     refl refl refl))))))))
 are_laid function_parameters =
-    one 1136 refl (both 274 1137 refl (both 275 4 refl (both 276 277 refl (one 960 refl refl) (both 1139 197 refl refl (both 52 198 refl refl (one 199 refl
-    refl)))) refl) (one 1138 refl (both 1147 197 refl refl (both 52 198 refl refl (one 199 refl refl)))))
+    one 1140 refl (both 274 1141 refl (both 275 4 refl (both 276 277 refl (one 960 refl refl) (both 1143 197 refl refl (both 52 198 refl refl (one 199 refl
+    refl)))) refl) (one 1142 refl (both 1151 197 refl refl (both 52 198 refl refl (one 199 refl refl)))))
 are_laid self_parameter =
-    one 1140 refl (both 1141 112 refl (both 1142 1145 refl (both 245 1143 refl refl (both 247 1144 refl (both 58 4 refl refl refl) (both 249 981 refl (both
-    237 4 refl refl refl) refl))) (both 249 1146 refl (both 237 4 refl refl refl) (both 981 703 refl refl (both 704 4 refl (both 69 124 refl refl refl)
+    one 1144 refl (both 1145 112 refl (both 1146 1149 refl (both 245 1147 refl refl (both 247 1148 refl (both 58 4 refl refl refl) (both 249 981 refl (both
+    237 4 refl refl refl) refl))) (both 249 1150 refl (both 237 4 refl refl refl) (both 981 703 refl refl (both 704 4 refl (both 69 124 refl refl refl)
     refl)))) (one 3 refl refl))
 are_laid function_parameter =
-    one 1148 refl (both 276 1149 refl (one 960 refl refl) (both 298 1150 refl refl (both 283 1151 refl (one 1139 refl refl) (both 385 1152 refl refl (both
+    one 1152 refl (both 276 1153 refl (one 960 refl refl) (both 298 1154 refl refl (both 283 1155 refl (one 1143 refl refl) (both 385 1156 refl refl (both
     69 297 refl refl (both 298 124 refl refl refl))))))
 are_laid function_qualifiers =
-    one 1154 refl (both 84 1155 refl (both 85 4 refl refl refl) (both 220 1156 refl (both 221 4 refl refl refl) (both 1157 1158 refl (both 271 4 refl refl
-    refl) (both 1101 258 refl (both 1102 4 refl (both 252 1019 refl refl refl) refl) (both 259 4 refl (both 260 261 refl refl (both 262 4 refl refl refl))
+    one 1158 refl (both 84 1159 refl (both 85 4 refl refl refl) (both 220 1160 refl (both 221 4 refl refl refl) (both 1161 1162 refl (both 271 4 refl refl
+    refl) (both 1105 258 refl (both 1106 4 refl (both 252 1021 refl refl refl) refl) (both 259 4 refl (both 260 261 refl refl (both 262 4 refl refl refl))
     refl)))))
 are_laid module_item =
-    one 1160 refl (both 256 1161 refl (both 252 4 refl refl refl) (both 1162 1163 refl refl (both 289 1164 refl refl (both 1165 242 refl refl refl))))
+    one 1164 refl (both 256 1165 refl (both 252 4 refl refl refl) (both 1166 1167 refl refl (both 289 1168 refl refl (both 1169 242 refl refl refl))))
 are_laid extern_block =
-    one 1167 refl (both 256 1168 refl (both 252 4 refl refl refl) (both 260 1169 refl refl (both 261 1170 refl (both 262 4 refl refl refl) refl)))
-are_laid external_items = one 1172 refl (both 890 1173 refl (one 955 refl refl) (one 1174 refl refl))
+    one 1171 refl (both 256 1172 refl (both 252 4 refl refl refl) (both 260 1173 refl refl (both 261 1174 refl (both 262 4 refl refl refl) refl)))
+are_laid external_items = one 1176 refl (both 890 1177 refl (one 955 refl refl) (one 1178 refl refl))
 are_laid external_item =
-    one 1175 refl (both 276 1176 refl (one 960 refl refl) (both 1177 1056 refl (both 971 1178 refl refl (both 1123 1179 refl refl (both 1099 1180 refl refl
+    one 1179 refl (both 276 1180 refl (one 960 refl refl) (both 1181 1058 refl (both 971 1182 refl refl (both 1127 1183 refl refl (both 1103 1184 refl refl
     refl))) refl))
 are_laid type_alias =
-    one 1181 refl (both 1113 1182 refl refl (both 289 1183 refl refl (both 1117 1184 refl (both 1306 4 refl refl refl) (both 1185 1186 refl (both 68 4 refl
-    (both 69 299 refl refl refl) refl) (both 1122 1187 refl (both 1329 4 refl refl refl) (both 1188 242 refl (both 1189 4 refl (both 66 1190 refl refl (both
-    124 1122 refl refl (both 1329 4 refl refl refl))) refl) refl))))))
+    one 1185 refl (both 1117 1186 refl refl (both 289 1187 refl refl (both 1121 1188 refl (both 1310 4 refl refl refl) (both 1189 1190 refl (both 68 4 refl
+    (both 69 299 refl refl refl) refl) (both 1126 1191 refl (both 1333 4 refl refl refl) (both 1192 242 refl (both 1193 4 refl (both 66 1194 refl refl (both
+    124 1126 refl refl (both 1333 4 refl refl refl))) refl) refl))))))
 are_laid structure =
-    one 1192 refl (both 1193 1194 refl refl (both 289 1195 refl refl (both 1117 1196 refl (both 1306 4 refl refl refl) (both 1197 1199 refl (both 1198 1121
-    refl refl (both 1122 242 refl (both 1329 4 refl refl refl) refl)) (both 1122 1200 refl (both 1329 4 refl refl refl) (both 1201 242 refl refl refl))))))
-are_laid struct_fields = one 1203 refl (one 1204 refl (both 1205 197 refl refl (both 52 198 refl refl (one 199 refl refl))))
+    one 1196 refl (both 1197 1198 refl refl (both 289 1199 refl refl (both 1121 1200 refl (both 1310 4 refl refl refl) (both 1201 1203 refl (both 1202 1125
+    refl refl (both 1126 242 refl (both 1333 4 refl refl refl) refl)) (both 1126 1204 refl (both 1333 4 refl refl refl) (both 1205 242 refl refl refl))))))
+are_laid struct_fields = one 1207 refl (one 1208 refl (both 1209 197 refl refl (both 52 198 refl refl (one 199 refl refl))))
 are_laid struct_field =
-    one 1206 refl (both 276 1207 refl (one 960 refl refl) (both 971 1208 refl refl (both 256 1209 refl (both 252 4 refl refl refl) (both 289 1210 refl refl
-    (both 69 1211 refl refl (both 124 1109 refl refl (both 970 4 refl (both 66 531 refl refl refl) refl)))))))
-are_laid tuple_fields = one 1213 refl (one 1214 refl (both 1215 197 refl refl (both 52 198 refl refl (one 199 refl refl))))
+    one 1210 refl (both 276 1211 refl (one 960 refl refl) (both 971 1212 refl refl (both 256 1213 refl (both 252 4 refl refl refl) (both 289 1214 refl refl
+    (both 69 1215 refl refl (both 124 1113 refl refl (both 970 4 refl (both 66 531 refl refl refl) refl)))))))
+are_laid tuple_fields = one 1217 refl (one 1218 refl (both 1219 197 refl refl (both 52 198 refl refl (one 199 refl refl))))
 are_laid tuple_field =
-    one 1216 refl (both 276 1217 refl (one 960 refl refl) (both 1218 1109 refl (both 1219 124 refl (both 974 1220 refl refl (both 1221 1227 refl (both 976
-    1222 refl refl (both 1223 124 refl (one 1224 refl (both 52 1225 refl refl (both 131 1226 refl refl (both 66 198 refl refl (one 199 refl refl))))) refl))
-    (both 1228 124 refl (both 1229 130 refl refl (one 131 refl refl)) refl))) refl) (both 970 4 refl (both 66 531 refl refl refl) refl)))
+    one 1220 refl (both 276 1221 refl (one 960 refl refl) (both 1222 1113 refl (both 1223 124 refl (both 974 1224 refl refl (both 1225 1231 refl (both 976
+    1226 refl refl (both 1227 124 refl (one 1228 refl (both 52 1229 refl refl (both 131 1230 refl refl (both 66 198 refl refl (one 199 refl refl))))) refl))
+    (both 1232 124 refl (both 1233 130 refl refl (one 131 refl refl)) refl))) refl) (both 970 4 refl (both 66 531 refl refl refl) refl)))
 are_laid types_behind_pub =
-    one 1231 refl (both 1232 194 refl (one 1233 refl (both 1234 198 refl (both 979 1235 refl refl (both 981 983 refl refl refl)) (one 199 refl refl))) refl)
+    one 1235 refl (both 1236 194 refl (one 1237 refl (both 1238 198 refl (both 979 1239 refl refl (both 981 983 refl refl refl)) (one 199 refl refl))) refl)
 are_laid enumeration =
-    one 1237 refl (both 1238 1239 refl refl (both 289 1240 refl refl (both 1117 1241 refl (both 1306 4 refl refl refl) (both 1122 1242 refl (both 1329 4
+    one 1241 refl (both 1242 1243 refl refl (both 289 1244 refl refl (both 1121 1245 refl (both 1310 4 refl refl refl) (both 1126 1246 refl (both 1333 4
     refl refl refl) refl))))
-are_laid enum_variants = one 1244 refl (one 1245 refl (both 1246 197 refl refl (both 52 198 refl refl (one 199 refl refl))))
+are_laid enum_variants = one 1248 refl (one 1249 refl (both 1250 197 refl refl (both 52 198 refl refl (one 199 refl refl))))
 are_laid enum_variant =
-    one 1247 refl (both 276 1248 refl (one 960 refl refl) (both 971 1249 refl refl (both 289 1250 refl refl (both 1251 1109 refl (both 1252 4 refl (both
-    1198 1201 refl refl refl) refl) (both 970 4 refl (both 66 531 refl refl refl) refl)))))
+    one 1251 refl (both 276 1252 refl (one 960 refl refl) (both 971 1253 refl refl (both 289 1254 refl refl (both 1255 1113 refl (both 1256 4 refl (both
+    1202 1205 refl refl refl) refl) (both 970 4 refl (both 66 531 refl refl refl) refl)))))
 are_laid union =
-    one 1254 refl (both 1255 1256 refl refl (both 289 1257 refl refl (both 1117 1258 refl (both 1306 4 refl refl refl) (both 1122 1201 refl (both 1329 4
+    one 1258 refl (both 1259 1260 refl refl (both 289 1261 refl refl (both 1121 1262 refl (both 1310 4 refl refl refl) (both 1126 1205 refl (both 1333 4
     refl refl refl) refl))))
 are_laid trait =
-    one 1260 refl (both 84 1261 refl (both 85 4 refl refl refl) (both 256 1262 refl (both 252 4 refl refl refl) (both 1263 1265 refl (both 1264 4 refl refl
-    refl) (both 1266 1267 refl refl (both 289 1268 refl refl (both 1117 1269 refl (both 1306 4 refl refl refl) (both 1270 1273 refl (both 1185 1271 refl
-    (both 68 4 refl (both 69 299 refl refl refl) refl) (both 1122 1272 refl (both 1329 4 refl refl refl) refl)) (both 66 1274 refl refl (both 299 1121 refl
-    refl (both 1122 242 refl (both 1329 4 refl refl refl) refl))))))))))
+    one 1264 refl (both 84 1265 refl (both 85 4 refl refl refl) (both 256 1266 refl (both 252 4 refl refl refl) (both 1267 1269 refl (both 1268 4 refl refl
+    refl) (both 1270 1271 refl refl (both 289 1272 refl refl (both 1121 1273 refl (both 1310 4 refl refl refl) (both 1274 1277 refl (both 1189 1275 refl
+    (both 68 4 refl (both 69 299 refl refl refl) refl) (both 1126 1276 refl (both 1333 4 refl refl refl) refl)) (both 66 1278 refl refl (both 299 1125 refl
+    refl (both 1126 242 refl (both 1333 4 refl refl refl) refl))))))))))
 are_laid implementation =
-    one 1276 refl (both 1282 1277 refl refl (both 84 1278 refl (both 85 4 refl refl refl) (both 139 1279 refl refl (both 1117 1280 refl (both 1306 4 refl
-    refl refl) (both 84 1281 refl (both 85 4 refl refl refl) (both 132 1271 refl refl (both 1122 1272 refl (both 1329 4 refl refl refl) refl)))))))
+    one 1280 refl (both 1286 1281 refl refl (both 84 1282 refl (both 85 4 refl refl refl) (both 139 1283 refl refl (both 1121 1284 refl (both 1310 4 refl
+    refl refl) (both 84 1285 refl (both 85 4 refl refl refl) (both 132 1275 refl refl (both 1126 1276 refl (both 1333 4 refl refl refl) refl)))))))
 are_laid trait_implementation =
-    one 1283 refl (both 1284 1286 refl (both 1285 4 refl (both 85 252 refl refl refl) refl) (both 139 1287 refl refl (both 1117 1288 refl (both 1306 4 refl
-    refl refl) (both 84 1289 refl (both 85 4 refl refl refl) (both 1290 1291 refl (both 167 4 refl refl refl) (both 0 1292 refl refl (both 340 1293 refl
-    refl (both 1294 1271 refl (both 33 124 refl refl refl) (both 1122 1272 refl (both 1329 4 refl refl refl) refl)))))))))
-are_laid associated_items = one 1296 refl (both 890 1297 refl (one 955 refl refl) (one 1298 refl refl))
+    one 1287 refl (both 1288 1290 refl (both 1289 4 refl (both 85 252 refl refl refl) refl) (both 139 1291 refl refl (both 1121 1292 refl (both 1310 4 refl
+    refl refl) (both 84 1293 refl (both 85 4 refl refl refl) (both 1294 1295 refl (both 167 4 refl refl refl) (both 0 1296 refl refl (both 340 1297 refl
+    refl (both 1298 1275 refl (both 33 124 refl refl refl) (both 1126 1276 refl (both 1333 4 refl refl refl) refl)))))))))
+are_laid associated_items = one 1300 refl (both 890 1301 refl (one 955 refl refl) (one 1302 refl refl))
 are_laid associated_item =
-    one 1299 refl (both 276 1300 refl (one 960 refl refl) (both 1301 1056 refl (both 971 1302 refl refl (both 1303 1304 refl (both 1018 4 refl refl refl)
-    (both 1123 1305 refl refl (both 1110 1180 refl refl refl)))) refl))
+    one 1303 refl (both 276 1304 refl (one 960 refl refl) (both 1305 1058 refl (both 971 1306 refl refl (both 1307 1308 refl (both 1020 4 refl refl refl)
+    (both 1127 1309 refl refl (both 1114 1184 refl refl refl)))) refl))
 are_laid generic_parameters =
-    one 1307 refl (both 36 1308 refl refl (both 1309 54 refl (both 1310 4 refl (both 1314 1311 refl refl (both 1312 53 refl (one 1313 refl (both 52 1314
+    one 1311 refl (both 36 1312 refl refl (both 1313 54 refl (both 1314 4 refl (both 1318 1315 refl refl (both 1316 53 refl (one 1317 refl (both 52 1318
     refl refl refl)) (both 52 4 refl refl refl))) refl) refl))
 are_laid generic_parameter =
-    one 1315 refl (both 276 1316 refl (one 960 refl refl) (both 351 1317 refl refl (both 1318 1325 refl (both 85 1319 refl refl (both 289 1320 refl refl
-    (both 69 1321 refl refl (both 124 1322 refl refl (both 1323 4 refl (both 66 1324 refl refl (both 81 289 refl refl refl)) refl))))) (both 289 1326 refl
-    refl (both 1185 1327 refl (both 68 4 refl (both 69 299 refl refl refl) refl) (both 1328 4 refl (both 66 124 refl refl refl) refl))))))
+    one 1319 refl (both 276 1320 refl (one 960 refl refl) (both 351 1321 refl refl (both 1322 1329 refl (both 85 1323 refl refl (both 289 1324 refl refl
+    (both 69 1325 refl refl (both 124 1326 refl refl (both 1327 4 refl (both 66 1328 refl refl (both 81 289 refl refl refl)) refl))))) (both 289 1330 refl
+    refl (both 1189 1331 refl (both 68 4 refl (both 69 299 refl refl refl) refl) (both 1332 4 refl (both 66 124 refl refl refl) refl))))))
 are_laid where_clause =
-    one 1330 refl (both 1331 1332 refl refl (both 1333 1336 refl (one 1334 refl (both 34 1335 refl refl (both 360 54 refl (both 289 361 refl refl refl)
-    refl))) (both 1337 4 refl (both 1341 1338 refl refl (both 1339 53 refl (one 1340 refl (both 52 1341 refl refl refl)) (both 52 4 refl refl refl)))
+    one 1334 refl (both 1335 1336 refl refl (both 1337 1340 refl (one 1338 refl (both 34 1339 refl refl (both 360 54 refl (both 289 361 refl refl refl)
+    refl))) (both 1341 4 refl (both 1345 1342 refl refl (both 1343 53 refl (one 1344 refl (both 52 1345 refl refl refl)) (both 52 4 refl refl refl)))
     refl)))
 are_laid where_predicate =
-    one 1342 refl (both 1343 1344 refl (both 58 354 refl refl (both 69 355 refl refl (both 356 247 refl (one 357 refl (both 58 131 refl refl refl)) (both 58
-    4 refl refl refl)))) (both 313 1345 refl (both 349 4 refl refl refl) (both 132 1346 refl refl (both 68 1347 refl (both 69 299 refl refl refl) (both 1348
-    124 refl (both 66 1349 refl refl refl) refl)))))
+    one 1346 refl (both 1347 1348 refl (both 58 354 refl refl (both 69 355 refl refl (both 356 247 refl (one 357 refl (both 58 131 refl refl refl)) (both 58
+    4 refl refl refl)))) (both 313 1349 refl (both 349 4 refl refl refl) (both 132 1350 refl refl (both 68 1351 refl (both 69 299 refl refl refl) (both 1352
+    124 refl (both 66 1353 refl refl refl) refl)))))
+are_laid tokens =
+    one 1355 refl (one 1356 refl (both 1367 1357 refl refl (both 1358 1359 refl (both 119 176 refl refl (both 167 169 refl refl refl)) (both 1360 1361 refl
+    refl (both 1362 1363 refl refl (both 1364 1365 refl refl (both 1366 199 refl refl refl)))))))
+are_laid loose_macro_rules_item = one 1368 refl (both 1369 1065 refl (one 1370 refl (both 957 337 refl refl refl)) refl)

@@ -1,4 +1,5 @@
 -- Parsing expressions over trees, and Rust's grammar as a table of them.
+pub mod Beginnings
 pub mod Decoded
 pub mod Derivations
 pub mod Deriving

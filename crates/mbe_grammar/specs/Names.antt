@@ -130,6 +130,7 @@ pub data Name : Type 0 where
   declaration : Name
   item_kind : Name
   macro_item : Name
+  macro_rules_item : Name
   macro_rules : Name
   macro_definition : Name
   use_declaration : Name
@@ -168,6 +169,8 @@ pub data Name : Type 0 where
   generic_parameter : Name
   where_clause : Name
   where_predicate : Name
+  tokens : Name
+  loose_macro_rules_item : Name
 
 -- where a name is laid out
 abbrev pub start : Name → ℕ
@@ -290,49 +293,52 @@ start visibility = 971
 start visibility_place = 977
 start block = 985
 start statements = 987
-start statement = 996
-start let_statement = 1001
-start closed_statement = 1013
-start items = 1025
-start item = 1028
-start declaration = 1034
-start item_kind = 1042
-start macro_item = 1056
-start macro_rules = 1061
-start macro_definition = 1066
-start use_declaration = 1072
-start use_trees = 1075
-start use_tree = 1078
-start extern_crate = 1089
-start rename = 1096
-start static_item = 1099
-start constant_item = 1110
-start function = 1123
-start function_parameters = 1135
-start self_parameter = 1139
-start function_parameter = 1147
-start function_qualifiers = 1153
-start module_item = 1159
-start extern_block = 1166
-start external_items = 1171
-start external_item = 1174
-start type_alias = 1180
-start structure = 1191
-start struct_fields = 1202
-start struct_field = 1205
-start tuple_fields = 1212
-start tuple_field = 1215
-start types_behind_pub = 1230
-start enumeration = 1236
-start enum_variants = 1243
-start enum_variant = 1246
-start union = 1253
-start trait = 1259
-start implementation = 1275
-start trait_implementation = 1282
-start associated_items = 1295
-start associated_item = 1298
-start generic_parameters = 1306
-start generic_parameter = 1314
-start where_clause = 1329
-start where_predicate = 1341
+start statement = 997
+start let_statement = 1003
+start closed_statement = 1015
+start items = 1027
+start item = 1030
+start declaration = 1037
+start item_kind = 1044
+start macro_item = 1058
+start macro_rules_item = 1063
+start macro_rules = 1065
+start macro_definition = 1070
+start use_declaration = 1076
+start use_trees = 1079
+start use_tree = 1082
+start extern_crate = 1093
+start rename = 1100
+start static_item = 1103
+start constant_item = 1114
+start function = 1127
+start function_parameters = 1139
+start self_parameter = 1143
+start function_parameter = 1151
+start function_qualifiers = 1157
+start module_item = 1163
+start extern_block = 1170
+start external_items = 1175
+start external_item = 1178
+start type_alias = 1184
+start structure = 1195
+start struct_fields = 1206
+start struct_field = 1209
+start tuple_fields = 1216
+start tuple_field = 1219
+start types_behind_pub = 1234
+start enumeration = 1240
+start enum_variants = 1247
+start enum_variant = 1250
+start union = 1257
+start trait = 1263
+start implementation = 1279
+start trait_implementation = 1286
+start associated_items = 1299
+start associated_item = 1302
+start generic_parameters = 1310
+start generic_parameter = 1318
+start where_clause = 1333
+start where_predicate = 1345
+start tokens = 1354
+start loose_macro_rules_item = 1367

@@ -4,7 +4,7 @@ use Rattle.tt.specs.Types.DelimiterKind.TheVariants.{Parenthesis, Brace, Bracket
 use Rattle.mbe_grammar.specs.declared.test.Test.TheVariants as test
 use Rattle.mbe_grammar.specs.declared.words.Word.TheVariants as it
 use Rattle.mbe_grammar.specs.Expressions.{Expression, nothing, unit, name, many, never, maybe, ahead, all_of, one_of, word, lifetime, subtree, holding, opaque_holding, at_end, sign, front}
-use Rattle.mbe_grammar.specs.Names.{Name, type_path, type_path_segments, more_type_path_segments, type_path_segment, inputs, less, generic_arguments, generic_argument, generic_argument_end, generic_argument_value, const_argument, qualified_self, expression_path, expression_path_segments, expression_path_segment, simple_path, any_type, type, behind_type_path, type_no_bounds, types, more_bounds, bare_bound, modified_path, plain_type, pointer_type, array_type, reference_type, binder_type, function_type, generator_type, maybe_named_parameters, maybe_named_parameter, bounds, some_bounds, bound, trait_bound, use_bound, maybe_const, begins_bound, for_lifetimes, lifetime_parameter, use_argument, pattern_fragment, pattern_param_fragment, pattern, pattern_no_top_alt, pattern_without_range, patterns, range_tail, old_range_tail, range_operator, range_end, fields, struct_pattern_elements, struct_pattern_field, field_pattern, field_name, reference_pattern, identifier_pattern, binding, expression_2021_fragment, expression, expression_before_block, behind_operation, behind_operation_before_block, range, range_before_block, operation, operation_before_block, operand, operand_before_block, unary, unary_before_block, unary_operator, postfix, bad_postfix, closure, closure_before_block, closure_head, closure_parameter, jump, jump_before_block, primary, primary_before_block, variable, variable_before_block, expressions, some_expressions, array_elements, struct_expression_fields, struct_expression_field, field_value, basic, block_like, label, loop, conditions, let_chain, let_condition, let_value, match_arms, match_arm, arm_body, guard, guard_chain, guard_condition, guard_value, expression_with_block, lazy_operator, begins, inner_attribute, attribute, meta, plain_meta, visibility, visibility_place, block, statements, statement, let_statement, closed_statement, items, item, declaration, item_kind, macro_item, macro_rules, macro_definition, use_declaration, use_trees, use_tree, extern_crate, rename, static_item, constant_item, function, function_parameters, self_parameter, function_parameter, function_qualifiers, module_item, extern_block, external_items, external_item, type_alias, structure, struct_fields, struct_field, tuple_fields, tuple_field, types_behind_pub, enumeration, enum_variants, enum_variant, union, trait, implementation, trait_implementation, associated_items, associated_item, generic_parameters, generic_parameter, where_clause, where_predicate}
+use Rattle.mbe_grammar.specs.Names.{Name, type_path, type_path_segments, more_type_path_segments, type_path_segment, inputs, less, generic_arguments, generic_argument, generic_argument_end, generic_argument_value, const_argument, qualified_self, expression_path, expression_path_segments, expression_path_segment, simple_path, any_type, type, behind_type_path, type_no_bounds, types, more_bounds, bare_bound, modified_path, plain_type, pointer_type, array_type, reference_type, binder_type, function_type, generator_type, maybe_named_parameters, maybe_named_parameter, bounds, some_bounds, bound, trait_bound, use_bound, maybe_const, begins_bound, for_lifetimes, lifetime_parameter, use_argument, pattern_fragment, pattern_param_fragment, pattern, pattern_no_top_alt, pattern_without_range, patterns, range_tail, old_range_tail, range_operator, range_end, fields, struct_pattern_elements, struct_pattern_field, field_pattern, field_name, reference_pattern, identifier_pattern, binding, expression_2021_fragment, expression, expression_before_block, behind_operation, behind_operation_before_block, range, range_before_block, operation, operation_before_block, operand, operand_before_block, unary, unary_before_block, unary_operator, postfix, bad_postfix, closure, closure_before_block, closure_head, closure_parameter, jump, jump_before_block, primary, primary_before_block, variable, variable_before_block, expressions, some_expressions, array_elements, struct_expression_fields, struct_expression_field, field_value, basic, block_like, label, loop, conditions, let_chain, let_condition, let_value, match_arms, match_arm, arm_body, guard, guard_chain, guard_condition, guard_value, expression_with_block, lazy_operator, begins, inner_attribute, attribute, meta, plain_meta, visibility, visibility_place, block, statements, statement, let_statement, closed_statement, items, item, declaration, item_kind, macro_item, macro_rules_item, macro_rules, macro_definition, use_declaration, use_trees, use_tree, extern_crate, rename, static_item, constant_item, function, function_parameters, self_parameter, function_parameter, function_qualifiers, module_item, extern_block, external_items, external_item, type_alias, structure, struct_fields, struct_field, tuple_fields, tuple_field, types_behind_pub, enumeration, enum_variants, enum_variant, union, trait, implementation, trait_implementation, associated_items, associated_item, generic_parameters, generic_parameter, where_clause, where_predicate, tokens, loose_macro_rules_item}
 
 -- the expression of a name
 abbrev pub stands : Name → Expression
@@ -294,10 +294,11 @@ stands visibility = one_of (all_of (word it.Pub ∷ maybe (holding Parenthesis v
 stands visibility_place = one_of (word it.Crate ∷ word it.SelfValue ∷ word it.Super ∷ all_of (word it.In ∷ name simple_path ∷ []) ∷ [])
 stands block = all_of (many (name inner_attribute) ∷ name statements ∷ [])
 stands statements =
-    many (one_of (sign (codes ";") ∷ all_of (many (name attribute) ∷ one_of (all_of (name let_statement ∷ sign (codes ";") ∷ []) ∷ name closed_statement ∷
-    []) ∷ []) ∷ all_of (name expression ∷ one_of (sign (codes ";") ∷ at_end ∷ []) ∷ []) ∷ []))
+    many (one_of (sign (codes ";") ∷ name macro_rules_item ∷ all_of (many (name attribute) ∷ one_of (all_of (name let_statement ∷ sign (codes ";") ∷ []) ∷
+    name closed_statement ∷ []) ∷ []) ∷ all_of (name expression ∷ one_of (sign (codes ";") ∷ at_end ∷ []) ∷ []) ∷ []))
 stands statement =
-    one_of (sign (codes ";") ∷ all_of (many (name attribute) ∷ one_of (name let_statement ∷ name closed_statement ∷ []) ∷ []) ∷ name expression ∷ [])
+    one_of (sign (codes ";") ∷ name macro_rules_item ∷ all_of (many (name attribute) ∷ one_of (name let_statement ∷ name closed_statement ∷ []) ∷ []) ∷ name
+    expression ∷ [])
 stands let_statement =
     all_of (maybe (word it.Super) ∷ word it.Let ∷ name pattern_no_top_alt ∷ never (one_of (sign (codes "|") ∷ sign (codes "||") ∷ sign (codes "@") ∷ [])) ∷
     maybe (all_of (sign (codes ":") ∷ name any_type ∷ [])) ∷ maybe (all_of (sign (codes "=") ∷ name expression ∷ maybe (all_of (word it.Else ∷ holding Brace
@@ -307,15 +308,16 @@ stands closed_statement =
     "::")) ∷ name expression_path_segments ∷ sign (codes "!") ∷ subtree Brace ∷ never (one_of (sign (codes ".") ∷ sign (codes "?") ∷ [])) ∷ []) ∷ [])
 stands items = all_of (many (name inner_attribute) ∷ many (name item) ∷ [])
 stands item =
-    all_of (many (name attribute) ∷ one_of (name declaration ∷ name macro_item ∷ all_of (name visibility ∷ word it.Const ∷ holding Brace statements ∷ []) ∷
-    []) ∷ [])
+    one_of (name macro_rules_item ∷ all_of (many (name attribute) ∷ one_of (name declaration ∷ name macro_item ∷ all_of (name visibility ∷ word it.Const ∷
+    holding Brace statements ∷ []) ∷ []) ∷ []) ∷ [])
 stands declaration =
-    one_of (name macro_rules ∷ all_of (name visibility ∷ one_of (all_of (word it.Default ∷ one_of (name function ∷ name constant_item ∷ name type_alias ∷
-    name trait_implementation ∷ []) ∷ []) ∷ name item_kind ∷ []) ∷ []) ∷ [])
+    all_of (name visibility ∷ one_of (all_of (word it.Default ∷ one_of (name function ∷ name constant_item ∷ name type_alias ∷ name trait_implementation ∷
+    []) ∷ []) ∷ name item_kind ∷ []) ∷ [])
 stands item_kind =
     one_of (name function ∷ name use_declaration ∷ name extern_crate ∷ name static_item ∷ name constant_item ∷ name module_item ∷ name extern_block ∷ name
     type_alias ∷ name structure ∷ name enumeration ∷ name union ∷ name trait ∷ name implementation ∷ name macro_definition ∷ [])
 stands macro_item = all_of (name simple_path ∷ sign (codes "!") ∷ one_of (subtree Brace ∷ all_of (unit test.Delimited ∷ sign (codes ";") ∷ []) ∷ []) ∷ [])
+stands macro_rules_item = all_of (many (name attribute) ∷ name macro_rules ∷ [])
 stands macro_rules =
     all_of (word it.MacroRules ∷ sign (codes "!") ∷ unit test.Name ∷ one_of (subtree Brace ∷ all_of (unit test.Delimited ∷ sign (codes ";") ∷ []) ∷ []) ∷
     [])
@@ -407,3 +409,7 @@ stands where_predicate =
     one_of (all_of (lifetime ∷ sign (codes ":") ∷ many (all_of (lifetime ∷ front (codes "+") ∷ [])) ∷ maybe lifetime ∷ []) ∷ all_of (maybe (name
     for_lifetimes) ∷ name type ∷ one_of (all_of (sign (codes ":") ∷ name bounds ∷ []) ∷ all_of (one_of (sign (codes "=") ∷ sign (codes "==") ∷ []) ∷ name
     any_type ∷ []) ∷ []) ∷ []) ∷ [])
+stands tokens =
+    many (one_of (name loose_macro_rules_item ∷ all_of (name simple_path ∷ sign (codes "!") ∷ unit test.Delimited ∷ []) ∷ holding Parenthesis tokens ∷
+    holding Bracket tokens ∷ holding Brace tokens ∷ opaque_holding tokens ∷ unit test.Any ∷ []))
+stands loose_macro_rules_item = all_of (many (all_of (sign (codes "#") ∷ subtree Bracket ∷ [])) ∷ name macro_rules ∷ [])

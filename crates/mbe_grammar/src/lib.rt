@@ -8,10 +8,12 @@
 //! `parse_file` runs the same machine with a log: the names that begin and end, the units, and the subtrees with the names of what they
 //! must contain. A choice that fails cuts the log back. A
 //! `Derivation` then reads each subtree of the log by its name, without recursion, and hands out the events one by one. If a level is
-//! refused, `find_wanted` runs the machine on that level again, and notes the tests that it tries at the farthest place.
+//! refused, `find_wanted` runs the machine on that level again, and notes the tests that it tries at the farthest place. `beginnings` goes
+//! along a derivation, and returns the places at which expressions of some names begin.
 #![tactic(auto)]
 
 mod begin;
+mod beginning;
 mod derivation;
 mod entry;
 mod event;
@@ -35,6 +37,7 @@ mod unit;
 mod units;
 mod words;
 
+pub use beginning::{Beginning, beginnings, beginnings_by_first};
 pub use derivation::{Derivation, Derived, NextEvent, derive};
 pub use entry::Entry;
 pub use event::{Event, Level};
@@ -43,7 +46,8 @@ pub use fragments::{is_block, reach, reach_deep, rust_table};
 pub use known::Known;
 pub use rule::{Mark, Rule};
 pub use rust_names::{
-    EXPRESSION, FIELD_PATTERN, IDENTIFIER_PATTERN, ITEMS, LABEL, NAMES, STATEMENTS,
+    EXPRESSION, FIELD_PATTERN, IDENTIFIER_PATTERN, ITEMS, LABEL, LOOSE_MACRO_RULES_ITEM,
+    MACRO_RULES_ITEM, NAMES, STATEMENTS, TOKENS,
 };
 pub use table::Table;
 pub use test::Test;

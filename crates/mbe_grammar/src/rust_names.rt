@@ -19,16 +19,16 @@ pub const PATTERN_PARAM_FRAGMENT: usize = 367;
 pub const TYPE_PATH: usize = 0;
 
 /// Where `statement` is laid out.
-pub const STATEMENT: usize = 996;
+pub const STATEMENT: usize = 997;
 
 /// Where `item` is laid out.
-pub const ITEM: usize = 1028;
+pub const ITEM: usize = 1030;
 
 /// Where `meta` is laid out.
 pub const META: usize = 962;
 
 /// Where `items` is laid out.
-pub const ITEMS: usize = 1025;
+pub const ITEMS: usize = 1027;
 
 /// Where `statements` is laid out.
 pub const STATEMENTS: usize = 987;
@@ -42,8 +42,17 @@ pub const FIELD_PATTERN: usize = 490;
 /// Where `label` is laid out.
 pub const LABEL: usize = 827;
 
+/// Where `macro_rules_item` is laid out.
+pub const MACRO_RULES_ITEM: usize = 1063;
+
+/// Where `loose_macro_rules_item` is laid out.
+pub const LOOSE_MACRO_RULES_ITEM: usize = 1367;
+
+/// Where `tokens` is laid out.
+pub const TOKENS: usize = 1354;
+
 /// Each name with the index of its rule in the table, in the order of the indices.
-pub static NAMES: [(usize, &str); 165] = [
+pub static NAMES: [(usize, &str); 168] = [
     (0, "type_path"),
     (5, "type_path_segments"),
     (7, "more_type_path_segments"),
@@ -163,50 +172,53 @@ pub static NAMES: [(usize, &str); 165] = [
     (977, "visibility_place"),
     (985, "block"),
     (987, "statements"),
-    (996, "statement"),
-    (1001, "let_statement"),
-    (1013, "closed_statement"),
-    (1025, "items"),
-    (1028, "item"),
-    (1034, "declaration"),
-    (1042, "item_kind"),
-    (1056, "macro_item"),
-    (1061, "macro_rules"),
-    (1066, "macro_definition"),
-    (1072, "use_declaration"),
-    (1075, "use_trees"),
-    (1078, "use_tree"),
-    (1089, "extern_crate"),
-    (1096, "rename"),
-    (1099, "static_item"),
-    (1110, "constant_item"),
-    (1123, "function"),
-    (1135, "function_parameters"),
-    (1139, "self_parameter"),
-    (1147, "function_parameter"),
-    (1153, "function_qualifiers"),
-    (1159, "module_item"),
-    (1166, "extern_block"),
-    (1171, "external_items"),
-    (1174, "external_item"),
-    (1180, "type_alias"),
-    (1191, "structure"),
-    (1202, "struct_fields"),
-    (1205, "struct_field"),
-    (1212, "tuple_fields"),
-    (1215, "tuple_field"),
-    (1230, "types_behind_pub"),
-    (1236, "enumeration"),
-    (1243, "enum_variants"),
-    (1246, "enum_variant"),
-    (1253, "union"),
-    (1259, "trait"),
-    (1275, "implementation"),
-    (1282, "trait_implementation"),
-    (1295, "associated_items"),
-    (1298, "associated_item"),
-    (1306, "generic_parameters"),
-    (1314, "generic_parameter"),
-    (1329, "where_clause"),
-    (1341, "where_predicate"),
+    (997, "statement"),
+    (1003, "let_statement"),
+    (1015, "closed_statement"),
+    (1027, "items"),
+    (1030, "item"),
+    (1037, "declaration"),
+    (1044, "item_kind"),
+    (1058, "macro_item"),
+    (1063, "macro_rules_item"),
+    (1065, "macro_rules"),
+    (1070, "macro_definition"),
+    (1076, "use_declaration"),
+    (1079, "use_trees"),
+    (1082, "use_tree"),
+    (1093, "extern_crate"),
+    (1100, "rename"),
+    (1103, "static_item"),
+    (1114, "constant_item"),
+    (1127, "function"),
+    (1139, "function_parameters"),
+    (1143, "self_parameter"),
+    (1151, "function_parameter"),
+    (1157, "function_qualifiers"),
+    (1163, "module_item"),
+    (1170, "extern_block"),
+    (1175, "external_items"),
+    (1178, "external_item"),
+    (1184, "type_alias"),
+    (1195, "structure"),
+    (1206, "struct_fields"),
+    (1209, "struct_field"),
+    (1216, "tuple_fields"),
+    (1219, "tuple_field"),
+    (1234, "types_behind_pub"),
+    (1240, "enumeration"),
+    (1247, "enum_variants"),
+    (1250, "enum_variant"),
+    (1257, "union"),
+    (1263, "trait"),
+    (1279, "implementation"),
+    (1286, "trait_implementation"),
+    (1299, "associated_items"),
+    (1302, "associated_item"),
+    (1310, "generic_parameters"),
+    (1318, "generic_parameter"),
+    (1333, "where_clause"),
+    (1345, "where_predicate"),
+    (1354, "tokens"),
+    (1367, "loose_macro_rules_item"),
 ];
