@@ -280,6 +280,38 @@ def template_of(trees, names):
     return parts
 
 
+def dollar_fault(behind):
+    """What is wrong with a `$` of a template, before these trees."""
+    if not behind or is_ident(behind) or is_punct(behind, "$"):
+        return None
+    if not isinstance(behind[0], Subtree) or behind[0].kind == "bracket":
+        return BEGINS_NOTHING
+    if behind[0].kind != "paren":
+        return None
+    found = repetition(behind)
+    if not found:
+        return BEGINS_NOTHING
+    return NEEDLESS_SEPARATOR if found[1] and found[2] == "?" else None
+
+
+def template_fault(trees):
+    """The first fault of a template, in reading order of its `$`."""
+    while trees:
+        first, trees = trees[0], trees[1:]
+        held, fault = (), None
+        if isinstance(first, Subtree):
+            held = first.children
+        elif is_punct((first,), "$"):
+            fault = dollar_fault(trees)
+            found = repetition(trees)
+            if found:
+                held, trees = found[0], trees[2 + len(found[1]):]
+        fault = fault or template_fault(held)
+        if fault:
+            return fault
+    return None
+
+
 def is_arrow(trees):
     """Whether `=>` is first, as one token."""
     return is_punct(trees, "=") and unit_size(trees) == 2 and trees[1].char == ">"
@@ -297,6 +329,9 @@ def arm_at(trees, number):
         raise ArmFault(number, NO_ARROW)
     if len(trees) < 4 or not isinstance(trees[3], Subtree):
         raise ArmFault(number, NO_TEMPLATE)
+    fault = template_fault(trees[3].children)
+    if fault:
+        raise ArmFault(number, fault)
     template, left = template_of(trees[3].children, set(plain_macros.names_of(pattern))), trees[4:]
     if left and not is_punct(left, ";"):
         raise ArmFault(number, NO_SEMICOLON)

@@ -58,8 +58,8 @@ fn has_parts(alloc: Global, pattern: &str, template: &str, parts: &str) -> Optio
 }
 
 // Uses, in repetitions and subtrees; names that are no variables, `$crate`, `$_`, a `$` before nothing and before itself; raw names;
-// repetitions without a tail, in other brackets, and with `$` as a separator, which two `$` are not.
-const PARTS: [(&str, &str, &str); 27] = [
+// repetitions, also with `$` as a separator.
+const PARTS: [(&str, &str, &str); 24] = [
     ("", "", "} "),
     ("$x:tt", "$x", "$x } "),
     ("$x:tt", "$x;", "$x t } "),
@@ -91,10 +91,7 @@ const PARTS: [(&str, &str, &str); 27] = [
         "$($($x $y)*)*",
         "( ( $x $y )* )* } ",
     ),
-    ("$x:tt", "$($x)", "t { $x } } "),
-    ("$x:tt", "$[$x]*", "t { $x } t } "),
     ("$($x:tt)*", "$($x)$*", "( $x ),* } "),
-    ("$x:tt", "$($x)$$*", "t { $x } t t t } "),
 ];
 
 fn are_parts(alloc: Global) -> bool {
