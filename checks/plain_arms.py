@@ -265,6 +265,8 @@ def template_part(trees, names):
         held, separator, operator = found
         between = unit_of(alone(separator)) if separator else None
         return ("rep", template_of(held, names), between, operator, None), 3 + len(separator)
+    if is_punct(behind, "$"):
+        return ("unit", unit_of(behind[:1])), 2
     if is_ident(behind) and not is_crate(behind) and behind[0].text in names:
         return ("use", behind[0].text, None), 2
     return ("unit", unit_of(trees[:1])), 1
@@ -306,6 +308,8 @@ def template_fault(trees):
             found = repetition(trees)
             if found:
                 held, trees = found[0], trees[2 + len(found[1]):]
+            elif is_punct(trees, "$"):
+                trees = trees[1:]
         fault = fault or template_fault(held)
         if fault:
             return fault

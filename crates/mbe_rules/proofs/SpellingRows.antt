@@ -37,6 +37,13 @@ dollar_sound = refl
 braces_sound : spelling_fault (alone 36 (subtree Brace (x end))) ≡ None
 braces_sound = refl
 
+-- In `$$+` the second `$` is written, and in `$$$+` the third begins nothing.
+second_sound : spelling_fault (alone 36 (alone 36 (alone 43 end))) ≡ None
+second_sound = refl
+
+third_begins : spelling_fault (alone 36 (alone 36 (alone 36 (alone 43 end)))) ≡ Some (error.BeginsNothing 3)
+third_begins = refl
+
 -- `$(x)` has no operator: the place is that of the parentheses. With `,` or `==` behind it that is the last tree; or else the next: `$(x), x`
 -- and `$(x)[x]`.
 none_behind : spelling_fault (x (rounds (x end) end)) ≡ Some (error.NoOperator 2)

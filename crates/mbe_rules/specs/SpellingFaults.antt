@@ -13,6 +13,7 @@ use Rattle.mbe_pattern.specs.Spelling.{Tail, tail_in, tail_length, repetition_in
 use Rattle.mbe_pattern.specs.Units.{unit_size}
 use Rattle.mbe_rules.specs.declared.error.TemplateError.{TemplateError}
 use Rattle.mbe_rules.specs.declared.error.TemplateError.TheVariants as error
+use Rattle.mbe_rules.specs.Spelling.{dollar_of}
 
 -- the first, or otherwise the other
 abbrev pub or_else : Option TemplateError → Option TemplateError → Option TemplateError
@@ -64,16 +65,17 @@ dollar_fault until end = None
 dollar_fault until (leaf it rest) = if may_follow it then None else Some (error.BeginsNothing (place until (leaf it rest)))
 dollar_fault until (node delimiter children rest) = subtree_fault until (place until (node delimiter children rest)) delimiter.kind rest
 
--- how many siblings of a `$` are no signs of their own: the parentheses and the tail of a repetition
-abbrev pub own_length : Option Tail → ℕ
-own_length None = 0
-own_length (Some tail) = suc (tail_length tail)
+-- how many siblings of a `$` are no signs of their own: another `$`, or the parentheses and the tail of a repetition
+abbrev pub own_length : (second : Option Leaf) → Option Tail → ℕ
+own_length (Some it) found = 1
+own_length None None = 0
+own_length None (Some tail) = suc (tail_length tail)
 
 -- the first fault in reading order, if the first `passed` trees belong to an earlier `$`; `until` is the flat place after the last tree
 abbrev pub fault_behind : (until : ℕ) → (passed : ℕ) → Forest → Option TemplateError
 fault_behind until passed end = None
 fault_behind until zero (leaf it rest) =
-    if is_dollar it then or_else (dollar_fault until rest) (fault_behind until (own_length (repetition_in rest)) rest) else fault_behind until zero rest
+    if is_dollar it then or_else (dollar_fault until rest) (fault_behind until (own_length (dollar_of rest) (repetition_in rest)) rest) else fault_behind until zero rest
 fault_behind until zero (node delimiter children rest) = or_else (fault_behind (until - size rest) zero children) (fault_behind until zero rest)
 fault_behind until (suc passed) (leaf it rest) = fault_behind until passed rest
 fault_behind until (suc passed) (node delimiter children rest) = or_else (fault_behind (until - size rest) zero children) (fault_behind until passed rest)

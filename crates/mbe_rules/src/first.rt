@@ -5,7 +5,7 @@ ghost use Rattle.tt.specs.Forest.{leaf};
 ghost use Rattle.tt.specs.Iters.{rest_of};
 ghost use Rattle.mbe_pattern.specs.Spelling.{is_dollar};
 ghost use Rattle.mbe_matcher.specs.Binders.{where_of};
-ghost use Rattle.mbe_rules.specs.Spelling.{template_until, has_name, variable_in, mark_in};
+ghost use Rattle.mbe_rules.specs.Spelling.{template_until, dollar_of, has_name, variable_in, mark_in};
 ghost use Rattle.mbe_rules.specs.SpellingFaults.{dollar_fault, fault_until, IsFault};
 ghost use Rattle.mbe_rules.specs.Stepping.{IsFirst, fault_from};
 ghost use Rattle.mbe_rules.specs.Marks.{mark_of};
@@ -35,6 +35,8 @@ pub(crate) enum First<'t> {
 pub(crate) enum Mark {
     Use(usize, bool),
     Repetition(Tail),
+    /// Another `$`.
+    Second(Leaf),
     Nothing,
 }
 
@@ -60,10 +62,23 @@ fn variable_in(binders: &[Binder], mut siblings: TtIter<'_>) -> Option<usize>
     named(binders, &ident.sym)
 }
 
+// Returns the first tree, if it is a `$`.
+fn dollar_of(mut siblings: TtIter<'_>) -> Option<Leaf>
+    ensures { result ≡ dollar_of (rest_of siblings.entry) }
+{
+    match siblings.next() {
+        Some(TtElement::Leaf(leaf)) if is_dollar(&leaf) => Some(leaf),
+        _ => None,
+    }
+}
+
 // Returns what a `$` before these siblings begins.
 fn mark_in(alloc: Global, binders: &[Binder], siblings: TtIter<'_>) -> Result<Mark, AllocError>
     ensures { IfOk result (λ mark. mark_of mark ≡ mark_in (map where_of binders.now) (rest_of siblings.entry)) }
 {
+    if let Some(second) = dollar_of(siblings.remaining().iter()) {
+        return Ok(Mark::Second(second));
+    }
     if let Some(tail) = repetition_in(alloc, siblings.remaining().iter())? {
         return Ok(Mark::Repetition(tail));
     }
@@ -108,6 +123,10 @@ fn marked_part<'t>(
             }
             Err(()) => unreachable!(),
         },
+        Mark::Second(second) => {
+            siblings.next();
+            Ok(First::Token(second))
+        }
         Mark::Nothing => Ok(First::Token(dollar)),
     }
 }

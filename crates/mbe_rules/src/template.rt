@@ -36,7 +36,7 @@ impl Template {
     /// Returns the template that the trees spell; the variables are those of a pattern.
     ///
     /// `$name` is a use of the first variable of that name, raw or not. `$( .. )`, with a separator if there is one, and `*`, `+` or `?` is
-    /// a repetition. Everything else is written as it is, also `$crate` and a `$` before a name that no variable has. But a `$` before a
+    /// a repetition. `$$` is a `$`. Everything else is written as it is, also `$crate` and a `$` before a name that no variable has. But a `$` before a
     /// literal, a punct other than `$`, or brackets `[ .. ]` is a fault. So is `$( .. )` without `*`, `+` or `?`, or with a separator and `?`.
     ///
     /// Time is linear in the number of trees times the number of variables, and memory in the number of trees. Returns the first fault in

@@ -10,7 +10,7 @@ use Rattle.mbe_rules.specs.Spelling as spelling
 use Rattle.mbe_rules.specs.Templates as template
 use Rattle.mbe_rules.specs.SpellingFaults.{or_else, fault_until}
 use Rattle.mbe_rules.proofs.FirstParts.{marked_repetition}
-use Rattle.mbe_rules.proofs.SpellingFaults.{nothing_sound, repetition_sound, use_sound}
+use Rattle.mbe_rules.proofs.SpellingFaults.{nothing_sound, repetition_sound, second_sound, use_sound}
 use Rattle.mbe_rules.proofs.first.marked_part.Goals as goal
 
 pub returns-in_ok-separator-in-Ok-clause-part : goal.returns-in_ok-separator-in-Ok-clause-part
@@ -77,3 +77,13 @@ returns-in-Nothing-clause-fault c =
     let found : spelling.nothing ≡ mark_in variables (rest_of c.iter.result) = search rules in
     let same : mark_in variables rest ≡ spelling.nothing = sym (found ∙ ap (mark_in variables) seen) in
     nothing_sound c.args.until c.args.dollar rest c.requires.dollar c.requires.sound variables same
+
+pub returns-in-Second-clause-fault : goal.returns-in-Second-clause-fault
+returns-in-Second-clause-fault c =
+    let variables = map where_of c.args.binders.now in
+    let rest = rest_of c.args.siblings.now in
+    let seen : rest_of c.iter.result ≡ rest = search rules in
+    let found : spelling.second c.in-Second.second ≡ mark_in variables (rest_of c.iter.result) = search rules in
+    let same : mark_in variables rest ≡ spelling.second c.in-Second.second = sym (found ∙ ap (mark_in variables) seen) in
+    let passed : rest_of c.next-in-Second.new.self ≡ after_tree rest = search rules in
+    second_sound c.args.until c.args.dollar rest c.requires.dollar c.requires.sound variables c.in-Second.second (rest_of c.next-in-Second.new.self) same passed
