@@ -265,6 +265,8 @@ def template_part(trees, names):
         held, separator, operator = found
         between = unit_of(alone(separator)) if separator else None
         return ("rep", template_of(held, names), between, operator, None), 3 + len(separator)
+    if is_punct(behind, "$"):
+        return ("unit", unit_of(behind[:1])), 2
     if is_ident(behind) and not is_crate(behind) and behind[0].text in names:
         return ("use", behind[0].text, None), 2
     return ("unit", unit_of(trees[:1])), 1
@@ -278,6 +280,40 @@ def template_of(trees, names):
         parts.append(part)
         trees = trees[count:]
     return parts
+
+
+def dollar_fault(behind):
+    """What is wrong with a `$` of a template, before these trees."""
+    if not behind or is_ident(behind) or is_punct(behind, "$"):
+        return None
+    if not isinstance(behind[0], Subtree) or behind[0].kind == "bracket":
+        return BEGINS_NOTHING
+    if behind[0].kind != "paren":
+        return None
+    found = repetition(behind)
+    if not found:
+        return BEGINS_NOTHING
+    return NEEDLESS_SEPARATOR if found[1] and found[2] == "?" else None
+
+
+def template_fault(trees):
+    """The first fault of a template, in reading order of its `$`."""
+    while trees:
+        first, trees = trees[0], trees[1:]
+        held, fault = (), None
+        if isinstance(first, Subtree):
+            held = first.children
+        elif is_punct((first,), "$"):
+            fault = dollar_fault(trees)
+            found = repetition(trees)
+            if found:
+                held, trees = found[0], trees[2 + len(found[1]):]
+            elif is_punct(trees, "$"):
+                trees = trees[1:]
+        fault = fault or template_fault(held)
+        if fault:
+            return fault
+    return None
 
 
 def is_arrow(trees):
@@ -297,6 +333,9 @@ def arm_at(trees, number):
         raise ArmFault(number, NO_ARROW)
     if len(trees) < 4 or not isinstance(trees[3], Subtree):
         raise ArmFault(number, NO_TEMPLATE)
+    fault = template_fault(trees[3].children)
+    if fault:
+        raise ArmFault(number, fault)
     template, left = template_of(trees[3].children, set(plain_macros.names_of(pattern))), trees[4:]
     if left and not is_punct(left, ";"):
         raise ArmFault(number, NO_SEMICOLON)

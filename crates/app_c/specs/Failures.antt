@@ -11,6 +11,8 @@ use Rattle.expand_text.specs.declared.fault.ExpandTextError.{ExpandTextError}
 use Rattle.expand_text.specs.declared.fault.ExpandTextError.TheVariants as expanding
 use Rattle.expand_text.specs.declared.fault.MacroFault.{MacroFault}
 use Rattle.expand_text.specs.declared.fault.MacroFault.TheVariants as found
+use Rattle.mbe_rules.specs.declared.error.TemplateError.{TemplateError}
+use Rattle.mbe_rules.specs.declared.error.TemplateError.TheVariants as template
 use Rattle.mbe_rules.specs.declared.rules_error.ArmFault.{ArmFault}
 use Rattle.mbe_rules.specs.declared.rules_error.ArmFault.TheVariants as arm
 use Rattle.mbe_rules.specs.declared.rules_error.ExpandError.{ExpandError}
@@ -124,12 +126,20 @@ pattern_fault (pattern.NeedlessSeparator at) = answer.NeedlessSeparator
 pattern_fault (pattern.EmptyRepetition at) = answer.EmptyRepetition
 pattern_fault pattern.Memory = answer.Memory
 
+-- the fault of a template, the same as that of a pattern
+abbrev pub template_fault : TemplateError → Fault
+template_fault (template.BeginsNothing at) = answer.BeginsNothing
+template_fault (template.NoOperator at) = answer.BeginsNothing
+template_fault (template.NeedlessSeparator at) = answer.NeedlessSeparator
+template_fault template.Memory = answer.Memory
+
 -- the fault of an arm
 abbrev pub arm_fault : ArmFault → Fault
 arm_fault (arm.NoPattern at) = answer.NoPattern
 arm_fault (arm.Pattern error) = pattern_fault error
 arm_fault (arm.NoArrow at) = answer.NoArrow
 arm_fault (arm.NoTemplate at) = answer.NoTemplate
+arm_fault (arm.Template error) = template_fault error
 arm_fault (arm.NoSemicolon at) = answer.NoSemicolon
 arm_fault arm.Memory = answer.Memory
 

@@ -1,11 +1,11 @@
 //! Why a call wrote no bytes, and where: the fault of this library for each fault of the libraries below.
 ghost use Rattle.std.specs.Prelude.{◌≡◌};
-ghost use Rattle.app_c.specs.Failures.{arm_fault, bad_token, bytes_failure, expand_failure, expand_text_failure, transcribe_fault, input_failure, limit_fault, macro_fault, pattern_fault, placeless, rules_failure, syntax_failure, text_failure, write_failure};
+ghost use Rattle.app_c.specs.Failures.{arm_fault, bad_token, bytes_failure, expand_failure, expand_text_failure, transcribe_fault, input_failure, limit_fault, macro_fault, pattern_fault, placeless, rules_failure, syntax_failure, template_fault, text_failure, write_failure};
 
 use crate::fault::Fault;
 use expand_text::{ExpandTextError, MacroFault};
 use mbe_pattern::PatternError;
-use mbe_rules::{ArmFault, ExpandError, RulesError, TranscribeError};
+use mbe_rules::{ArmFault, ExpandError, RulesError, TemplateError, TranscribeError};
 use std::alloc::AllocError;
 use syntax_parse::{BadToken, SyntaxFault, TextFault};
 use syntax_unparse::WriteFault;
@@ -175,6 +175,17 @@ fn pattern_fault(error: PatternError) -> Fault
     }
 }
 
+// Returns the fault of a template, the same as that of a pattern.
+fn template_fault(error: TemplateError) -> Fault
+    ensures { result ≡ template_fault error }
+{
+    match error {
+        TemplateError::BeginsNothing(_) | TemplateError::NoOperator(_) => Fault::BeginsNothing,
+        TemplateError::NeedlessSeparator(_) => Fault::NeedlessSeparator,
+        TemplateError::Memory => Fault::Memory,
+    }
+}
+
 // Returns the fault of an arm.
 fn arm_fault(fault: ArmFault) -> Fault
     ensures { result ≡ arm_fault fault }
@@ -184,6 +195,7 @@ fn arm_fault(fault: ArmFault) -> Fault
         ArmFault::Pattern(error) => pattern_fault(error),
         ArmFault::NoArrow(_) => Fault::NoArrow,
         ArmFault::NoTemplate(_) => Fault::NoTemplate,
+        ArmFault::Template(error) => template_fault(error),
         ArmFault::NoSemicolon(_) => Fault::NoSemicolon,
         ArmFault::Memory => Fault::Memory,
     }

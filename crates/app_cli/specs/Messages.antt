@@ -5,6 +5,8 @@ use Rattle.expand_text.specs.declared.fault.MacroFault.{MacroFault}
 use Rattle.expand_text.specs.declared.fault.MacroFault.TheVariants as wrong
 use Rattle.mbe_pattern.specs.declared.error.PatternError.{PatternError}
 use Rattle.mbe_pattern.specs.declared.error.PatternError.TheVariants as pattern
+use Rattle.mbe_rules.specs.declared.error.TemplateError.{TemplateError}
+use Rattle.mbe_rules.specs.declared.error.TemplateError.TheVariants as template
 use Rattle.mbe_rules.specs.declared.transcribe_error.TranscribeError.{TranscribeError}
 use Rattle.mbe_rules.specs.declared.transcribe_error.TranscribeError.TheVariants as filling
 use Rattle.mbe_rules.specs.declared.rules_error.ArmFault.{ArmFault}
@@ -30,12 +32,20 @@ pattern_message (pattern.NeedlessSeparator at) = codes "a `?` repetition takes n
 pattern_message (pattern.EmptyRepetition at) = codes "this repetition matches empty input"
 pattern_message pattern.Memory = codes "out of memory"
 
+-- the fault of a template
+abbrev pub template_message : TemplateError → List ℕ
+template_message (template.BeginsNothing at) = codes "expected a name, `(` or `{` after `$`"
+template_message (template.NoOperator at) = codes "expected `*`, `+` or `?`"
+template_message (template.NeedlessSeparator at) = codes "a `?` repetition takes no separator"
+template_message template.Memory = codes "out of memory"
+
 -- the fault of a rule
 abbrev pub rule_message : (name : List ℕ) (arm : ℕ) → ArmFault → List ℕ
 rule_message name arm (rule.NoPattern at) = about_rule arm name (codes " has no pattern")
 rule_message name arm (rule.Pattern error) = pattern_message error
 rule_message name arm (rule.NoArrow at) = about_rule arm name (codes " has no `=>` after its pattern")
 rule_message name arm (rule.NoTemplate at) = about_rule arm name (codes " has no template")
+rule_message name arm (rule.Template error) = template_message error
 rule_message name arm (rule.NoSemicolon at) = about_rule arm name (codes " has no `;` after it")
 rule_message name arm rule.Memory = codes "out of memory"
 

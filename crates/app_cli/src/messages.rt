@@ -1,11 +1,11 @@
 //! The messages of faults of macros, in the words of the author of the macro.
 ghost use Rattle.std.specs.Prelude.{◌≡◌, ◌++◌, ℕ, IfOk, codes, decimal, string_bytes};
 ghost use Rattle.expand_text.specs.Expecting.{rule_number};
-ghost use Rattle.app_cli.specs.Messages.{about, about_rule, definition_message, transcribe_message, message, pattern_message, size_message};
+ghost use Rattle.app_cli.specs.Messages.{about, about_rule, definition_message, transcribe_message, message, pattern_message, template_message, size_message};
 
 use expand_text::MacroFault;
 use mbe_pattern::PatternError;
-use mbe_rules::{ArmFault, RulesError, TranscribeError};
+use mbe_rules::{ArmFault, RulesError, TemplateError, TranscribeError};
 use std::alloc::{AllocError, Global};
 use tt::TtFault;
 
@@ -20,6 +20,19 @@ fn pattern_message(alloc: Global, error: PatternError) -> Result<String, AllocEr
         PatternError::NeedlessSeparator(_) => "a `?` repetition takes no separator",
         PatternError::EmptyRepetition(_) => "this repetition matches empty input",
         PatternError::Memory => "out of memory",
+    };
+    String::from_str(alloc, words)
+}
+
+// Returns the message of a fault of a template.
+fn template_message(alloc: Global, error: TemplateError) -> Result<String, AllocError>
+    ensures { IfOk result (λ text. string_bytes text ≡ template_message error) }
+{
+    let words = match error {
+        TemplateError::BeginsNothing(_) => "expected a name, `(` or `{` after `$`",
+        TemplateError::NoOperator(_) => "expected `*`, `+` or `?`",
+        TemplateError::NeedlessSeparator(_) => "a `?` repetition takes no separator",
+        TemplateError::Memory => "out of memory",
     };
     String::from_str(alloc, words)
 }
@@ -57,6 +70,7 @@ fn definition_message(alloc: Global, name: &str, error: RulesError) -> Result<St
         ArmFault::Pattern(error) => pattern_message(alloc, error),
         ArmFault::NoArrow(_) => about_rule(alloc, arm, name, " has no `=>` after its pattern"),
         ArmFault::NoTemplate(_) => about_rule(alloc, arm, name, " has no template"),
+        ArmFault::Template(error) => template_message(alloc, error),
         ArmFault::NoSemicolon(_) => about_rule(alloc, arm, name, " has no `;` after it"),
         ArmFault::Memory => String::from_str(alloc, "out of memory"),
     }

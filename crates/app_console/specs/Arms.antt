@@ -5,6 +5,8 @@ use Rattle.tt_base.specs.declared.fault.TtFault.TheVariants.{Memory, TooManyToke
 use Rattle.mbe_rules.specs.Arms.{Arm, Spell}
 use Rattle.mbe_rules.specs.Expansions.{IsExpansion, IsExpandError}
 use Rattle.mbe_rules.specs.ArmFaults.{IsRulesError}
+use Rattle.mbe_rules.specs.declared.error.TemplateError.{TemplateError}
+use Rattle.mbe_rules.specs.declared.error.TemplateError.TheVariants as template
 use Rattle.mbe_rules.specs.declared.rules_error.ArmFault.{ArmFault}
 use Rattle.mbe_rules.specs.declared.rules_error.ArmFault.TheVariants as fault
 use Rattle.mbe_rules.specs.declared.rules_error.ExpandError.{ExpandError}
@@ -26,12 +28,20 @@ pattern_number (pattern.NeedlessSeparator at) = Some 6
 pattern_number (pattern.EmptyRepetition at) = Some 7
 pattern_number pattern.Memory = None
 
+-- the number of a template's fault, that of the same fault of a pattern; exhausted memory has none
+abbrev pub template_number : TemplateError → Option ℕ
+template_number (template.BeginsNothing at) = Some 2
+template_number (template.NoOperator at) = Some 2
+template_number (template.NeedlessSeparator at) = Some 6
+template_number template.Memory = None
+
 -- the number of an arm's fault
 abbrev pub arm_fault_number : ArmFault → Option ℕ
 arm_fault_number (fault.NoPattern at) = Some 1
 arm_fault_number (fault.Pattern error) = pattern_number error
 arm_fault_number (fault.NoArrow at) = Some 8
 arm_fault_number (fault.NoTemplate at) = Some 9
+arm_fault_number (fault.Template error) = template_number error
 arm_fault_number (fault.NoSemicolon at) = Some 12
 arm_fault_number fault.Memory = None
 

@@ -1,9 +1,9 @@
 //! The numbers of the faults of a macro's arms.
 ghost use Rattle.std.specs.Prelude.{◌≡◌};
-ghost use Rattle.app_console.specs.Arms.{pattern_number, arm_fault_number};
+ghost use Rattle.app_console.specs.Arms.{pattern_number, template_number, arm_fault_number};
 
 use mbe_pattern::PatternError;
-use mbe_rules::ArmFault;
+use mbe_rules::{ArmFault, TemplateError};
 
 // Returns the number of a pattern's fault; exhausted memory has none.
 fn pattern_number(error: PatternError) -> Option<usize>
@@ -19,6 +19,17 @@ fn pattern_number(error: PatternError) -> Option<usize>
     }
 }
 
+// Returns the number of a template's fault, that of the same fault of a pattern; exhausted memory has none.
+fn template_number(error: TemplateError) -> Option<usize>
+    ensures { result ≡ template_number error }
+{
+    match error {
+        TemplateError::BeginsNothing(_) | TemplateError::NoOperator(_) => Some(2),
+        TemplateError::NeedlessSeparator(_) => Some(6),
+        TemplateError::Memory => None,
+    }
+}
+
 /// Returns the number of an arm's fault, in reading order; exhausted memory has none.
 pub(crate) fn arm_fault_number(fault: ArmFault) -> Option<usize>
     ensures { result ≡ arm_fault_number fault }
@@ -28,6 +39,7 @@ pub(crate) fn arm_fault_number(fault: ArmFault) -> Option<usize>
         ArmFault::Pattern(error) => pattern_number(error),
         ArmFault::NoArrow(_) => Some(8),
         ArmFault::NoTemplate(_) => Some(9),
+        ArmFault::Template(error) => template_number(error),
         ArmFault::NoSemicolon(_) => Some(12),
         ArmFault::Memory => None,
     }

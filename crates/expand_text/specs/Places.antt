@@ -5,6 +5,8 @@ use Rattle.tt.specs.Gluing.{after_trees}
 use Rattle.tt.specs.Span.{start_of}
 use Rattle.tt.specs.Token.{first_span}
 use Rattle.tt.specs.Types.TokenTree.{TokenTree}
+use Rattle.mbe_rules.specs.declared.error.TemplateError.{TemplateError}
+use Rattle.mbe_rules.specs.declared.error.TemplateError.TheVariants as template
 use Rattle.mbe_rules.specs.declared.rules_error.ArmFault.{ArmFault}
 use Rattle.mbe_rules.specs.declared.rules_error.ArmFault.TheVariants as fault
 use Rattle.mbe_rules.specs.declared.rules_error.RulesError.{RulesError}
@@ -38,6 +40,13 @@ pattern_place (pattern.NeedlessSeparator at) = at
 pattern_place (pattern.EmptyRepetition at) = at
 pattern_place pattern.Memory = 0
 
+-- the flat place of a template's fault
+abbrev pub spelling_place : TemplateError → ℕ
+spelling_place (template.BeginsNothing at) = at
+spelling_place (template.NoOperator at) = at
+spelling_place (template.NeedlessSeparator at) = at
+spelling_place template.Memory = 0
+
 -- the flat place of a fault of filling, if it has one
 abbrev pub fault_place : TranscribeError → ℕ
 fault_place (filling.StillRepeats at) = at
@@ -62,6 +71,7 @@ fault_byte (fault.NoArrow at) arms left behind = byte_at arms at behind
 fault_byte (fault.NoTemplate at) arms left behind = byte_at arms at behind
 fault_byte (fault.NoSemicolon at) arms left behind = byte_at arms at behind
 fault_byte (fault.Pattern why) arms left behind = byte_within left (pattern_place why) behind
+fault_byte (fault.Template why) arms left behind = byte_within (after_trees before_template left) (spelling_place why) behind
 fault_byte fault.Memory arms left behind = behind
 
 -- the byte at which the fault of a definition shows, which has these arms, and whose arms end at that byte

@@ -4,10 +4,10 @@ ghost use Rattle.tt.specs.Gluing.{after_trees};
 ghost use Rattle.tt.specs.Iters.{rest_of};
 ghost use Rattle.tt.specs.Span.{start_of};
 ghost use Rattle.tt.specs.Views.{trees_of};
-ghost use Rattle.expand_text.specs.Places.{byte_at, byte_within, pattern_place, fault_place, arm_len, definition_byte, template_byte};
+ghost use Rattle.expand_text.specs.Places.{byte_at, byte_within, pattern_place, spelling_place, fault_place, arm_len, definition_byte, template_byte};
 
 use mbe_pattern::{PatternError, pass};
-use mbe_rules::{ArmFault, ExpandError, RulesError, TranscribeError};
+use mbe_rules::{ArmFault, ExpandError, RulesError, TemplateError, TranscribeError};
 use syntax_edit::start_of;
 use tt::{TokenTreesView, TtIter};
 
@@ -55,6 +55,18 @@ fn pattern_place(error: PatternError) -> usize
     }
 }
 
+// Returns the flat place of a template's fault.
+fn spelling_place(error: TemplateError) -> usize
+    ensures { result ≡ spelling_place error }
+{
+    match error {
+        TemplateError::BeginsNothing(at)
+        | TemplateError::NoOperator(at)
+        | TemplateError::NeedlessSeparator(at) => at,
+        TemplateError::Memory => 0,
+    }
+}
+
 // Returns the flat place of a fault of filling, if it has one.
 fn fault_place(error: TranscribeError) -> usize
     ensures { result ≡ fault_place error }
@@ -89,6 +101,10 @@ pub(crate) fn definition_place(arms: TtIter<'_>, error: RulesError, behind: u32)
         | ArmFault::NoTemplate(at)
         | ArmFault::NoSemicolon(at) => start_at(arms.remaining(), at, behind),
         ArmFault::Pattern(error) => start_within(left, pattern_place(error), behind),
+        ArmFault::Template(error) => {
+            pass(&mut left, BEFORE_TEMPLATE);
+            start_within(left, spelling_place(error), behind)
+        }
         ArmFault::Memory => behind,
     }
 }

@@ -11,7 +11,7 @@ use Rattle.mbe_matcher.specs.Grouping.{Where}
 use Rattle.mbe_pattern.specs.Spelling.{Tail, is_dollar, is_crate_in}
 use Rattle.mbe_pattern.specs.Units.{is_at_punct}
 use Rattle.mbe_pattern.proofs.Passing.{after_end}
-use Rattle.mbe_rules.specs.Spelling.{last_alone, seamed, Mark, mark_from, mark_in, mark_length, part_of, variable_in, template_behind, template_until}
+use Rattle.mbe_rules.specs.Spelling.{dollar_of, last_alone, seamed, Mark, mark_from, mark_in, mark_or, mark_length, part_of, variable_in, template_behind, template_until}
 use Rattle.mbe_rules.specs.Spelling as spelling
 use Rattle.mbe_rules.specs.Templates.{Template, inner_part}
 use Rattle.mbe_rules.specs.Templates as template
@@ -22,10 +22,17 @@ no_repetition true found less_follows tail is = cc is
 no_repetition false None less_follows tail is = cc is
 no_repetition false (Some it) less_follows tail is = cc is
 
+-- Neither does a `$` before another.
+no_second : (found : Option Leaf) (other : Mark) (tail : Tail) → mark_or found other ≡ spelling.repetition tail → other ≡ spelling.repetition tail
+no_second None other tail is = is
+no_second (Some it) other tail is = absurd (cc is)
+
 -- So the first tree is a subtree.
 pub node_there : (variables : List Where) (trees : Forest) (tail : Tail) → mark_in variables trees ≡ spelling.repetition tail → is_at_node trees ≡ false → ⊥
 node_there variables end tail is none = no_repetition (is_crate_in end) (variable_in variables end) (is_at_punct (codes "<") end) tail is
-node_there variables (leaf it rest) tail is none = no_repetition (is_crate_in (leaf it rest)) (variable_in variables (leaf it rest)) (is_at_punct (codes "<") rest) tail is
+node_there variables (leaf it rest) tail is none =
+    no_repetition (is_crate_in (leaf it rest)) (variable_in variables (leaf it rest)) (is_at_punct (codes "<") rest) tail
+    (no_second (dollar_of (leaf it rest)) (mark_from None (is_crate_in (leaf it rest)) (variable_in variables (leaf it rest)) (is_at_punct (codes "<") rest)) tail is)
 node_there variables (node delimiter children rest) tail is none = cc none
 
 module _ (variables : List Where) (until : ℕ) where
@@ -62,6 +69,11 @@ module _ (variables : List Where) (until : ℕ) where
         ∙ ap₂ (λ held more. template.repetition (until - size (leaf dollar rest)) held (last_alone separator) kind more) (ap (λ t. inner_part (template_behind variables until zero t)) begins)
         (behind_passed (suc (suc (length separator))) rest ∙ ap (λ t. template_until variables until (after_trees (suc (suc (length separator))) t)) begins
         ∙ ap (template_until variables until) (sym left))
+
+    pub marked_second : (it : Leaf) (behind : Forest) → mark_in variables rest ≡ spelling.second it → behind ≡ after_tree rest
+        → template_until variables until (leaf dollar rest) ≡ template.token it (template_until variables until behind)
+    marked_second it behind same left =
+        marked (spelling.second it) same ∙ ap (template.token it) (behind_passed 1 rest ∙ ap (template_until variables until) (sym left))
 
     pub marked_nothing : mark_in variables rest ≡ spelling.nothing → template_until variables until (leaf dollar rest) ≡ template.token dollar (template_until variables until rest)
     marked_nothing same = marked spelling.nothing same

@@ -16,6 +16,8 @@ pub mod Rows
 pub mod Scans
 pub mod Seeing
 pub mod Showing
+pub mod SpellingFaults
+pub mod SpellingRows
 pub mod Stepping
 pub mod Validates
 pub mod Waiting

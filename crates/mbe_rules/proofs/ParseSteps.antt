@@ -1,5 +1,5 @@
 -- Part by part, what is left of a template is cut, and becomes less.
-use Rattle.std.proofs.Common.{◌≡◌, ◌+◌, ◌*◌, ◌<◌, ℕ, suc, List, [], ◌∷◌, ◌++◌, map, Option, ap, sym, ◌∙◌, arith, append_assoc}
+use Rattle.std.proofs.Common.{◌≡◌, ◌+◌, ◌*◌, ◌<◌, ℕ, suc, List, [], ◌∷◌, ◌++◌, map, Option, Some, None, refl, ap, sym, ◌∙◌, arith, append_assoc}
 use Rattle.std.proofs.lemmas.List.{reverse-append}
 use Rattle.mbe_pattern.specs.declared.dollar.Tail.{Tail}
 use Rattle.mbe_matcher.specs.Grouping.{Where}
@@ -7,7 +7,10 @@ use Rattle.mbe_rules.specs.declared.parse.Level.{Level}
 use Rattle.mbe_rules.specs.declared.first.First.{First}
 use Rattle.mbe_rules.specs.declared.first.First.TheVariants as first
 use Rattle.mbe_rules.specs.Parts.{Bit, bits_of}
-use Rattle.mbe_rules.specs.Stepping.{IsFirst, LevelLeft, level_of, level_left, levels_left, end_bit, bits_left, stepped}
+use Rattle.mbe_rules.specs.declared.error.TemplateError.{TemplateError}
+use Rattle.mbe_rules.specs.declared.error.TemplateError.TheVariants as error
+use Rattle.mbe_rules.specs.SpellingFaults.{or_else, IsFault}
+use Rattle.mbe_rules.specs.Stepping.{IsFirst, LevelLeft, level_of, level_left, levels_left, end_bit, bits_left, stepped, level_fault, fault_in, fault_left}
 use Rattle.mbe_rules.specs.Templates.{Template, nothing, use_of, token, subtree, repetition}
 
 -- how many parts a template has, at any depth
@@ -53,3 +56,24 @@ module _ (variables : List Where) (whole others : Template) (closing : Option Ta
   whole_step bits all found is before =
       let step = stepped variables found (level_of others closing) outer in
       append_assoc bits (step.bit ∷ []) (bits_left step.levels) ∙ ap (λ l. bits ++ l) (left_step found is) ∙ before
+
+-- The fault of the innermost level comes first.
+pub fault_last : (its : List Level) (it : Level) → fault_left (its ++ it ∷ []) ≡ or_else (level_fault it) (fault_left its)
+fault_last its it = ap fault_in (reverse-append its (it ∷ []))
+
+-- So it does if there are two.
+pub fault_two : (its : List Level) (outer inner : Level)
+    → fault_left ((its ++ outer ∷ []) ++ inner ∷ []) ≡ or_else (or_else (level_fault inner) (level_fault outer)) (fault_left its)
+fault_two its outer inner = fault_last (its ++ outer ∷ []) inner ∙ ap (or_else (level_fault inner)) (fault_last its outer) ∙ by (level_fault inner)
+  where
+    by : (it : Option TemplateError) → or_else it (or_else (level_fault outer) (fault_left its)) ≡ or_else (or_else it (level_fault outer)) (fault_left its)
+    by None = refl
+    by (Some why) = refl
+
+-- A fault of the innermost level is the first.
+pub fault_first : (levels : List Level) (level : Level) (why : TemplateError) (all : Option TemplateError)
+    → IsFault (level_fault level) why → fault_left (levels ++ level ∷ []) ≡ all → IsFault all why
+fault_first levels level error.Memory all is same = tt
+fault_first levels level (error.BeginsNothing at) all is same = sym same ∙ fault_last levels level ∙ ap (λ f. or_else f (fault_left levels)) is
+fault_first levels level (error.NoOperator at) all is same = sym same ∙ fault_last levels level ∙ ap (λ f. or_else f (fault_left levels)) is
+fault_first levels level (error.NeedlessSeparator at) all is same = sym same ∙ fault_last levels level ∙ ap (λ f. or_else f (fault_left levels)) is

@@ -13,11 +13,14 @@ use Rattle.tt.specs.Types.TtIter.{TtIter}
 use Rattle.mbe_pattern.specs.declared.error.PatternError.{PatternError}
 use Rattle.mbe_pattern.specs.declared.error.PatternError.TheVariants as pattern
 use Rattle.mbe_pattern.specs.Faults.{pattern_fault, IsPatternError}
+use Rattle.mbe_rules.specs.declared.error.TemplateError.{TemplateError}
+use Rattle.mbe_rules.specs.declared.error.TemplateError.TheVariants as template
 use Rattle.mbe_rules.specs.declared.rules_error.ArmFault.{ArmFault}
 use Rattle.mbe_rules.specs.declared.rules_error.ArmFault.TheVariants as fault
 use Rattle.mbe_rules.specs.Arms.{Arm, IsArm, IsBehind}
 use Rattle.mbe_rules.specs.Arrows.{is_arrow_in, is_semicolon_in}
-use Rattle.mbe_rules.specs.ArmFaults.{of_pattern, or_else, place, template_fault_in, arrow_fault, semicolon_fault, behind_arm, body_fault, arm_fault, IsArmFault}
+use Rattle.mbe_rules.specs.ArmFaults.{of_pattern, of_template, or_else, place, template_fault_in, arrow_fault, semicolon_fault, behind_arm, body_fault, arm_fault, IsArmFault}
+use Rattle.mbe_rules.specs.SpellingFaults.{spelling_fault, IsTemplateError}
 
 -- A first subtree, and what follows it.
 pub node_first : (trees : Forest) (header : Subtree) (below : TtIter) → IsFirstSubtree trees header below → trees ≡ node header.delimiter (rest_of below) (after_tree trees)
@@ -71,9 +74,19 @@ module _ (until : ℕ) (trees : Forest) (outer : Delimiter) (held between : Fore
           by (node delimiter children rest) none = absurd (cc none)
 
       module _ (inner : Delimiter) (body rest : Forest) (ends : after_trees 2 between ≡ node inner body rest) where
+        held_is : body_fault until trees ≡ option_map of_template (spelling_fault body)
+        held_is = template_is ∙ ap (template_fault_in until) ends
+
         -- There is no fault up to its end.
-        pub body_sound : body_fault until trees ≡ None
-        body_sound = template_is ∙ ap (template_fault_in until) ends
+        pub body_sound : spelling_fault body ≡ None → body_fault until trees ≡ None
+        body_sound is = held_is ∙ ap (option_map of_template) is
+
+        -- Its template has a fault.
+        pub template_wrong : (error : TemplateError) → IsTemplateError body error → IsArmFault (body_fault until trees) (of_template error)
+        template_wrong template.Memory is = tt
+        template_wrong (template.BeginsNothing at) is = held_is ∙ ap (option_map of_template) is
+        template_wrong (template.NoOperator at) is = held_is ∙ ap (option_map of_template) is
+        template_wrong (template.NeedlessSeparator at) is = held_is ∙ ap (option_map of_template) is
 
         pub behind_same : behind_arm trees ≡ rest
         behind_same = ap behind_arm begins ∙ ap after_tree ends
@@ -85,12 +98,13 @@ body_wrong until trees (fault.NoPattern at) is = ap (λ f. or_else f (semicolon_
 body_wrong until trees (fault.Pattern it) is = ap (λ f. or_else f (semicolon_fault until (behind_arm trees))) is
 body_wrong until trees (fault.NoArrow at) is = ap (λ f. or_else f (semicolon_fault until (behind_arm trees))) is
 body_wrong until trees (fault.NoTemplate at) is = ap (λ f. or_else f (semicolon_fault until (behind_arm trees))) is
+body_wrong until trees (fault.Template it) is = ap (λ f. or_else f (semicolon_fault until (behind_arm trees))) is
 body_wrong until trees (fault.NoSemicolon at) is = ap (λ f. or_else f (semicolon_fault until (behind_arm trees))) is
 
 module _ (until : ℕ) (trees : Forest) (arm : Arm) (rest : Forest) (is : IsArm trees arm rest) where
   -- An arm is sound up to the end of its template.
   arm_body : body_fault until trees ≡ None
-  arm_body = body_sound until trees is.outer is.pattern is.between is.begins is.sound_pattern is.arrow arm.delimiter is.template rest is.ends
+  arm_body = body_sound until trees is.outer is.pattern is.between is.begins is.sound_pattern is.arrow arm.delimiter is.template rest is.ends is.sound_template
 
   arm_behind : behind_arm trees ≡ rest
   arm_behind = behind_same until trees is.outer is.pattern is.between is.begins is.sound_pattern is.arrow arm.delimiter is.template rest is.ends

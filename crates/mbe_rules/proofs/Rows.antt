@@ -90,9 +90,12 @@ underscore_stays = refl
 last_stays : template_of variables (alone 36 end) ≡ dollar_leaf nothing
 last_stays = refl
 
--- `$$x` is `$`, and a use.
-second_used : template_of variables (alone 36 (alone 36 (word x end))) ≡ dollar_leaf (use_of 1 1 false nothing)
-second_used = refl
+-- `$$x` is `$`, and `x`; the third `$` of `$$$x` begins a use.
+second_written : template_of variables (alone 36 (alone 36 (word x end))) ≡ dollar_leaf (token (ident x) nothing)
+second_written = refl
+
+third_used : template_of variables (alone 36 (alone 36 (alone 36 (word x end)))) ≡ dollar_leaf (use_of 2 1 false nothing)
+third_used = refl
 
 -- `$($y),*`, `$($y)+` and `$($y)$*`; `$($y)` is no repetition, and neither is `$[$y]*`.
 list_spelled : template_of variables (rounds (alone 36 (word y end)) (alone 44 (alone 42 (word x end))))

@@ -7,15 +7,23 @@ use Rattle.tt.specs.Siblings.{is_end}
 use Rattle.mbe_pattern.specs.declared.error.PatternError.{PatternError}
 use Rattle.mbe_pattern.specs.declared.error.PatternError.TheVariants as pattern
 use Rattle.mbe_pattern.specs.Faults.{pattern_fault}
+use Rattle.mbe_rules.specs.declared.error.TemplateError.{TemplateError}
+use Rattle.mbe_rules.specs.declared.error.TemplateError.TheVariants as template
 use Rattle.mbe_rules.specs.declared.rules_error.ArmFault.{ArmFault}
 use Rattle.mbe_rules.specs.declared.rules_error.ArmFault.TheVariants as fault
 use Rattle.mbe_rules.specs.declared.rules_error.RulesError.{RulesError}
 use Rattle.mbe_rules.specs.Arrows.{is_arrow_in, is_semicolon_in}
+use Rattle.mbe_rules.specs.SpellingFaults.{spelling_fault}
 
 -- a pattern's fault, as a fault of its arm
 abbrev pub of_pattern : PatternError → ArmFault
 of_pattern pattern.Memory = fault.Memory
 of_pattern other = fault.Pattern other
+
+-- a template's fault, as a fault of its arm
+abbrev pub of_template : TemplateError → ArmFault
+of_template template.Memory = fault.Memory
+of_template other = fault.Template other
 
 -- the first, or otherwise the other
 abbrev pub or_else : Option ArmFault → Option ArmFault → Option ArmFault
@@ -30,7 +38,7 @@ place until trees = until - size trees
 abbrev pub template_fault_in : (until : ℕ) → Forest → Option ArmFault
 template_fault_in until end = Some (fault.NoTemplate (place until end))
 template_fault_in until (leaf it rest) = Some (fault.NoTemplate (place until (leaf it rest)))
-template_fault_in until (node delimiter children rest) = None
+template_fault_in until (node delimiter children rest) = option_map of_template (spelling_fault children)
 
 -- what is wrong after a pattern
 abbrev pub arrow_fault : (until : ℕ) → Forest → Option ArmFault

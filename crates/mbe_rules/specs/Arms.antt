@@ -9,6 +9,7 @@ use Rattle.mbe_pattern.specs.Faults.{pattern_fault}
 use Rattle.mbe_pattern.specs.Patterns.{Pattern}
 use Rattle.mbe_pattern.specs.Placed.{pattern_of}
 use Rattle.mbe_rules.specs.Spelling.{template_of}
+use Rattle.mbe_rules.specs.SpellingFaults.{spelling_fault}
 use Rattle.mbe_rules.specs.Templates.{Template}
 use Rattle.mbe_rules.specs.Arrows.{is_arrow_in, is_semicolon_in}
 
@@ -22,8 +23,8 @@ pub record Arm : Type 0 where
 abbrev pub variables : Pattern → List Where
 variables pattern = variables_of pattern 1
 
--- the trees begin with an arm: a subtree that holds its pattern, which is sound, `=>`, and a subtree that holds its template; the rest
--- follows it
+-- the trees begin with an arm: a subtree that holds its pattern, `=>`, and a subtree that holds its template, both of which are sound; the
+-- rest follows it
 pub record IsArm (trees : Forest) (arm : Arm) (rest : Forest) : Type 0 where
   pub outer : Delimiter
   pub pattern : Forest
@@ -35,6 +36,7 @@ pub record IsArm (trees : Forest) (arm : Arm) (rest : Forest) : Type 0 where
   pub is_pattern : arm.pattern ≡ pattern_of pattern
   pub is_template : arm.template ≡ template_of (variables arm.pattern) template
   pub sound_pattern : pattern_fault pattern ≡ None
+  pub sound_template : spelling_fault template ≡ None
 
 -- after an arm comes the end, or `;` and other trees
 abbrev pub IsBehind : (rest others : Forest) → Type 0

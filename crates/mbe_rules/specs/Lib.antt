@@ -14,6 +14,7 @@ pub mod Parts
 pub mod Results
 pub mod Rounds
 pub mod Spelling
+pub mod SpellingFaults
 pub mod Filling
 pub mod Stepping
 pub mod Templates

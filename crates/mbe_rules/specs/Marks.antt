@@ -8,4 +8,5 @@ use Rattle.mbe_rules.specs.Spelling as spelling
 abbrev pub mark_of : Mark → spelling.Mark
 mark_of (mark.Use variable less_follows) = spelling.use_of variable less_follows
 mark_of (mark.Repetition tail) = spelling.repetition (tail_of tail)
+mark_of (mark.Second it) = spelling.second it
 mark_of mark.Nothing = spelling.nothing

@@ -29,7 +29,19 @@ variable_in variables siblings = variable_from variables (first_leaf_as as_ident
 pub data Mark : Type 0 where
   use_of : (variable : ℕ) → (less_follows : Bool) → Mark
   repetition : Tail → Mark
+  second : Leaf → Mark
   nothing : Mark
+
+-- the first tree, if it is a `$`
+abbrev pub dollar_of : Forest → Option Leaf
+dollar_of end = None
+dollar_of (leaf it rest) = if is_dollar it then Some it else None
+dollar_of (node delimiter children rest) = None
+
+-- another `$`; otherwise that mark
+abbrev pub mark_or : Option Leaf → Mark → Mark
+mark_or (Some it) other = second it
+mark_or None other = other
 
 -- a repetition; otherwise a use of a variable, unless it is `$crate`; otherwise nothing
 abbrev pub mark_from : Option Tail → (crate_there : Bool) → Option ℕ → (less_follows : Bool) → Mark
@@ -41,12 +53,14 @@ mark_from None false None less_follows = nothing
 -- what a `$` before these siblings begins
 abbrev pub mark_in : List Where → Forest → Mark
 mark_in variables siblings =
-    mark_from (repetition_in siblings) (is_crate_in siblings) (variable_in variables siblings) (is_at_punct (codes "<") (after_tree siblings))
+    mark_or (dollar_of siblings)
+    (mark_from (repetition_in siblings) (is_crate_in siblings) (variable_in variables siblings) (is_at_punct (codes "<") (after_tree siblings)))
 
--- how many trees belong to the mark: a name, or parentheses and a tail
+-- how many trees belong to the mark: a name, parentheses and a tail, or another `$`
 abbrev pub mark_length : Mark → ℕ
 mark_length (use_of variable less_follows) = 1
 mark_length (repetition tail) = suc (tail_length tail)
+mark_length (second it) = 1
 mark_length nothing = 0
 
 -- the leaves; the last does not form one token with what follows
@@ -65,10 +79,11 @@ is_dollar_in (node delimiter children rest) = false
 abbrev pub seamed : Leaf → Forest → Leaf
 seamed it rest = if is_dollar_in rest then leaf_alone it else it
 
--- the part that a `$` at that flat place begins, before what follows; if it begins nothing, it is a literal token
+-- the part that a `$` at that flat place begins, before what follows; `$$` is a literal `$`, and a `$` that begins nothing is one, too
 abbrev pub part_of : (at : ℕ) → Leaf → Mark → (held others : Template) → Template
 part_of at it (use_of variable less_follows) held others = template.use_of at variable less_follows others
 part_of at it (repetition tail) held others = template.repetition at held (last_alone tail.separator) tail.kind others
+part_of at it (second other) held others = template.token other others
 part_of at it nothing held others = template.token it others
 
 -- the template that trees spell after the first `passed` of them, which belong to an earlier part; `until`

@@ -7,8 +7,10 @@ use Rattle.mbe_rules.specs.declared.parse.Parser.{Parser}
 use Rattle.mbe_rules.specs.declared.parse.Level.{Level}
 use Rattle.mbe_rules.specs.declared.first.First.{First}
 use Rattle.mbe_rules.specs.declared.first.First.TheVariants as first
+use Rattle.mbe_rules.specs.declared.error.TemplateError.{TemplateError}
 use Rattle.mbe_rules.specs.Parts.{Bit, uses, same, enter, leave, begin, close, bits_of, bit_of}
 use Rattle.mbe_rules.specs.Spelling.{template_until}
+use Rattle.mbe_rules.specs.SpellingFaults.{or_else, fault_until}
 use Rattle.mbe_rules.specs.Templates.{Template}
 use Rattle.mbe_rules.specs.Templates as template
 
@@ -20,6 +22,27 @@ IsFirst variables whole (first.Token it) others = whole ≡ template.token it ot
 IsFirst variables whole (first.Subtree delimiter inner until) others = whole ≡ template.subtree delimiter (template_until variables until (rest_of inner)) others
 IsFirst variables whole (first.Repetition at inner until tail) others =
     whole ≡ template.repetition at (template_until variables until (rest_of inner)) tail.separator.items tail.kind others
+
+-- the first fault of what the part holds, or otherwise that of what follows it
+abbrev pub fault_from : First → Option TemplateError → Option TemplateError
+fault_from first.End other = None
+fault_from (first.Use at variable less_follows) other = other
+fault_from (first.Token it) other = other
+fault_from (first.Subtree delimiter inner until) other = or_else (fault_until until (rest_of inner)) other
+fault_from (first.Repetition at inner until tail) other = or_else (fault_until until (rest_of inner)) other
+
+-- the first fault of what is left of a level
+abbrev pub level_fault : Level → Option TemplateError
+level_fault level = fault_until level.until (rest_of level.rest)
+
+-- the first fault of what is left of the levels, the innermost of which is first
+abbrev pub fault_in : List Level → Option TemplateError
+fault_in [] = None
+fault_in (level ∷ outer) = or_else (level_fault level) (fault_in outer)
+
+-- the same, if the innermost is last
+abbrev pub fault_left : List Level → Option TemplateError
+fault_left levels = fault_in (reverse levels)
 
 -- what is left of a subtree or a repetition, and how it is closed
 pub record LevelLeft : Type 0 where

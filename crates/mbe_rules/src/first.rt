@@ -1,15 +1,18 @@
 //! Reads a template's trees, part by part.
-ghost use Rattle.std.specs.Prelude.{◌≡◌, ◌-◌, ◌∷◌, [], true, map, IfOk};
+ghost use Rattle.std.specs.Prelude.{◌≡◌, ◌∷◌, [], true, None, map, IfOk, IfErr};
 ghost use Rattle.std.specs.List.{position};
-ghost use Rattle.tt.specs.Forest.{leaf, size};
+ghost use Rattle.tt.specs.Forest.{leaf};
 ghost use Rattle.tt.specs.Iters.{rest_of};
 ghost use Rattle.mbe_pattern.specs.Spelling.{is_dollar};
 ghost use Rattle.mbe_matcher.specs.Binders.{where_of};
-ghost use Rattle.mbe_rules.specs.Spelling.{template_until, has_name, variable_in, mark_in};
-ghost use Rattle.mbe_rules.specs.Stepping.{IsFirst};
+ghost use Rattle.mbe_rules.specs.Spelling.{template_until, dollar_of, has_name, variable_in, mark_in};
+ghost use Rattle.mbe_rules.specs.SpellingFaults.{dollar_fault, fault_until, IsFault};
+ghost use Rattle.mbe_rules.specs.Stepping.{IsFirst, fault_from};
 ghost use Rattle.mbe_rules.specs.Marks.{mark_of};
 
+use crate::error::TemplateError;
 use crate::seams::{last_alone, seamed};
+use crate::spelling_fault::{dollar_fault, place_before};
 use mbe_matcher::Binder;
 use mbe_pattern::{Tail, is_at_punct, is_crate_in, is_dollar, pass, repetition_in};
 use std::alloc::{AllocError, Global};
@@ -32,6 +35,8 @@ pub(crate) enum First<'t> {
 pub(crate) enum Mark {
     Use(usize, bool),
     Repetition(Tail),
+    /// Another `$`.
+    Second(Leaf),
     Nothing,
 }
 
@@ -57,10 +62,23 @@ fn variable_in(binders: &[Binder], mut siblings: TtIter<'_>) -> Option<usize>
     named(binders, &ident.sym)
 }
 
+// Returns the first tree, if it is a `$`.
+fn dollar_of(mut siblings: TtIter<'_>) -> Option<Leaf>
+    ensures { result ≡ dollar_of (rest_of siblings.entry) }
+{
+    match siblings.next() {
+        Some(TtElement::Leaf(leaf)) if is_dollar(&leaf) => Some(leaf),
+        _ => None,
+    }
+}
+
 // Returns what a `$` before these siblings begins.
 fn mark_in(alloc: Global, binders: &[Binder], siblings: TtIter<'_>) -> Result<Mark, AllocError>
     ensures { IfOk result (λ mark. mark_of mark ≡ mark_in (map where_of binders.now) (rest_of siblings.entry)) }
 {
+    if let Some(second) = dollar_of(siblings.remaining().iter()) {
+        return Ok(Mark::Second(second));
+    }
     if let Some(tail) = repetition_in(alloc, siblings.remaining().iter())? {
         return Ok(Mark::Repetition(tail));
     }
@@ -75,14 +93,7 @@ fn mark_in(alloc: Global, binders: &[Binder], siblings: TtIter<'_>) -> Result<Ma
     }
 }
 
-// Returns the flat place before these trees, given the place after the last of them.
-fn place_before(until: usize, trees: &TtIter<'_>) -> usize
-    ensures { result ≡ until - size (rest_of trees.now) }
-{
-    until.saturating_sub(trees.remaining().len())
-}
-
-// Reads the part that a `$` begins. The siblings follow the `$` and end before that flat place.
+// Reads the part that a `$` begins, which is sound. The siblings follow the `$` and end before that flat place.
 fn marked_part<'t>(
     alloc: Global,
     binders: &[Binder],
@@ -90,8 +101,10 @@ fn marked_part<'t>(
     dollar: Leaf,
     siblings: &mut TtIter<'t>,
 ) -> Result<First<'t>, AllocError>
-    requires { is_dollar dollar ≡ true }
-    ensures { IfOk result (λ part. IsFirst (map where_of binders.now) (template_until (map where_of binders.now) until (leaf dollar (rest_of siblings.old))) part (template_until (map where_of binders.now) until (rest_of siblings.new))) }
+    requires dollar { is_dollar dollar ≡ true }
+    requires sound { dollar_fault until (rest_of siblings.now) ≡ None }
+    ensures part { IfOk result (λ part. IsFirst (map where_of binders.now) (template_until (map where_of binders.now) until (leaf dollar (rest_of siblings.old))) part (template_until (map where_of binders.now) until (rest_of siblings.new))) }
+    ensures fault { IfOk result (λ part. fault_until until (leaf dollar (rest_of siblings.old)) ≡ fault_from part (fault_until until (rest_of siblings.new))) }
 {
     let at = place_before(until, siblings).saturating_sub(1);
     match mark_in(alloc, binders, siblings.remaining().iter())? {
@@ -110,18 +123,25 @@ fn marked_part<'t>(
             }
             Err(()) => unreachable!(),
         },
+        Mark::Second(second) => {
+            siblings.next();
+            Ok(First::Token(second))
+        }
         Mark::Nothing => Ok(First::Token(dollar)),
     }
 }
 
-/// Reads and passes the first part of the template that these trees spell. They end before that flat place.
+/// Reads and passes the first part of the template that these trees spell. They end before that flat place. Returns the fault of a `$`
+/// that comes first; fails also if memory runs out.
 pub(crate) fn next_part<'t>(
     alloc: Global,
     binders: &[Binder],
     until: usize,
     trees: &mut TtIter<'t>,
-) -> Result<First<'t>, AllocError>
-    ensures { IfOk result (λ part. IsFirst (map where_of binders.now) (template_until (map where_of binders.now) until (rest_of trees.old)) part (template_until (map where_of binders.now) until (rest_of trees.new))) }
+) -> Result<First<'t>, TemplateError>
+    ensures part { IfOk result (λ part. IsFirst (map where_of binders.now) (template_until (map where_of binders.now) until (rest_of trees.old)) part (template_until (map where_of binders.now) until (rest_of trees.new))) }
+    ensures fault { IfOk result (λ part. fault_until until (rest_of trees.old) ≡ fault_from part (fault_until until (rest_of trees.new))) }
+    ensures err { IfErr result (IsFault (fault_until until (rest_of trees.old))) }
 {
     match trees.next() {
         None => Ok(First::End),
@@ -130,11 +150,14 @@ pub(crate) fn next_part<'t>(
             Ok(First::Subtree(header.delimiter, inner, inside))
         }
         Some(TtElement::Leaf(leaf)) => {
-            if is_dollar(&leaf) {
-                let part = marked_part(alloc, binders, until, leaf, trees)?;
-                return Ok(part);
+            if !is_dollar(&leaf) {
+                return Ok(First::Token(seamed(leaf, trees.remaining().iter())));
             }
-            Ok(First::Token(seamed(leaf, trees.remaining().iter())))
+            if let Some(fault) = dollar_fault(alloc, until, trees.remaining().iter())? {
+                return Err(fault);
+            }
+            let part = marked_part(alloc, binders, until, leaf, trees)?;
+            Ok(part)
         }
     }
 }

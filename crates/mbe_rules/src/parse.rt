@@ -1,12 +1,14 @@
 //! Cuts a template's trees into parts.
-ghost use Rattle.std.specs.Prelude.{◌≡◌, ◌++◌, ◌∷◌, [], List, map, IfOk, OnOk};
+ghost use Rattle.std.specs.Prelude.{◌≡◌, ◌++◌, ◌∷◌, [], List, None, map, IfOk, IfErr, OnOk};
 ghost use Rattle.tt.specs.Iters.{rest_of};
 ghost use Rattle.mbe_matcher.specs.Grouping.{Where};
 ghost use Rattle.mbe_matcher.specs.Binders.{where_of};
 ghost use Rattle.mbe_rules.specs.Parts.{bit_of, all_bits};
 ghost use Rattle.mbe_rules.specs.Spelling.{template_of};
-ghost use Rattle.mbe_rules.specs.Stepping.{end_bit, level_left, levels_left, stepped, IsStepped};
+ghost use Rattle.mbe_rules.specs.SpellingFaults.{or_else, spelling_fault, IsTemplateError};
+ghost use Rattle.mbe_rules.specs.Stepping.{end_bit, level_left, levels_left, stepped, IsStepped, fault_from, level_fault, fault_left};
 
+use crate::error::TemplateError;
 use crate::first::{First, next_part};
 use crate::parts::Part;
 use mbe_matcher::Binder;
@@ -60,7 +62,8 @@ impl<'t> Parser<'t> {
 
     // Takes what was read from a level.
     fn take(&mut self, level: Level<'t>, first: First<'t>) -> Result<(), AllocError>
-        ensures { OnOk result ((variables : List Where) → IsStepped variables (stepped variables first.entry (level_left variables level.entry) (levels_left variables self.old.levels.items)) self.old self.new) }
+        ensures step { OnOk result ((variables : List Where) → IsStepped variables (stepped variables first.entry (level_left variables level.entry) (levels_left variables self.old.levels.items)) self.old self.new) }
+        ensures fault { OnOk result (fault_left self.new.levels.items ≡ or_else (fault_from first.entry (level_fault level.entry)) (fault_left self.old.levels.items)) }
     {
         match first {
             First::End => Ok(self.parts.push(end_of(level.closing))?),
@@ -88,13 +91,15 @@ impl<'t> Parser<'t> {
     }
 }
 
-/// Returns the parts of the template that the trees spell.
+/// Returns the parts of the template that the trees spell. Returns the first fault in reading order; fails also if memory runs out.
 pub(crate) fn parse(
     alloc: Global,
     binders: &[Binder],
     trees: TtIter<'_>,
-) -> Result<Vec<Part>, AllocError>
-    ensures { IfOk result (λ parts. map bit_of parts.items ≡ all_bits (template_of (map where_of binders.now) (rest_of trees.entry))) }
+) -> Result<Vec<Part>, TemplateError>
+    ensures ok { IfOk result (λ parts. map bit_of parts.items ≡ all_bits (template_of (map where_of binders.now) (rest_of trees.entry))) }
+    ensures sound { OnOk result (spelling_fault (rest_of trees.entry) ≡ None) }
+    ensures err { IfErr result (IsTemplateError (rest_of trees.entry)) }
 {
     let until = trees.remaining().len();
     let mut parser = Parser {

@@ -1,8 +1,8 @@
 //! Why trees are no macro, and why one does not expand.
 ghost use Rattle.std.specs.Prelude.{◌≡◌};
 ghost use Rattle.mbe_pattern.specs.declared.error.PatternError.{PatternError};
-ghost use Rattle.mbe_rules.specs.ArmFaults.{of_pattern};
-ghost use Rattle.mbe_rules.specs.declared.rules_error.ArmFault.TheVariants.{Memory};
+ghost use Rattle.mbe_rules.specs.declared.error.TemplateError.{TemplateError};
+ghost use Rattle.mbe_rules.specs.ArmFaults.{of_pattern, of_template};
 
 use crate::error::TemplateError;
 use crate::transcribe_error::TranscribeError;
@@ -11,7 +11,7 @@ use std::alloc::{AllocError, AllocFailed};
 use thiserror::Error;
 
 /// What is wrong with an arm. A number is a flat place among the trees of all arms: how many tokens, at any depth, precede the fault. In
-/// the fault of a pattern it is counted from the beginning of that pattern.
+/// the fault of a pattern or a template it is counted from the beginning of that pattern or template.
 #[derive(Debug, Clone, Copy, PartialEq, Eq, Error)]
 pub enum ArmFault {
     /// There is no subtree in the place of a pattern.
@@ -26,6 +26,9 @@ pub enum ArmFault {
     /// There is no subtree in the place of a template.
     #[error("there is no template")]
     NoTemplate(usize),
+    /// The template has a fault.
+    #[error("{0}")]
+    Template(TemplateError),
     /// After the template comes neither the end nor `;`.
     #[error("there is no `;` behind the template")]
     NoSemicolon(usize),
@@ -62,9 +65,12 @@ impl From<PatternError> for ArmFault {
 }
 
 impl From<TemplateError> for ArmFault {
-    ghost from_gives = { λ _ fault. fault ≡ Memory };
+    ghost from_gives = { λ error fault. fault ≡ of_template error };
 
-    fn from(_error: TemplateError) -> ArmFault {
-        ArmFault::Memory
+    fn from(error: TemplateError) -> ArmFault {
+        match error {
+            TemplateError::Memory => ArmFault::Memory,
+            other => ArmFault::Template(other),
+        }
     }
 }

@@ -1,5 +1,5 @@
 //! Templates of macros.
-ghost use Rattle.std.specs.Prelude.{◌≡◌, None, map, IfOk, IfErr};
+ghost use Rattle.std.specs.Prelude.{◌≡◌, None, map, IfOk, IfErr, OnOk};
 ghost use Rattle.tt.specs.Forest.{size};
 ghost use Rattle.tt.specs.Iters.{rest_of};
 ghost use Rattle.tt.specs.Stored.{IsWithinLimits};
@@ -10,6 +10,7 @@ ghost use Rattle.mbe_rules.specs.Limits.{IsWithin};
 ghost use Rattle.mbe_rules.specs.Faults.{template_fault};
 ghost use Rattle.mbe_rules.specs.Transcribing.{transcribed};
 ghost use Rattle.mbe_rules.specs.Spelling.{template_of};
+ghost use Rattle.mbe_rules.specs.SpellingFaults.{spelling_fault, IsTemplateError};
 ghost use Rattle.mbe_rules.specs.Wholes.{AreWhole};
 
 use crate::error::TemplateError;
@@ -35,15 +36,19 @@ impl Template {
     /// Returns the template that the trees spell; the variables are those of a pattern.
     ///
     /// `$name` is a use of the first variable of that name, raw or not. `$( .. )`, with a separator if there is one, and `*`, `+` or `?` is
-    /// a repetition. Everything else is written as it is, also `$crate` and a `$` before a name that no variable has.
+    /// a repetition. `$$` is a `$`. Everything else is written as it is, also `$crate` and a `$` before a name that no variable has. But a `$` before a
+    /// literal, a punct other than `$`, or brackets `[ .. ]` is a fault. So is `$( .. )` without `*`, `+` or `?`, or with a separator and `?`.
     ///
-    /// Time is linear in the number of trees times the number of variables, and memory in the number of trees. Fails only if memory runs out.
+    /// Time is linear in the number of trees times the number of variables, and memory in the number of trees. Returns the first fault in
+    /// reading order; fails also if memory runs out.
     pub fn new(
         alloc: Global,
         binders: &[Binder],
         trees: TtIter<'_>,
     ) -> Result<Template, TemplateError>
-        ensures { IfOk result (λ it. meant it ≡ template_of (map where_of binders.now) (rest_of trees.entry)) }
+        ensures ok { IfOk result (λ it. meant it ≡ template_of (map where_of binders.now) (rest_of trees.entry)) }
+        ensures sound { OnOk result (spelling_fault (rest_of trees.entry) ≡ None) }
+        ensures err { IfErr result (IsTemplateError (rest_of trees.entry)) }
     {
         let parts = parse(alloc, binders, trees)?;
         Ok(Template { parts })

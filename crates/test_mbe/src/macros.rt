@@ -2,7 +2,7 @@
 use crate::texts::{holds, tree_of};
 use crate::written::written;
 use mbe_pattern::PatternError;
-use mbe_rules::{ArmFault, ExpandError, Expansion, MacroRules, TranscribeError};
+use mbe_rules::{ArmFault, ExpandError, Expansion, MacroRules, TemplateError, TranscribeError};
 use std::alloc::Global;
 use std::test::Fail;
 
@@ -310,6 +310,7 @@ fn kind_of(fault: ArmFault) -> (&'static str, usize) {
         ArmFault::Pattern(error) => pattern_kind(error),
         ArmFault::NoArrow(at) => ("no arrow", at),
         ArmFault::NoTemplate(at) => ("no template", at),
+        ArmFault::Template(error) => template_kind(error),
         ArmFault::NoSemicolon(at) => ("no semicolon", at),
         ArmFault::Memory => ("memory", 0),
     }
@@ -327,9 +328,19 @@ fn pattern_kind(error: PatternError) -> (&'static str, usize) {
     }
 }
 
-// Faults, with the number of the arm and the place: the place is among all trees for the form of an arm, and in a pattern for its own
-// fault. A pattern's fault comes before that of the arrow after it.
-const FAULTS: [(&str, usize, &str, usize); 16] = [
+// Returns the same for the fault of a template.
+fn template_kind(error: TemplateError) -> (&'static str, usize) {
+    match error {
+        TemplateError::BeginsNothing(at) => ("no beginning", at),
+        TemplateError::NoOperator(at) => ("no operator", at),
+        TemplateError::NeedlessSeparator(at) => ("template separator", at),
+        TemplateError::Memory => ("memory", 0),
+    }
+}
+
+// Faults, with the number of the arm and the place: the place is among all trees for the form of an arm, and in a pattern or a template
+// for its own fault. A pattern's fault comes before that of the arrow after it.
+const FAULTS: [(&str, usize, &str, usize); 22] = [
     ("", 0, "no pattern", 0),
     (";", 0, "no pattern", 0),
     ("a", 0, "no pattern", 0),
@@ -346,6 +357,12 @@ const FAULTS: [(&str, usize, &str, usize); 16] = [
     ("() => {}; ($x:tt $x:tt) b", 1, "twice", 4),
     ("(a) => {}; ($x:exp) => {}", 1, "unknown", 0),
     ("($($x:tt)*) => {a $x} b", 0, "no semicolon", 14),
+    ("() => {$(a)} b", 0, "no operator", 1),
+    ("() => {}; () => {b $(a),}", 1, "no operator", 4),
+    ("() => {$(a), b}", 0, "no operator", 4),
+    ("() => {{$(a)[b]}}", 0, "no operator", 4),
+    ("($($x:tt)*) => {$($x),? $1}", 0, "template separator", 4),
+    ("() => {$[a]* $(b)}", 0, "no beginning", 1),
 ];
 
 // Returns whether the arms have that fault.

@@ -57,9 +57,9 @@ fn has_parts(alloc: Global, pattern: &str, template: &str, parts: &str) -> Optio
     Some(text.as_str() == parts)
 }
 
-// Uses, in repetitions and subtrees; names that are no variables, `$crate`, `$_`, a `$` before nothing and before itself; raw names;
-// repetitions without a tail, in other brackets, and with `$` as a separator, which two `$` are not.
-const PARTS: [(&str, &str, &str); 27] = [
+// Uses, in repetitions and subtrees; names that are no variables, `$crate`, `$_`, a `$` before nothing, and `$$`; raw names;
+// repetitions, also with `$` as a separator.
+const PARTS: [(&str, &str, &str); 25] = [
     ("", "", "} "),
     ("$x:tt", "$x", "$x } "),
     ("$x:tt", "$x;", "$x t } "),
@@ -72,7 +72,8 @@ const PARTS: [(&str, &str, &str); 27] = [
     ("$x:tt", "$_", "t t } "),
     ("$($_:tt)*", "$($_)*", "( $_ )* } "),
     ("$x:tt", "a $", "t t } "),
-    ("$x:tt", "$$x", "t $x } "),
+    ("$x:tt", "$$x", "t t } "),
+    ("$x:tt", "$$$x", "t $x } "),
     ("$r#x:tt", "$x", "$x } "),
     ("$x:tt", "$r#x", "$x } "),
     ("$x:tt $y:tt", "$y $x", "$y $x } "),
@@ -91,10 +92,7 @@ const PARTS: [(&str, &str, &str); 27] = [
         "$($($x $y)*)*",
         "( ( $x $y )* )* } ",
     ),
-    ("$x:tt", "$($x)", "t { $x } } "),
-    ("$x:tt", "$[$x]*", "t { $x } t } "),
     ("$($x:tt)*", "$($x)$*", "( $x ),* } "),
-    ("$x:tt", "$($x)$$*", "t { $x } t t t } "),
 ];
 
 fn are_parts(alloc: Global) -> bool {
