@@ -1,5 +1,5 @@
 -- The cuts of a text fit into it.
-use Rattle.std.proofs.Common.{◌≡◌, ◌≤◌, ◌+◌, ◌-◌, ◌++◌, ℕ, zero, suc, Bool, true, false, List, [], ◌∷◌, length, Option, None, Some, map, option_map, refl, ap, sym, subst, ◌∙◌, arith, cond, codes}
+use Rattle.std.proofs.Common.{◌≡◌, ◌<◌, ◌≤◌, ◌+◌, ◌-◌, ◌++◌, ℕ, zero, suc, Bool, true, false, List, [], ◌∷◌, length, Option, None, Some, map, option_map, refl, ap, sym, subst, ◌∙◌, arith, cond, codes}
 use Rattle.std.proofs.lemmas.List.{append_assoc}
 use Rattle.std.specs.Prelude.{◌||◌, ◌==◌}
 use Rattle.std.specs.Str.{IsCharBoundary, IsUtf8}
@@ -15,18 +15,20 @@ use Rattle.tt.specs.Types.Leaf.TheVariants as leaf_of
 use Rattle.tt.specs.Types.Span.{Span}
 use Rattle.tt.specs.Types.SpanPart.{SpanPart}
 use Rattle.expand_unused.specs.declared.choice.Choice.{Choice}
-use Rattle.expand_unused.specs.Parts.{Part, word, rules, leaf_words, last_span, exported_words, first_at, first_in, first_parts, if_may_go, may_go, parts_in, parts_of, passed_by, rules_from}
+use Rattle.expand_unused.specs.Parts.{Part, word, rules, leaf_words, last_span, exported_words, first_at, first_in, first_parts, if_may_go, may_go, parts_in, passed_by, rules_from}
 use Rattle.syntax_edit.specs.Places.{begin_at}
-use Rattle.expand_unused.specs.Without.{cut_of, cuts}
-use Rattle.syntax_edit.specs.Laid.{Lies, Laid, byte_behind, lies_leaf, lies_node}
+use Rattle.expand_unused.specs.Without.{cut_of, cuts, AreParts}
+use Rattle.syntax_edit.specs.Laid.{Laid, byte_behind, lies_leaf, lies_node}
 use Rattle.syntax_edit.specs.Texts.{begun, FitAll}
 use Rattle.syntax_edit.proofs.Following.{Follow, none, next, follow_from, follow_both, follow_fit}
 use Rattle.syntax_edit.proofs.LaidFacts.{laid_behind, laid_order, starts_before}
 use Rattle.syntax_edit.proofs.ParsedOrder.{parsed_laid}
 use Rattle.expand_items.specs.Attributes.{attributes_len}
 use Rattle.expand_items.specs.Items.{Definition, definition_from, definition_in, definition_len, defined_as, name_in}
-use Rattle.expand_items.specs.MacroRulesItems.{MacroRulesItem, behind_attributes}
+use Rattle.expand_items.specs.MacroRulesItems.{MacroRulesItem, behind_attributes, macro_rules_item_in}
+use Rattle.expand_items.proofs.Attributes.{attributes_fit}
 use Rattle.expand_items.proofs.ManyTrees.{after_both}
+use Rattle.mbe_pattern.proofs.Passing.{after_end}
 use Rattle.mbe_pattern.specs.Units.{is_at_word, is_brace, is_at_punct}
 use Rattle.syntax_parse.specs.Parsed.{IsParse}
 
@@ -70,22 +72,67 @@ definition_ends trees = by (is_at_word (codes "macro_rules") trees) (is_at_punct
     by true false name = tt
     by false b name = tt
 
--- The definition that comes first behind attributes, and may go, ends with its subtree, or with a `;` after it.
-first_ends : (choice : Choice) (trees : Forest) (it : MacroRulesItem) → first_in choice trees ≡ Some it → EndsWithSubtree (after_trees it.attributes trees) it.definition
-first_ends choice trees it is = by (definition_in (after_trees len trees)) (definition_ends (after_trees len trees)) is
+-- the definition behind the attributes that come first ends so
+record IsEnded (trees : Forest) (it : MacroRulesItem) : Type 0 where
+  attributes : it.attributes ≡ attributes_len trees
+  ends : EndsWithSubtree (after_trees it.attributes trees) it.definition
+
+item_ends : (trees : Forest) (it : MacroRulesItem) → macro_rules_item_in trees ≡ Some it → IsEnded trees it
+item_ends trees it is = by (definition_in (after_trees len trees)) (definition_ends (after_trees len trees)) is
   where
     len : ℕ
     len = attributes_len trees
 
+    by : (found : Option Definition) → EndsWith (after_trees len trees) found → option_map (behind_attributes len) found ≡ Some it → IsEnded trees it
+    by None there e = absurd (cc e)
+    by (Some d) there e = let same : behind_attributes len d ≡ it = cc e in subst (IsEnded trees) same (record { attributes = refl; ends = there })
+
+-- The definition that comes first behind attributes, and may go, ends with its subtree, or with a `;` after it.
+first_ends : (choice : Choice) (trees : Forest) (it : MacroRulesItem) → first_in choice trees ≡ Some it → EndsWithSubtree (after_trees it.attributes trees) it.definition
+first_ends choice trees it is = by (macro_rules_item_in trees) (item_ends trees) is
+  where
     kept : (item : MacroRulesItem) (may : Bool) → cond may (Some item) None ≡ Some it → item ≡ it
     kept item true e = cc e
     kept item false e = absurd (cc e)
 
-    by : (found : Option Definition) → EndsWith (after_trees len trees) found → if_may_go choice (option_map (behind_attributes len) found) ≡ Some it
+    by : (found : Option MacroRulesItem) → ((item : MacroRulesItem) → found ≡ Some item → IsEnded trees item) → if_may_go choice found ≡ Some it
         → EndsWithSubtree (after_trees it.attributes trees) it.definition
-    by None there e = absurd (cc e)
-    by (Some d) there e =
-        subst (λ i. EndsWithSubtree (after_trees i.attributes trees) i.definition) (kept (behind_attributes len d) (may_go choice.only d.name.sym) e) there
+    by None all e = absurd (cc e)
+    by (Some item) all e = (all it (ap Some (kept item (may_go choice.only item.definition.name.sym) e))).ends
+
+-- Behind so many trees so many tokens less are left, if any are.
+fewer_by : (n : ℕ) (trees : Forest) → 0 < size (after_trees n trees) → n + size (after_trees n trees) ≤ size trees
+fewer_by zero trees some = omega arith
+fewer_by (suc n) end some = absurd (omega (arith, some, ap size (after_end n)))
+fewer_by (suc n) (leaf it rest) some = omega (arith, fewer_by n rest some)
+fewer_by (suc n) (node delimiter children rest) some = omega (arith, fewer_by n rest some)
+
+-- A definition has no more trees than there are tokens.
+definition_fits : (trees : Forest) (it : Definition) → EndsWithSubtree trees it → it.len ≤ size trees
+definition_fits trees it ends = by (is_brace it.delimiter.kind) (is_at_punct (codes ";") ends.rest) ends.rest refl refl ends.len
+  where
+    held : ℕ
+    held = size it.arms
+
+    subtree : size (after_trees 3 trees) ≡ suc (held + size ends.rest)
+    subtree = ap size ends.shape
+
+    four : 4 + size ends.rest ≤ size trees
+    four = omega (arith, fewer_by 3 trees (omega (arith, subtree)), subtree)
+
+    by : (brace semicolon : Bool) (rest : Forest) → is_at_punct (codes ";") rest ≡ semicolon → rest ≡ ends.rest → it.len ≡ cond brace 4 (cond semicolon 5 4) → it.len ≤ size trees
+    by true semicolon rest there same len = omega (arith, len, four)
+    by false false rest there same len = omega (arith, len, four)
+    by false true end there same len = absurd (cc there)
+    by false true (node delimiter children rest) there same len = absurd (cc there)
+    by false true (leaf first rest) there same len = omega (arith, len, four, ap size same)
+
+-- With its attributes too.
+pub item_fits : (trees : Forest) (it : MacroRulesItem) → macro_rules_item_in trees ≡ Some it → it.attributes + it.definition.len ≤ size trees
+item_fits trees it is =
+    let ended = item_ends trees it is in
+    let behind : size (after_trees it.attributes trees) ≡ size (after_trees (attributes_len trees) trees) = ap (λ n. size (after_trees n trees)) ended.attributes in
+    omega (arith, ended.attributes, behind, attributes_fit trees, definition_fits (after_trees it.attributes trees) it.definition ended.ends)
 
 -- where a definition ends
 pub record EndsAt (text : List ℕ) (from : ℕ) (trees : Forest) (it : Definition) (to : ℕ) : Type 0 where
@@ -253,10 +300,11 @@ module _ (text : List ℕ) (choice : Choice) (defined : ℕ → Bool) (goes : Li
   parts_follow (leaf it rest) zero left from to laid = leaf_follow left from to it rest (parts_follow rest) laid
   parts_follow (node delimiter inside rest) zero left from to laid = node_follow left from to delimiter inside rest (parts_follow inside) (parts_follow rest) laid
 
--- The cuts of the trees of a text fit into it.
-pub cuts_fit : (choice : Choice) (defined : ℕ → Bool) (goes : List ℕ → Bool) (part : SpanPart) (text : List ℕ) (root : Root) → IsUtf8 text → IsParse part text root
-    → FitAll (cuts goes (parts_of choice defined root.children)) (begun text)
-cuts_fit choice defined goes part text root utf8 parse =
+-- The cuts of the parts of a text fit into it.
+pub cuts_fit : (choice : Choice) (goes : List ℕ → Bool) (part : SpanPart) (text : List ℕ) (root : Root) (parts : List Part) → IsUtf8 text → IsParse part text root
+    → AreParts choice root.children parts → FitAll (cuts goes parts) (begun text)
+cuts_fit choice goes part text root parts utf8 parse (defined, at, are) =
     let start : 0 ≤ 0 = omega arith in
-    follow_fit (begun text) refl start
-    (parts_follow text choice defined goes root.children 0 (size root.children) 0 (length text) (parsed_laid part text root utf8 parse))
+    subst (λ its. FitAll (cuts goes its) (begun text)) (sym are)
+    (follow_fit (begun text) refl start
+    (parts_follow text choice defined goes root.children 0 (size root.children) 0 (length text) (parsed_laid part text root utf8 parse)))

@@ -1,5 +1,5 @@
 -- A step that passes the first tree of a level.
-use Rattle.std.proofs.Common.{◌≡◌, ◌-◌, ◌<◌, ◌+◌, ◌++◌, ℕ, zero, suc, Bool, List, [], map, Option, None, Some, ap, ap₂, sym, subst, ◌∙◌, arith}
+use Rattle.std.proofs.Common.{◌≡◌, ◌-◌, ◌<◌, ◌+◌, ◌++◌, ℕ, zero, suc, Bool, List, map, None, Some, refl, ap, ap₂, sym, subst, ◌∙◌, arith}
 use Rattle.std.proofs.lemmas.List.{append_assoc, append-nil}
 use Rattle.tt.specs.Forest.{Forest, end, leaf, node, size}
 use Rattle.tt.specs.Iters.{rest_of, IsFirstElement}
@@ -12,8 +12,8 @@ use Rattle.expand_unused.specs.declared.choice.Choice.{Choice}
 use Rattle.expand_unused.specs.declared.part.Part as part_in_code
 use Rattle.expand_unused.specs.declared.walk.Level.{Level}
 use Rattle.expand_unused.specs.declared.walk.Step.TheVariants as step
-use Rattle.expand_unused.specs.Parts.{Part, first_at, first_parts, part_of, parts_in, passed_by}
-use Rattle.expand_unused.specs.Steps.{left_in, AreFirstNoted, IsBehind, IsInside, IsLeafPassed, IsStep, IsSubtreePassed}
+use Rattle.expand_unused.specs.Parts.{first_at, first_parts, part_of, parts_in, passed_by}
+use Rattle.expand_unused.specs.Steps.{left_in, AreFirstNoted, IsInside, IsLeafPassed, IsStep, IsSubtreePassed}
 
 module _ (choice : Choice) (defined : ℕ → Bool) (before after : List part_in_code.Part) (old new : Level) where
   -- The parts that are left at a leaf are those that it begins, and those behind it.
@@ -23,16 +23,19 @@ module _ (choice : Choice) (defined : ℕ → Bool) (before after : List part_in
       × (map part_of after ++ parts_in choice defined new.passed new.left (after_tree trees) ≡ map part_of before ++ parts_in choice defined passed old.left trees)
   leaf_left passed end it first is left noted = absurd first
   leaf_left passed (node delimiter children rest) it first is left noted = absurd first
-  leaf_left (suc passed) (leaf other rest) it first is left noted = (
-    omega arith,
-    ap₂ (λ parts n. parts ++ parts_in choice defined n new.left rest) noted.1 noted.0 ∙ ap (λ n. map part_of before ++ parts_in choice defined passed n rest) left,
-  )
+  leaf_left (suc passed) (leaf other rest) it first is left noted =
+      let those = noted.0 (omega arith) in
+      let next : new.passed ≡ passed = omega (arith, those.0) in (
+        omega arith,
+        ap₂ (λ parts n. parts ++ parts_in choice defined n new.left rest) those.1 next ∙ ap (λ n. map part_of before ++ parts_in choice defined passed n rest) left,
+      )
   leaf_left zero (leaf other rest) it first is left noted =
+      let those = noted.1 refl in
       let found = first_at choice (defined old.left) (leaf other rest) in
       let same : first_at choice (defined old.left) (rest_of old.rest) ≡ found = ap (first_at choice (defined old.left)) is in
       let parts : map part_of after ≡ map part_of before ++ first_parts choice found other (leaf other rest) =
-          noted.1 ∙ ap₂ (λ f t. map part_of before ++ first_parts choice f it t) same is ∙ ap (λ l. map part_of before ++ first_parts choice found l (leaf other rest)) first in
-      let next : new.passed ≡ passed_by found = noted.0 ∙ ap passed_by same in (
+      those.1 ∙ ap₂ (λ f t. map part_of before ++ first_parts choice f it t) same is ∙ ap (λ l. map part_of before ++ first_parts choice found l (leaf other rest)) first in
+      let next : new.passed ≡ passed_by found = those.0 ∙ ap passed_by same in (
         omega arith,
         ap₂ (λ these n. these ++ parts_in choice defined n new.left rest) parts next
             ∙ ap (λ n. (map part_of before ++ first_parts choice found other (leaf other rest)) ++ parts_in choice defined (passed_by found) n rest) left

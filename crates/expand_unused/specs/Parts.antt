@@ -1,5 +1,5 @@
 -- The parts of a text, as far as they matter to what is needed: words, and definitions that may go.
-use Rattle.std.specs.Prelude.{◌-◌, ◌+◌, ◌==◌, ◌++◌, ◌&&◌, not, ℕ, zero, suc, Bool, true, false, List, [], ◌∷◌, map, Option, None, Some, codes, bytes_eq, if◌then◌else◌}
+use Rattle.std.specs.Prelude.{◌-◌, ◌+◌, ◌==◌, ◌++◌, ◌&&◌, not, ℕ, zero, suc, Bool, true, List, [], ◌∷◌, map, Option, None, Some, codes, bytes_eq, if◌then◌else◌}
 use Rattle.tt.specs.Forest.{Forest, end, leaf, node, flat, size}
 use Rattle.tt.specs.Gluing.{after_trees}
 use Rattle.tt.specs.Span.{start_of, end_of}

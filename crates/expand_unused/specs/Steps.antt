@@ -39,10 +39,10 @@ IsBehind old new = rest_of new.rest ≡ after_tree (rest_of old.rest)
 
 -- what a leaf begins is noted, unless it is part of a definition; then so many trees behind it are
 abbrev pub AreFirstNoted : Choice → (is_defined : Bool) → Leaf → (passed : ℕ) → (old : Level) → (before : List part_in_code.Part) → (next : ℕ) → (after : List part_in_code.Part) → Type 0
-AreFirstNoted choice is_defined leaf (suc passed) old before next after = (next ≡ passed) × (map part_of after ≡ map part_of before)
-AreFirstNoted choice is_defined leaf zero old before next after =
-    (next ≡ passed_by (first_at choice is_defined (rest_of old.rest)))
-    × (map part_of after ≡ map part_of before ++ first_parts choice (first_at choice is_defined (rest_of old.rest)) leaf (rest_of old.rest))
+AreFirstNoted choice is_defined leaf passed old before next after =
+    (0 < passed → (next ≡ passed - 1) × (map part_of after ≡ map part_of before))
+    × (passed ≡ 0 → (next ≡ passed_by (first_at choice is_defined (rest_of old.rest)))
+    × (map part_of after ≡ map part_of before ++ first_parts choice (first_at choice is_defined (rest_of old.rest)) leaf (rest_of old.rest)))
 
 -- the first tree, a leaf, is passed
 pub record IsLeafPassed (choice : Choice) (defined : ℕ → Bool) (leaf : Leaf) (old : Level) (before : List part_in_code.Part) (new : Level) (after : List part_in_code.Part) : Type 0 where

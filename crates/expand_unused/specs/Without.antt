@@ -1,6 +1,6 @@
 -- A text without the definitions that it does not need.
 use Rattle.std.specs.Prelude.{◌≡◌, ℕ, Bool, List, [], ◌∷◌, if◌then◌else◌}
-use Rattle.tt.specs.Forest.{Root}
+use Rattle.tt.specs.Forest.{Forest, Root}
 use Rattle.expand_unused.specs.declared.choice.Choice.{Choice}
 use Rattle.expand_unused.specs.declared.fault.DropRulesError.{DropRulesError}
 use Rattle.expand_unused.specs.declared.fault.DropRulesError.TheVariants as error
@@ -27,16 +27,20 @@ abbrev pub cut_behind : (goes : List ℕ → Bool) → Part → Writing → Writ
 cut_behind goes (word it) writing = writing
 cut_behind goes (rules it) writing = if goes it.name then replaced (cut_of it) writing else writing
 
+-- these are the parts of trees: definitions are where Rust's grammar has them
+abbrev pub AreParts : Choice → Forest → List Part → Type 0
+AreParts choice trees parts = (defined : ℕ → Bool) × AreDefined trees defined × (parts ≡ parts_of choice defined trees)
+
 -- a text without the definitions that are not needed, of those that may go; all else stays, but for lines of which only white space is left
 pub record IsWithout (choice : Choice) (source result : List ℕ) : Type 0 where
   pub tree : Root
   pub read : IsParse text_part source tree
-  pub defined : ℕ → Bool
-  pub are_defined : AreDefined tree.children defined
+  pub parts : List Part
+  pub are_parts : AreParts choice tree.children parts
   pub goes : List ℕ → Bool
-  pub right : AreRight goes (parts_of choice defined tree.children)
-  pub fits : FitAll (cuts goes (parts_of choice defined tree.children)) (begun source)
-  pub text : result ≡ with_all (cuts goes (parts_of choice defined tree.children)) (begun source)
+  pub right : AreRight goes parts
+  pub fits : FitAll (cuts goes parts) (begun source)
+  pub text : result ≡ with_all (cuts goes parts) (begun source)
 
 -- why no text results: it is not read, or memory runs out
 abbrev pub IsDropRulesError : (text : List ℕ) → DropRulesError → Type 0

@@ -1,9 +1,9 @@
 //! The definition that comes first among trees, if it may go.
-ghost use Rattle.std.specs.Prelude.{◌≡◌, IfOk, option_map};
+ghost use Rattle.std.specs.Prelude.{◌≡◌, ◌+◌, ◌<◌, ◌^◌, IfOk, IfSome, option_map};
 ghost use Rattle.tt.specs.Iters.{rest_of};
 ghost use Rattle.expand_items.specs.Items.{definition_of};
 ghost use Rattle.expand_items.specs.MacroRulesItems.{macro_rules_item_of};
-ghost use Rattle.expand_unused.specs.Parts.{first_in, last_span, may_go, rules_from, rules_of};
+ghost use Rattle.expand_unused.specs.Parts.{first_at, last_span, may_go, rules_from, rules_of};
 
 use crate::choice::Choice;
 use crate::part::Rules;
@@ -27,10 +27,18 @@ fn may_go(only: &Option<Symbol>, name: &Symbol) -> bool
     }
 }
 
-/// Returns the definition that comes first, with the attributes before it, if it may go.
-pub(crate) fn first_in<'a>(trees: TtIter<'a>, choice: &Choice) -> Option<MacroRulesItem<'a>>
-    ensures { option_map macro_rules_item_of result ≡ first_in choice.now (rest_of trees.entry) }
+/// Returns the definition that comes first, with the attributes before it, if one is there and may go.
+pub(crate) fn first_at<'a>(
+    trees: TtIter<'a>,
+    choice: &Choice,
+    is_defined: bool,
+) -> Option<MacroRulesItem<'a>>
+    ensures first { option_map macro_rules_item_of result ≡ first_at choice.now is_defined (rest_of trees.entry) }
+    ensures fits { IfSome result (λ it. it.attributes + it.definition.len < 2 ^ 64) }
 {
+    if !is_defined {
+        return None;
+    }
     let item = macro_rules_item_in(trees)?;
     if may_go(&choice.only, &item.definition.name.sym) {
         Some(item)

@@ -1,16 +1,19 @@
 //! A text without the macros that it defines but does not need.
-ghost use Rattle.std.specs.Prelude.{◌≡◌, option_map, IfOk, IfErr, string_bytes};
-ghost use Rattle.expand_unused.specs.Without.{IsWithout, IsDropRulesError};
+ghost use Rattle.std.specs.Prelude.{◌≡◌, map, option_map, IfOk, IfErr, string_bytes};
+ghost use Rattle.tt.specs.Views.{trees_of};
+ghost use Rattle.expand_unused.specs.Parts.{part_of};
+ghost use Rattle.expand_unused.specs.Without.{AreParts, IsWithout, IsDropRulesError};
 
 use crate::choice::Choice;
 use crate::cutting::without;
 use crate::fault::DropRulesError;
 use crate::needing::unneeded;
+use crate::part::Part;
 use crate::places::places_in;
 use crate::walk::parts_in;
 use std::alloc::{AllocError, Global};
 use syntax_edit::parse;
-use tt::Symbol;
+use tt::{Symbol, TokenTreesView};
 
 // Returns the name, if there is one.
 fn name_of(alloc: Global, only: Option<&str>) -> Result<Option<Symbol>, AllocError>
@@ -23,6 +26,18 @@ fn name_of(alloc: Global, only: Option<&str>) -> Result<Option<Symbol>, AllocErr
         Ok(name) => Ok(Some(name)),
         Err(_) => Err(AllocError),
     }
+}
+
+// Returns the parts of trees.
+fn all_parts(
+    alloc: Global,
+    trees: TokenTreesView<'_>,
+    choice: &Choice,
+) -> Result<Vec<Part>, AllocError>
+    ensures { IfOk result (λ parts. AreParts choice.now (trees_of trees.entry) (map part_of parts.items)) }
+{
+    let defined = places_in(alloc, trees)?;
+    parts_in(alloc, trees, choice, &defined)
 }
 
 /// Returns the text without the definitions of macros whose names are not needed, and without the attributes right before them. If a name
@@ -44,9 +59,7 @@ pub fn without_rules(
         only: name_of(alloc, only)?,
         drops_exported,
     };
-    let trees = tree.token_trees();
-    let defined = places_in(alloc, trees)?;
-    let parts = parts_in(alloc, trees, &choice, &defined)?;
+    let parts = all_parts(alloc, tree.token_trees(), &choice)?;
     let unneeded = unneeded(alloc, parts.as_slice())?;
     Ok(without(alloc, text, parts.as_slice(), &unneeded)?)
 }

@@ -5,10 +5,10 @@ ghost use Rattle.tt.specs.Views.{trees_of};
 ghost use Rattle.expand_items.specs.MacroRulesItems.{macro_rules_item_of};
 ghost use Rattle.expand_unused.specs.Parts.{exported_words, first_at, first_parts, leaf_words, part_of, parts_of, passed_by, word};
 ghost use Rattle.expand_unused.specs.Places.{defined_in};
-ghost use Rattle.expand_unused.specs.Steps.{IsLeafPassed, IsStep, IsSubtreePassed};
+ghost use Rattle.expand_unused.specs.Steps.{AreFirstNoted, IsLeafPassed, IsStep, IsSubtreePassed};
 
 use crate::choice::Choice;
-use crate::first::{first_in, rules_from};
+use crate::first::{first_at, rules_from};
 use crate::part::Part;
 use crate::words::leaf_word;
 use expand_items::{MacroRulesItem, has_attribute};
@@ -75,19 +75,11 @@ fn note_first(
     ensures parts { OnOk result (map part_of parts.new.items ≡ map part_of parts.old.items ++ first_parts choice.now (first_at choice.now is_defined (rest_of trees.entry)) leaf (rest_of trees.entry)) }
     ensures passed { IfOk result (λ passed. passed ≡ passed_by (first_at choice.now is_defined (rest_of trees.entry))) }
 {
-    let item = if is_defined {
-        first_in(trees.remaining().iter(), choice)
-    } else {
-        None
-    };
-    let Some(item) = item else {
+    let Some(item) = first_at(trees.remaining().iter(), choice, is_defined) else {
         note_leaf(parts, leaf)?;
         return Ok(0);
     };
-    let passed = item
-        .attributes
-        .saturating_add(item.definition.len)
-        .saturating_sub(1);
+    let passed = (item.attributes + item.definition.len).saturating_sub(1);
     note_exported(parts, choice, &item, trees.remaining().iter())?;
     let rules = rules_from(alloc, item, &leaf, trees)?;
     parts.push(Part::Rules(rules))?;
@@ -95,6 +87,25 @@ fn note_first(
 }
 
 impl<'a> Level<'a> {
+    // Notes what begins with the first tree, a leaf, unless it is part of a definition. Returns the number of trees behind the leaf that are
+    // part of one.
+    fn note(
+        &self,
+        alloc: Global,
+        parts: &mut Vec<Part>,
+        choice: &Choice,
+        is_defined: bool,
+        leaf: Leaf,
+    ) -> Result<usize, AllocError>
+        ensures { IfOk result (λ passed. AreFirstNoted choice.now is_defined leaf self.now.passed self.now parts.old.items passed parts.new.items) }
+    {
+        if self.passed > 0 {
+            return Ok(self.passed - 1);
+        }
+        let trees = self.rest.remaining().iter();
+        note_first(alloc, parts, choice, is_defined, leaf, trees)
+    }
+
     // Passes the first tree, a leaf, and notes what begins with it.
     fn pass_leaf(
         &mut self,
@@ -106,13 +117,8 @@ impl<'a> Level<'a> {
     ) -> Result<(), AllocError>
         ensures { OnOk result (IsLeafPassed choice.now (defined_in defined.now) leaf self.old parts.old.items self.new parts.new.items) }
     {
-        if self.passed > 0 {
-            self.passed -= 1;
-        } else {
-            let trees = self.rest.remaining().iter();
-            let is_defined = defined.contains(&self.left);
-            self.passed = note_first(alloc, parts, choice, is_defined, leaf, trees)?;
-        }
+        let is_defined = defined.contains(&self.left);
+        self.passed = self.note(alloc, parts, choice, is_defined, leaf)?;
         self.left = self.left.saturating_sub(1);
         self.rest.next();
         Ok(())
