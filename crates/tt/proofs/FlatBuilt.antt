@@ -1,22 +1,12 @@
 -- If no subtree is open, the list is that of the tree, except for the top's count.
-use Rattle.std.proofs.Common.{◌≡◌, ℕ, ◌-◌, ◌<◌, ◌≤◌, List, [], ◌∷◌, length, set, get_or, refl, ap, ◌∙◌, arith}
+use Rattle.std.proofs.Common.{◌≡◌, ℕ, ◌-◌, ◌≤◌, List, ◌∷◌, drop, length, refl, ap, sym, ◌∙◌, arith}
 use Rattle.tt_base.specs.Building.{Stack, above, bottom, lowest, IsAbove}
-use Rattle.tt_base.specs.Forest.{flat, flat_root, header, size}
+use Rattle.tt_base.specs.Forest.{IsWhole, flat, flat_root, header, size}
 use Rattle.tt_base.specs.Unflat.{length-flat}
 use Rattle.tt_base.specs.declared.delimiter.Delimiter.{Delimiter}
 use Rattle.tt_base.specs.declared.token_tree.TokenTree.{TokenTree}
-use Rattle.tt.specs.FlatFields.{AreFieldsOf, counted, counted_token, written}
+use Rattle.tt.specs.FlatFields.{AreFieldsOf, counted, written}
 use Rattle.tt.specs.FlatHeld.{Held, IsOpen, built}
-use Rattle.tt.specs.OneFlatHeld.{length-written}
-
--- the list has at least the top
-pub some_token : (tokens : List TokenTree) (headers : List ℕ) (held : Held) → AreFieldsOf tokens headers held → 0 < length tokens
-some_token tokens headers held is = omega (arith, ap length is.list, length-written held.top held.stack)
-
--- the first header gets its count
-pub counted_first : (tokens : List TokenTree) (n : ℕ) (d : TokenTree) → 0 < length tokens → set tokens 0 (counted_token n (get_or tokens 0 d)) ≡ counted n tokens
-counted_first [] n d some = absurd (omega (arith, some))
-counted_first (t ∷ tokens) n d some = refl
 
 -- the list, if no subtree is open
 all_written : (top : Delimiter) (stack : Stack) → (IsAbove stack → ⊥) → written top stack ≡ header top 0 ∷ flat (bottom stack)
@@ -27,6 +17,14 @@ module _ (tokens : List TokenTree) (headers : List ℕ) (held : Held) (is : AreF
   -- the list of the fields
   lowest_list : tokens ≡ header held.top 0 ∷ flat (bottom held.stack)
   lowest_list = is.list ∙ all_written held.top held.stack none
+
+  -- the first token is the top's header
+  pub has_top : tokens ≡ header held.top 0 ∷ drop 1 tokens
+  has_top = lowest_list ∙ ap (λ l. header held.top 0 ∷ drop 1 l) (sym lowest_list)
+
+  -- the tokens below the top are those of whole trees
+  pub is_whole : IsWhole (drop 1 tokens)
+  is_whole = (bottom held.stack, ap (drop 1) lowest_list)
 
   -- the trees are few enough for a header to count
   pub few_below : size (bottom held.stack) ≤ 4294967295

@@ -8,7 +8,8 @@ use Rattle.tt_base.specs.Unflat.{length-flat}
 use Rattle.tt_base.specs.declared.span.Span.{Span}
 use Rattle.tt_base.specs.declared.token_tree.TokenTree.{TokenTree}
 use Rattle.tt.proofs.FlatGrowing.{places-append, written-append}
-use Rattle.tt.specs.FlatFields.{AreFieldsOf, closed_token, open_header, places, written}
+use Rattle.tt.specs.FlatFields.{AreFieldsOf, open_header, places, written}
+use Rattle.tt_tables.specs.SmallHeld.{closed_token}
 use Rattle.tt.specs.FlatHeld.{Held, IsOpen, closed}
 use Rattle.tt.specs.OneFlatHeld.{last_alike, length-written}
 

@@ -1,5 +1,5 @@
 -- What a flat builder holds after its list grows at the end.
-use Rattle.std.proofs.Common.{◌≡◌, ℕ, suc, ◌+◌, ◌<◌, ◌≤◌, List, [], ◌∷◌, ◌++◌, length, refl, ap, ap₂, sym, ◌∙◌, subst, arith, append_assoc}
+use Rattle.std.proofs.Common.{◌≡◌, ℕ, suc, ◌+◌, ◌<◌, ◌≤◌, List, [], ◌∷◌, ◌++◌, length, Result, Ok, Err, OnOk, OnErr, refl, ap, ap₂, sym, ◌∙◌, subst, arith, append_assoc, length-append}
 use Rattle.tt_base.specs.Building.{Stack, above, append, lowest, tokens_held}
 use Rattle.tt_base.specs.Forest.{Forest, end, flat, header, leaf}
 use Rattle.tt_base.specs.Unflat.{flat-join}
@@ -8,7 +8,7 @@ use Rattle.tt_base.specs.declared.delimiter.DelimiterKind.{DelimiterKind}
 use Rattle.tt_base.specs.declared.leaf.Leaf.{Leaf}
 use Rattle.tt_base.specs.declared.span.Span.{Span}
 use Rattle.tt_base.specs.declared.token_tree.TokenTree.{TokenTree}
-use Rattle.tt.specs.FlatFields.{AreFieldsOf, open_header, places, written}
+use Rattle.tt.specs.FlatFields.{AreFieldsOf, HasHeld, open_header, places, written}
 use Rattle.tt.specs.FlatHeld.{Held, none_held, opened, pushed}
 use Rattle.tt.specs.OneFlatHeld.{length-written}
 
@@ -33,6 +33,18 @@ pushed_fields tokens now headers held it is grown few = record {
   open_places = is.open_places ∙ sym (places-append held.stack (leaf it end));
 }
 
+-- the same fields, in vectors with other room
+pub same_fields : (tokens now : List TokenTree) (headers places_now : List ℕ) (held : Held) → AreFieldsOf tokens headers held → now ≡ tokens → places_now ≡ headers → AreFieldsOf now places_now held
+same_fields tokens now headers places_now held is list places_same =
+    subst (λ h. AreFieldsOf now h held) (sym places_same) (subst (λ l. AreFieldsOf l headers held) (sym list) is)
+
+-- a leaf is appended, or nothing changes
+pub grown_fields : {T E : Type 0} (r : Result T E) (tokens now : List TokenTree) (headers : List ℕ) (held : Held) (it : Leaf) → AreFieldsOf tokens headers held → length tokens ≤ 4294967295
+    → OnOk r (now ≡ tokens ++ flat (leaf it end)) → OnErr r (now ≡ tokens) → HasHeld now headers
+grown_fields (Ok _) tokens now headers held it is room grown same =
+    (pushed it held, pushed_fields tokens now headers held it is grown (omega (arith, room, ap length grown, length-append tokens (flat (leaf it end)))))
+grown_fields (Err _) tokens now headers held it is room grown same = (held, same_fields tokens now headers headers held is same refl)
+
 -- a subtree is opened
 pub opened_fields : (tokens now : List TokenTree) (headers places_now : List ℕ) (held : Held) (kind : DelimiterKind) (open_span : Span) (place : ℕ)
     → AreFieldsOf tokens headers held → now ≡ tokens ++ open_header kind open_span ∷ [] → length now ≤ 4294967296 → place ≡ length tokens → places_now ≡ headers ++ place ∷ []
@@ -43,11 +55,6 @@ opened_fields tokens now headers places_now held kind open_span place is grown f
       few = few;
       open_places = added ∙ ap₂ (λ l n. l ++ n ∷ []) is.open_places (here ∙ count);
     }
-
--- the same fields, in vectors with other room
-pub same_fields : (tokens now : List TokenTree) (headers places_now : List ℕ) (held : Held) → AreFieldsOf tokens headers held → now ≡ tokens → places_now ≡ headers → AreFieldsOf now places_now held
-same_fields tokens now headers places_now held is list places_same =
-    subst (λ h. AreFieldsOf now h held) (sym places_same) (subst (λ l. AreFieldsOf l headers held) (sym list) is)
 
 -- only the top is held
 pub new_fields : (top : Delimiter) (tokens : List TokenTree) (headers : List ℕ) → tokens ≡ header top 0 ∷ [] → headers ≡ [] → AreFieldsOf tokens headers (none_held top)

@@ -3,6 +3,10 @@ pub mod Building
 pub mod Closing
 pub mod Filters
 pub mod Finding
+pub mod FlatBuilt
+pub mod FlatClosing
+pub mod FlatGrowing
+pub mod FlatLists
 pub mod Growing
 pub mod HeldList
 pub mod NamedKinds
@@ -17,6 +21,3 @@ pub mod Taking
 pub mod TextsLeft
 pub mod WorkStands
 pub mod Working
-pub mod FlatGrowing
-pub mod FlatClosing
-pub mod FlatBuilt

@@ -24,11 +24,6 @@ abbrev pub places : Stack → List ℕ
 places (lowest trees) = []
 places (above outer kind open_span trees) = places outer ++ suc (tokens_held outer) ∷ []
 
--- a header with its count and its close span; a leaf stays
-abbrev pub closed_token : Span → ℕ → TokenTree → TokenTree
-closed_token close_span len (token.Leaf it) = token.Leaf it
-closed_token close_span len (token.Subtree s) = header (delimiter s.delimiter.kind s.delimiter.open_span close_span) len
-
 -- a header with another count; a leaf stays
 abbrev pub counted_token : ℕ → TokenTree → TokenTree
 counted_token len (token.Leaf it) = token.Leaf it

@@ -4,6 +4,7 @@
 pub mod buffer;
 mod builder;
 mod flat_builder;
+mod flat_list;
 pub mod iter;
 mod printer;
 mod transform;

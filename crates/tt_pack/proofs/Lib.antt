@@ -26,3 +26,4 @@ mod TurnRows
 pub mod UsedParts
 pub mod UsesGrow
 pub mod Writing
+pub mod SmallFacts

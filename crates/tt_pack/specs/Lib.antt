@@ -10,6 +10,7 @@ pub mod Packed
 pub mod Places
 pub mod ReaderOf
 pub mod Room
+pub mod SmallTables
 pub mod StoredIn
 pub mod TablesOf
 pub mod TokenAt

@@ -12,6 +12,7 @@ mod pack;
 mod packed;
 mod reader;
 mod room;
+mod small;
 mod table;
 mod tables;
 mod token_kind;

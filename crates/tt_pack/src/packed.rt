@@ -22,6 +22,7 @@ ghost use Rattle.tt_base.specs.Equality.{same_token-equivalence, same_root};
 
 mod ids;
 mod interned;
+mod small;
 mod top;
 
 use crate::counted::FirstRoom;

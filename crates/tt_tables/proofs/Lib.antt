@@ -46,3 +46,7 @@ pub mod Using
 pub mod Interned
 pub mod Places
 pub mod UseCounts
+-- Laws of tokens in twelve bytes.
+pub mod SmallClosing
+pub mod SmallHeld
+pub mod SmallRead

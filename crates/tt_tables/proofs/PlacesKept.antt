@@ -35,7 +35,8 @@ span_stays : (tables now : Tables) (numbers : SpanNumbers) (span : Span) (used :
 span_stays tables now numbers span used member keep found =
     record { part = keep numbers.part (part_of span) member found.part; start = found.start; length = found.length }
 
-leaf_stays : (tables now : Tables) (entry : LeafEntry) (it : Leaf) → Keep tables.parts now.parts (part_of (leaf_span it) ∷ []) → Keep tables.symbols now.symbols (leaf_symbols it)
+-- A leaf whose values keep their places keeps its meaning.
+pub leaf_stays : (tables now : Tables) (entry : LeafEntry) (it : Leaf) → Keep tables.parts now.parts (part_of (leaf_span it) ∷ []) → Keep tables.symbols now.symbols (leaf_symbols it)
     → FindsLeaf tables entry it → FindsLeaf now entry it
 leaf_stays tables now (punct char spacing numbers) (leaf.Punct it) parts symbols found =
     (span_stays tables now numbers it.span (part_of it.span ∷ []) (inl refl) parts found.0, found.1, found.2)

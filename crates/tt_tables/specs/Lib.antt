@@ -28,3 +28,8 @@ pub mod OneToken
 -- Different values at places, and their numbers of uses.
 pub mod Entries
 pub mod Interner
+-- Tokens in twelve bytes.
+pub mod OnePart
+pub mod OneSmall
+pub mod SmallHeld
+pub mod SmallMeaning

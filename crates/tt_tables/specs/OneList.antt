@@ -51,7 +51,7 @@ leaf_range-prop (leaf.Ident it) = hlevel props
 finds_subtree-prop : (tables : Tables) (entry : HeaderEntry) (it : Subtree) → IsProp (FindsSubtree tables entry it)
 finds_subtree-prop tables entry it = hlevel props
 
-names-prop : (tables : Tables) (it : InternedToken) (held : HeldToken) → IsProp (Names tables it held)
+pub names-prop : (tables : Tables) (it : InternedToken) (held : HeldToken) → IsProp (Names tables it held)
 names-prop tables (interned.Leaf entry) (whole (token.Leaf it)) = ×_prop (finds_leaf-prop tables entry it) (leaf_range-prop it)
 names-prop tables (interned.Leaf entry) (whole (token.Subtree it)) = λ x y. absurd x
 names-prop tables (interned.Leaf entry) (opened kind open_span) = λ x y. absurd x
@@ -79,7 +79,7 @@ span_alike : (tables : Tables) (numbers : SpanNumbers) (a b : Span) → FindsSpa
 span_alike tables numbers a b x y =
     span_from a b (some_alike _ _ (slice_get tables.parts numbers.part) x.part y.part) (sym x.start ∙ y.start) (sym x.length ∙ y.length)
 
-leaf_alike : (tables : Tables) (entry : LeafEntry) (a b : Leaf) → FindsLeaf tables entry a → FindsLeaf tables entry b → a ≡ b
+pub leaf_alike : (tables : Tables) (entry : LeafEntry) (a b : Leaf) → FindsLeaf tables entry a → FindsLeaf tables entry b → a ≡ b
 leaf_alike tables (punct char spacing numbers) (leaf.Punct a) (leaf.Punct b) x y =
     let span : a.span ≡ b.span = span_alike tables numbers a.span b.span x.0 y.0 in
     let chars : a.char ≡ b.char = sym x.1 ∙ y.1 in

@@ -10,6 +10,9 @@ mod counted;
 mod interner;
 mod node;
 mod numbers;
+mod small;
+mod small_read;
+mod small_tokens;
 mod tables;
 mod tables_read;
 mod token;
@@ -18,6 +21,7 @@ mod uncount;
 
 pub use counted::CountedTokens;
 pub use interner::Interner;
+pub use small_tokens::SmallTokens;
 pub use tables::Tables;
 pub use token::InternedToken;
 pub use tokens::InternedTokens;

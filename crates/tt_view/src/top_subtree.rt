@@ -35,7 +35,7 @@ use tt_base::{
     DelimSpan, Delimiter, Leaf, Refused, Span, SpanPart, Subtree, Symbol, TokenTree, TtFault,
 };
 use tt_pack::Packed;
-use tt_tables::CountedTokens;
+use tt_tables::{CountedTokens, SmallTokens};
 
 /// A token tree: a delimiter and the trees inside. A contract sees the tree. Memory has it as bytes and two tables, which are a function
 /// of the tree (docs/FORMATS.md).
@@ -143,6 +143,25 @@ impl TopSubtree {
         ensures err { IfErr result (IsPackFault (header top (length (list_of below.entry)) ∷ list_of below.entry)) }
     {
         let packed = Packed::of_interned(alloc, top, below)?;
+        Ok(TopSubtree { packed })
+    }
+
+    /// Returns the tree of tokens in little memory, under a top of that delimiter. Fails as `from_serialized` does for the flat list of
+    /// that tree.
+    pub fn from_small(
+        alloc: Global,
+        top: Delimiter,
+        below: SmallTokens,
+    ) -> Result<TopSubtree, TtFault>
+        requires whole { IsWhole below }
+        requires few { length below < 2 ^ 32 }
+        requires some { 0 < length below }
+        ensures ok { IfOk result (λ tree. header top (length below) ∷ below ≡ flat_root tree) }
+        ensures counts { IfOk result (λ tree. size tree.children ≤ most_tokens) }
+        ensures limits { IfOk result (λ tree. IsWithinLimits tree) }
+        ensures err { IfErr result (IsPackFault (header top (length below) ∷ below)) }
+    {
+        let packed = Packed::of_small(alloc, top, below)?;
         Ok(TopSubtree { packed })
     }
 

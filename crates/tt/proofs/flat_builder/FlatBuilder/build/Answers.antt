@@ -1,28 +1,31 @@
-use Rattle.std.proofs.Common.{◌≡◌, sym, ◌∙◌}
-use Rattle.tt_base.specs.Forest.{flat_root, header}
+use Rattle.std.proofs.Common.{◌≡◌, ◌-◌, length, sym, ◌∙◌}
+use Rattle.std.proofs.lemmas.Result.{IfErr-weaker, IfOk-weaker}
+use Rattle.tt_base.specs.Forest.{flat_root}
 use Rattle.tt_base.specs.Unflat.{flat_root-injective}
-use Rattle.tt.proofs.FlatBuilt.{built_list, counted_first, few_below, some_token}
+use Rattle.tt.proofs.FlatBuilt.{built_list, few_below, has_top, is_whole}
 use Rattle.tt.proofs.flat_builder.FlatBuilder.build.Goals as goal
+use Rattle.tt.specs.FlatFields.{counted}
 use Rattle.tt.specs.FlatHeld.{built}
 use Rattle.tt.specs.OneFlatHeld.{seen}
 use Rattle.tt_view.proofs.TreeFaults.{tree_fault}
+use Rattle.tt_view.specs.PackFault.{IsPackFault}
+use Rattle.tt_view.specs.TreeFault.{IsTreeFault}
 
-pub count_below-requires-clause-some : goal.count_below-requires-clause-some
-count_below-requires-clause-some c = some_token _ _ _ (seen _ _ c.self.inside.state _ c.self.view_is)
+pub build-requires-clause-top : goal.build-requires-clause-top
+build-requires-clause-top c = (c.args.self.top, has_top _ _ _ (seen _ _ c.self.inside.state _ c.self.view_is) c.requires)
 
-pub count_below-requires-clause-few : goal.count_below-requires-clause-few
-count_below-requires-clause-few c = (seen _ _ c.self.inside.state _ c.self.view_is).few
+pub build-requires-clause-whole : goal.build-requires-clause-whole
+build-requires-clause-whole c = is_whole _ _ _ (seen _ _ c.self.inside.state _ c.self.view_is) c.requires
 
-pub returns-in-Ok-clause-ok : goal.returns-in-Ok-clause-ok
-returns-in-Ok-clause-ok c =
+pub returns-clause-ok : goal.returns-clause-ok
+returns-clause-ok c =
     let is = seen _ _ c.self.inside.state _ c.self.view_is in
-    let d = header c.args.self.top 0 in
-    let list : c.count_below.new.tokens.items ≡ flat_root (built c.args.self) = c.count_below.ensures d ∙ counted_first _ _ d (some_token _ _ _ is) ∙ built_list _ _ _ is c.requires in
-    flat_root-injective c.in-Ok.tree (built c.args.self) (sym c.in-Ok.ensures.ok ∙ list)
+    IfOk-weaker c.build.result (λ tree. counted (length c.self.inside.tokens - 1) c.self.inside.tokens ≡ flat_root tree) (λ tree. tree ≡ built c.args.self)
+    (λ tree list. flat_root-injective tree (built c.args.self) (sym list ∙ built_list _ _ _ is c.requires)) c.build.ensures.ok
 
 pub returns-clause-fault : goal.returns-clause-fault
 returns-clause-fault c =
     let is = seen _ _ c.self.inside.state _ c.self.view_is in
-    let d = header c.args.self.top 0 in
-    let list : c.count_below.new.tokens.items ≡ flat_root (built c.args.self) = c.count_below.ensures d ∙ counted_first _ _ d (some_token _ _ _ is) ∙ built_list _ _ _ is c.requires in
-    tree_fault (built c.args.self) c.count_below.new.tokens.items list (few_below _ _ _ is c.requires) _ c.in-Err.ensures.fault
+    let list = counted (length c.self.inside.tokens - 1) c.self.inside.tokens in
+    IfErr-weaker c.build.result (IsPackFault list) (IsTreeFault (built c.args.self))
+    (λ fault cause. tree_fault (built c.args.self) list (built_list _ _ _ is c.requires) (few_below _ _ _ is c.requires) fault cause) c.build.ensures.err
