@@ -158,7 +158,7 @@ fn first_delimiter(tokens: &[TokenTree]) -> Delimiter
 }
 
 impl FlatList {
-    /// Returns the list of a top's header, with room for `tokens` tokens below it. Fails only if memory runs out.
+    /// Returns the list of a top's header, with room for `tokens` tokens below it, or for as many as stay whole. Fails only if memory runs out.
     pub(crate) fn with_capacity(
         alloc: Global,
         top: Delimiter,
@@ -166,7 +166,7 @@ impl FlatList {
     ) -> Result<FlatList, AllocError>
         ensures { IfOk result (λ list. list ≡ header top 0 ∷ []) }
     {
-        let mut whole = Vec::with_capacity(alloc, tokens)?;
+        let mut whole = Vec::with_capacity(alloc, tokens.min(MOST_WHOLE))?;
         whole.push(TokenTree::Subtree(Subtree {
             delimiter: top,
             len: 0,
