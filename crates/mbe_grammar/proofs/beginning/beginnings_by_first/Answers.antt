@@ -16,7 +16,7 @@ returns-in-Some c =
     let within : at < length names = search rules in
     let next : drop at names ≡ name ∷ drop (at + 1) names = drop_more names at 0 within in
     let read : AreBeginnings c.rust_table.result.rules.now name wanted trees (Some found) =
-        subst (λ o. AreBeginnings c.rust_table.result.rules.now name wanted trees (option_map (λ it. map beginning_of it.items) o)) c.in-Some.is c.in_ok-found.ensures in
+    subst (λ o. AreBeginnings c.rust_table.result.rules.now name wanted trees (option_map (λ it. map beginning_of it.items) o)) c.in-Some.is c.in_ok-found.ensures in
     let are : AreBeginnings rust_rules name wanted trees (Some found) = subst (λ r. AreBeginnings r name wanted trees (Some found)) c.rust_table.ensures read in
     c.loop-name.invariant found (subst (λ l. AreFirstBeginnings l wanted trees found) (sym next) (inl are))
 
@@ -30,6 +30,6 @@ loop-name-preserved c =
     let within : at < length names = search rules in
     let next : drop at names ≡ name ∷ drop (at + 1) names = drop_more names at 0 within in
     let read : AreBeginnings c.rust_table.result.rules.now name wanted trees None =
-        subst (λ o. AreBeginnings c.rust_table.result.rules.now name wanted trees (option_map (λ it. map beginning_of it.items) o)) c.in_default.is c.in_ok-found.ensures in
+    subst (λ o. AreBeginnings c.rust_table.result.rules.now name wanted trees (option_map (λ it. map beginning_of it.items) o)) c.in_default.is c.in_ok-found.ensures in
     let none : AreBeginnings rust_rules name wanted trees None = subst (λ r. AreBeginnings r name wanted trees None) c.rust_table.ensures read in
     λ found are. c.loop-name.invariant found (subst (λ l. AreFirstBeginnings l wanted trees found) (sym next) (inr (none, are)))
