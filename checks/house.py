@@ -34,6 +34,7 @@ NOT_SWEPT = {
     "tt_base::Texts::symbol_of_bytes": "the console calls it",
     "tt_base::new_symbol": "symbol_of_bytes calls it",
     "tt_view::TopSubtree::from_interned": "build calls it",
+    "tt_view::TopSubtree::from_small": "FlatBuilder::build calls it",
     "tt_view::TopSubtree::from_interned_node": "build_skip_top_subtree calls it",
     "tt::FlatBuilder::with_capacity": "parse_to_token_tree calls it",
     "tt::FlatBuilder::open": "parse_to_token_tree calls it",

@@ -2,6 +2,8 @@
 #![tactic(auto)]
 
 #[cfg(test)]
+mod arm_faults;
+#[cfg(test)]
 mod captures;
 #[cfg(test)]
 mod fragments;
